@@ -83,7 +83,9 @@ module _ (books : Books) (ok : IsAccepted books) (blocks : BlockBook) (first las
 
   module _ (quarter : ℕ) (at : Place) (q : QuarterBlock) (low : first ≤ quarter) (high : quarter ≤ last) (is : Places quarter at) (there : IsThere books joint a priced quarter at) (cut : IsCutOut books joint a priced quarter at q) where
     bids-long : length q.bids ≡ length (bids_of books joint.bids quarter)
-    bids-long = as-many (λ (l : BidLine). l.id) q.bids _ cut.names.bids ∙ length-map (piece at.bids (length (bids_of books joint.bids quarter)) joint.bids) (name_at books.bids.ids) ∙ piece-length at.bids _ joint.bids there.bids
+    bids-long =
+        as-many (λ (l : BidLine). l.id) q.bids _ cut.names.bids ∙ length-map (piece at.bids (length (bids_of books joint.bids quarter)) joint.bids)
+        (name_at books.bids.ids) ∙ piece-length at.bids _ joint.bids there.bids
 
     demands-long : length q.demands ≡ demand_count books quarter
     demands-long = ap length cut.demands ∙ piece-length (length joint.bids + at.demands) (demand_count books quarter) a.mw (omega (arith, there.demands, shapes.mw))

@@ -50,7 +50,9 @@ blocks block_of = record { names = [] ∷ []; block_of = block_of }
 
 -- a bid of 20 MW or nothing in each of two quarters, and a plain one beside each
 abbrev pair : Books
-pair = books (up 1 3000 20 20 ∷ up 2 3000 20 20 ∷ up 1 5000 0 100 ∷ up 2 2000 0 100 ∷ []) (gated ∷ gated ∷ links [] ∷ links [] ∷ []) (scheduled 1 4000 ∷ scheduled 2 7000 ∷ []) (demand 1 40 ∷ demand 2 40 ∷ [])
+pair =
+    books (up 1 3000 20 20 ∷ up 2 3000 20 20 ∷ up 1 5000 0 100 ∷ up 2 2000 0 100 ∷ []) (gated ∷ gated ∷ links [] ∷ links [] ∷ [])
+    (scheduled 1 4000 ∷ scheduled 2 7000 ∷ []) (demand 1 40 ∷ demand 2 40 ∷ [])
 
 abbrev one_block : BlockBook
 one_block = blocks (Some 0 ∷ Some 0 ∷ None ∷ None ∷ [])

@@ -60,4 +60,6 @@ module _ (books : Books) (ok : IsAccepted books) (blocks : BlockBook) (first las
     numbers-in = All-filter stays (IsOffered books ok first last all) (offered books first last) (all-offered books ok first last all)
 
     pub numbers-there : All (IsInQuarters books first) (joint_numbers books blocks first last)
-    numbers-there = All-weaker (IsOffered books ok first last all) (IsInQuarters books first) (λ bid is. record { there = is.there; from_first = is.from_first }) (joint_numbers books blocks first last) numbers-in
+    numbers-there =
+        All-weaker (IsOffered books ok first last all) (IsInQuarters books first) (λ bid is. record { there = is.there; from_first = is.from_first })
+        (joint_numbers books blocks first last) numbers-in

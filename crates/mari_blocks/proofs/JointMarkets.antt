@@ -119,7 +119,9 @@ module _ (books : Books) (ok : IsAccepted books) (blocks : BlockBook) (first las
 
   -- the gates of parents stand before those of their children
   have : HaveParents (own_gate books blocks) (parent_at books.links.links) (parent-gate books ok blocks first last read) (own-number books ok blocks first last read) gates
-  have = all-have (own_gate books blocks) (parent_at books.links.links) (parent-gate books ok blocks first last read) (own-number books ok blocks first last read) (joint_numbers books blocks first last)
+  have =
+      all-have (own_gate books blocks) (parent_at books.links.links) (parent-gate books ok blocks first last read)
+      (own-number books ok blocks first last read) (joint_numbers books blocks first last)
       (numbers-follow books ok blocks first last read all)
 
   abbrev info : JointGate → GateInfo
@@ -142,7 +144,8 @@ module _ (books : Books) (ok : IsAccepted books) (blocks : BlockBook) (first las
       by : (o : Option ℕ) → parent_at books.links.links bid ≡ o → option_and_then (λ parent. gate_place gates (OfBid parent)) o ≡ Some h → h < g
       by None up f = absurd (none-some h f)
       by (Some parent) up f =
-          parent-before (own_gate books blocks) (parent_at books.links.links) (parent-gate books ok blocks first last read) (own-number books ok blocks first last read) gates g h bid parent no_gate have l is up f
+          parent-before (own_gate books blocks) (parent_at books.links.links) (parent-gate books ok blocks first last read)
+          (own-number books ok blocks first last read) gates g h bid parent no_gate have l is up f
 
   gate : (g : ℕ) → g < length (joint_market_of books blocks first last).gates → IsValidGate (joint_market_of books blocks first last) g
   gate g l =

@@ -119,4 +119,5 @@ module _ (books : Books) (blocks : BlockBook) (first last : ℕ) (joint : Joint)
     pub bids-there : IsBlockBook books.bids books.links first last blocks → All (λ number. number < length books.bids.bids) joint.bids
     bids-there read =
         let P : Joint → Type 0 = λ j. All (λ number. number < length books.bids.bids) j.bids in
-        subst P (sym made.same) (All-weaker (IsOffered books ok first last made.runs) (λ number. number < length books.bids.bids) (λ bid is. is.there) _ (numbers-in books ok blocks first last read made.runs))
+        subst P (sym made.same)
+        (All-weaker (IsOffered books ok first last made.runs) (λ number. number < length books.bids.bids) (λ bid is. is.there) _ (numbers-in books ok blocks first last read made.runs))

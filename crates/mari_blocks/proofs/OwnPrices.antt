@@ -106,7 +106,9 @@ module _ (m : Market) (a : Activation) (reference : ℕ → ℤ) (ps : List Cent
       let same_borders = AllZip-with (λ (b : Border). reference b.to ≡ reference b.from) (λ b f. (z : Zone) → BorderAt z b f) m.borders a.flow within borders in
       record {
         prices = record { one_each = own.one_each; capped = λ k d l. subst (λ (c : Cents). IsPrice c.0) (get_or_default ps k (record { 0 = pos 0 }) d l) (in-cap k (omega (arith, own.one_each))) };
-        orders = AllZip-both (λ o q. IsValidOrder m.zones (length m.gates) o × ((z : Zone) → OrderAt z o q)) (λ o q. IsValidOrder m.zones (length m.gates) o × ((z : Zone) → OrderAt z o q)) (IsConsistentOrder (is_open m a) ps)
+        orders =
+            AllZip-both (λ o q. IsValidOrder m.zones (length m.gates) o × ((z : Zone) → OrderAt z o q))
+            (λ o q. IsValidOrder m.zones (length m.gates) o × ((z : Zone) → OrderAt z o q)) (IsConsistentOrder (is_open m a) ps)
             (λ o q h k. order-kept (length m.gates) o q h.0 h.1) m.orders a.mw valid_orders valid_orders;
         borders = AllZip-both (λ b f. IsValidBorder m.zones b × ((z : Zone) → BorderAt z b f)) (λ b f. (reference b.to ≡ reference b.from) × ((z : Zone) → BorderAt z b f)) (IsConsistentBorder ps)
             (λ b f h k. border-kept b f k.0 h.0 h.1) m.borders a.flow valid_borders same_borders;

@@ -113,12 +113,15 @@ module _ (books : Books) (more : ℕ) (page rest : Option (List ℕ)) (given : �
   module _ (piece : List ℕ) (n : ℕ) (many : length piece ≡ n) (within : given + n ≤ most_given) (is_piece : (left : List ℕ) → rest ≡ Some left → IsPiece left [] piece n) where
     pub piece-stops : (whole : List ℕ) → page ≡ Some whole → (lines : List ℕ) (why : ValueStop) → StopsInText books more (u.text ++ piece) lines why → StopsOnPage books more whole lines why
     piece-stops whole is lines why h =
-        stops-on books more (u.text ++ piece) (drop n (u.reported whole is).0) whole lines why (all-of-it _ _ _ _ u piece n many within is_piece whole is) (with-piece _ _ _ _ u piece n many within is_piece) h
+        stops-on books more (u.text ++ piece) (drop n (u.reported whole is).0) whole lines why
+        (all-of-it _ _ _ _ u piece n many within is_piece whole is) (with-piece _ _ _ _ u piece n many within is_piece) h
 
     module _ (new : ValueStream) (read : TookAllParts books more (u.text ++ piece) new) where
       -- there is more of it
       pub more-read : (now : Option (List ℕ)) (total : ℕ) → now ≡ option_map (λ l. drop n l) rest → total ≡ given + n → Under (ReadsSome books more new) page now total
-      more-read now total left_is given_is = one-piece _ _ _ _ u piece n many within is_piece (ReadsSome books more new) (record { parts = read.parts; read = read.read; no_more = read.no_more }) read.no_fault now total left_is given_is
+      more-read now total left_is given_is =
+          one-piece _ _ _ _ u piece n many within is_piece (ReadsSome books more new)
+          (record { parts = read.parts; read = read.read; no_more = read.no_more }) read.no_fault now total left_is given_is
 
       -- that was its end
       pub last-read : n ≡ 0 → (whole : List ℕ) → page ≡ Some whole → (length whole ≤ most_given) × TookAllParts books more whole new

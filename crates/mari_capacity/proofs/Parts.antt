@@ -143,7 +143,8 @@ module _ (books : Books) (more : ℕ) (parts : List Part) (old new : ValueStream
       let none : Res (Option Verdict) ℕ = Ok None in
       let opens : IsOpen books (parts ++ x ∷ []) new.day = block-found books parts old.day x w b is new.day none (subst F own free) (λ e. subst C own checked) budget in
       let blocks : blocks_in (parts ++ x ∷ []) ≡ blocks_in parts ++ b ∷ [] = blocks_in-append parts (x ∷ []) ∙ ap (λ (y : Part). blocks_in parts ++ blocks_in (y ∷ [])) is in
-      open-taken books more (parts ++ x ∷ []) new opens (found ∙ not-settled books more parts old x t c) (subst (λ (bs : List Block). IsValueText books more bs new.lines.items) (sym blocks) lines) (same ∙ t.more_is)
+      open-taken books more (parts ++ x ∷ []) new opens (found ∙ not-settled books more parts old x t c)
+      (subst (λ (bs : List Block). IsValueText books more bs new.lines.items) (sym blocks) lines) (same ∙ t.more_is)
 
   -- the totals settle a verdict
   pub totals-taken : (os : List MoneyLine) (ps : List AmountLine) → x ≡ part.Totals os ps → IsLater x → (v : Verdict)

@@ -101,11 +101,15 @@ best-of-two x y z w d h k l = omega (arith, ints, clamps, h, k, l)
 best-raised : (ps : List Cents) (n : ℕ) (forth : Bool) (more : ℕ) (b : Border) → IsValidBorder n b → best_border ps (raised_border forth more b) ≤ℤ (best_border ps b +ℤ rise_of ps b forth more)
 best-raised ps n true more b v =
     let r = limit-raised b.limit more v.limit in
-    best-of-two ((price_at ps b.to -ℤ price_at ps b.from) *ℤ pos b.limit) ((price_at ps b.to -ℤ price_at ps b.from) *ℤ pos (raised_limit b.limit more)) ((price_at ps b.from -ℤ price_at ps b.to) *ℤ pos b.back) ((price_at ps b.from -ℤ price_at ps b.to) *ℤ pos b.back) (rise_of ps b true more)
+    best-of-two ((price_at ps b.to -ℤ price_at ps b.from) *ℤ pos b.limit)
+    ((price_at ps b.to -ℤ price_at ps b.from) *ℤ pos (raised_limit b.limit more)) ((price_at ps b.from -ℤ price_at ps b.to) *ℤ pos b.back)
+    ((price_at ps b.from -ℤ price_at ps b.to) *ℤ pos b.back) (rise_of ps b true more)
     (earned-more (price_at ps b.to -ℤ price_at ps b.from) b.limit (raised_limit b.limit more) more r.0 r.1) (omega (arith, ints, rise-least ps b true more)) (rise-least ps b true more)
 best-raised ps n false more b v =
     let r = limit-raised b.back more v.back in
-    best-of-two ((price_at ps b.to -ℤ price_at ps b.from) *ℤ pos b.limit) ((price_at ps b.to -ℤ price_at ps b.from) *ℤ pos b.limit) ((price_at ps b.from -ℤ price_at ps b.to) *ℤ pos b.back) ((price_at ps b.from -ℤ price_at ps b.to) *ℤ pos (raised_limit b.back more)) (rise_of ps b false more)
+    best-of-two ((price_at ps b.to -ℤ price_at ps b.from) *ℤ pos b.limit) ((price_at ps b.to -ℤ price_at ps b.from) *ℤ pos b.limit)
+    ((price_at ps b.from -ℤ price_at ps b.to) *ℤ pos b.back) ((price_at ps b.from -ℤ price_at ps b.to) *ℤ pos (raised_limit b.back more))
+    (rise_of ps b false more)
     (omega (arith, ints, rise-least ps b false more)) (earned-more (price_at ps b.from -ℤ price_at ps b.to) b.back (raised_limit b.back more) more r.0 r.1) (rise-least ps b false more)
 
 -- ---- the market

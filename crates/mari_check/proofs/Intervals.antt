@@ -31,8 +31,12 @@ same-prices (p ∷ ps) (q ∷ qs) e h =
 
 module _ (m : Market) (a : Activation) where
   one-end : (end : End) (ps qs : List Cents) → AreEndPrices end m a ps → AreEndPrices end m a qs → ps ≡ qs
-  one-end Least ps qs h k = same-prices ps qs (h.one_each ∙ sym k.one_each) (λ z l. one_least m a z (price_at ps z) (price_at qs z) (h.each z (omega (arith, l, h.one_each))) (k.each z (omega (arith, l, h.one_each))))
-  one-end Greatest ps qs h k = same-prices ps qs (h.one_each ∙ sym k.one_each) (λ z l. one_greatest m a z (price_at ps z) (price_at qs z) (h.each z (omega (arith, l, h.one_each))) (k.each z (omega (arith, l, h.one_each))))
+  one-end Least ps qs h k =
+      same-prices ps qs (h.one_each ∙ sym k.one_each)
+      (λ z l. one_least m a z (price_at ps z) (price_at qs z) (h.each z (omega (arith, l, h.one_each))) (k.each z (omega (arith, l, h.one_each))))
+  one-end Greatest ps qs h k =
+      same-prices ps qs (h.one_each ∙ sym k.one_each)
+      (λ z l. one_greatest m a z (price_at ps z) (price_at qs z) (h.each z (omega (arith, l, h.one_each))) (k.each z (omega (arith, l, h.one_each))))
 
   -- prices are those of an end exactly where they are these
   pub ends-by : (end : End) (reported ps : List Cents) (b : Bool) → AreEndPrices end m a ps → (b ≡ true) ↔ AllZip IsSamePrice reported ps → (b ≡ true) ↔ AreEndPrices end m a reported

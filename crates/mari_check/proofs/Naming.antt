@@ -49,11 +49,14 @@ module _ (books : Books) (made : RunMarket) (b : FullBlock) where
 
   pub borders-of : NamesMarket books made b → AllZip (NamesEnds books.zones.zones) b.borders books.borders.borders
   borders-of h =
-      zip-from (NamesEnds books.zones.zones) (λ (l : BorderLine). l.from) (λ (l : BorderLine). l.to) (λ (ends : BorderEnds). name_at books.zones.zones ends.from) (λ (ends : BorderEnds). name_at books.zones.zones ends.to)
+      zip-from (NamesEnds books.zones.zones) (λ (l : BorderLine). l.from) (λ (l : BorderLine). l.to)
+      (λ (ends : BorderEnds). name_at books.zones.zones ends.from) (λ (ends : BorderEnds). name_at books.zones.zones ends.to)
       (λ l ends e f. record { from = e; to = f }) b.borders books.borders.borders h.lines.from h.lines.to
 
   pub bids-of : NamesMarket books made b → AllZip (NamesBid books.bids.ids) b.bids made.bids
-  bids-of h = zip-from (NamesBid books.bids.ids) (λ (l : BidLine). l.id) (λ (l : BidLine). l.id) (name_at books.bids.ids) (name_at books.bids.ids) (λ l n e f. e) b.bids made.bids h.lines.bids h.lines.bids
+  bids-of h =
+      zip-from (NamesBid books.bids.ids) (λ (l : BidLine). l.id) (λ (l : BidLine). l.id) (name_at books.bids.ids) (name_at books.bids.ids)
+      (λ l n e f. e) b.bids made.bids h.lines.bids h.lines.bids
 
   pub names-of : AllZip NamesZone b.zones books.zones.zones
       → AllZip (NamesEnds books.zones.zones) b.borders books.borders.borders

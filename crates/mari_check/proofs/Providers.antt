@@ -55,7 +55,8 @@ module _ (books : Books) (made : RunMarket) (also : Option (List Cents)) (b : Fu
 pub run-of : (books : Books) (made : RunMarket) (also : Option (List Cents)) (b : FullBlock) (ledger : Ledger) (a : Activation) (ps : Prices)
     → a ≡ activation_of b → ps.cents ≡ prices_of b → IsMarketOf books made
     → IsConsistent made.market (activation_of b) (prices_of b)
-    → HasLedger books made also b → ledger.rents ≡ rents_of made.market a ps.cents → ledger.operators ≡ operator_lines books.zones made.market a ps.cents → ledger.providers ≡ provider_amounts books.bids made.bids a ps.cents (scheduled_or ps.cents also)
+    → HasLedger books made also b → ledger.rents ≡ rents_of made.market a ps.cents → ledger.operators ≡ operator_lines books.zones made.market a
+    ps.cents → ledger.providers ≡ provider_amounts books.bids made.bids a ps.cents (scheduled_or ps.cents also)
     → IsBalancedLedger ledger → IsRunOf books made also b (record { made = made; activation = a; prices = ps; ledger = ledger })
 run-of books made also b ledger a ps reported priced of agrees h rents operators providers balanced = record {
   market = refl;

@@ -184,7 +184,8 @@ module _ (books : Books) (parts : List Part) (old : DayCheck) (x : Part) (w : Wa
       let longer = length-append before (b ∷ own.0) in
       let C : List Block → Type 0 = λ bs. IsChecked books bs old in
       let T : List Block → Type 0 = λ bs. BlockStates books old.budget bs b (Some v) in
-      block-reported books p spot.head old spot.budget all own.1 (length before) b (omega (arith, longer)) (here before b own.0) (subst C (sym front) w.clear.checked) (Some v) (subst T (sym front) states) v refl
+      block-reported books p spot.head old spot.budget all own.1 (length before) b (omega (arith, longer)) (here before b own.0)
+      (subst C (sym front) w.clear.checked) (Some v) (subst T (sym front) states) v refl
     where
       here : (before : List Block) (b : Block) (others : List Block) → b ≡ get_or (before ++ b ∷ others) (length before) b
       here [] b others = refl
@@ -209,7 +210,8 @@ module _ (books : Books) (parts : List Part) (old : DayCheck) (x : Part) (w : Wa
   block-found b is new (Err why) states stands budget = tt
 
   pub totals-settle : (os : List MoneyLine) (ps : List AmountLine) → x ≡ part.Totals os ps → (v : Verdict)
-      → ((p : Publication) → HasHead books p.date p.quarters → p.budget ≡ old.budget → IsChecked books p.blocks old → p.operators ≡ os → p.providers ≡ ps → IsVerdict books p v) → SettlesVerdict books (parts ++ x ∷ []) v
+      → ((p : Publication) → HasHead books p.date p.quarters → p.budget ≡ old.budget → IsChecked books p.blocks old → p.operators ≡ os → p.providers ≡ ps → IsVerdict books p v)
+      → SettlesVerdict books (parts ++ x ∷ []) v
   totals-settle os ps is v ends = λ p more e.
       let spot = placed p more e in
       let own : After p.blocks p.operators p.providers w.clear.blocks (part.Totals os ps) = subst (After p.blocks p.operators p.providers w.clear.blocks) is spot.stands in

@@ -31,7 +31,9 @@ unpublished_block heading count = block.Unpublished heading count
 -- the test of a published block states its least fault, or that it has none and what it adds
 abbrev pub TestsBlock : Books → (budget : ℕ) → (before : List Block) → FullBlock → TestedBlock → Type 0
 TestsBlock books budget before b (Faulty least) = IsLeast (IsFreeIn books budget before (block.Published b)) least
-TestsBlock books budget before b (Sound settled) = ((any : Fault) → IsFreeIn books budget before (block.Published b) any) × IsRunOf books (market_after books before) (also_after books before) b settled
+TestsBlock books budget before b (Sound settled) =
+    ((any : Fault) → IsFreeIn books budget before (block.Published b) any) × IsRunOf books (market_after books before) (also_after books before) b
+    settled
 
 -- the fault of the first line is reported exactly where it is there
 abbrev pub FindsHead : (right : Type 0) → Option ℕ → Type 0

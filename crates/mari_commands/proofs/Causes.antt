@@ -35,15 +35,23 @@ module _ (wanted : Status) (no_write : status.WriteFault ≡ wanted → ⊥) (no
 values-failed : (lines : List ℕ) (end : ValueEnd) (before after : Option (List ℕ)) (result : Status)
     → ReportsValues lines end before after result → result ≡ status.ReadFault → IsPageEnd fetch.Failed end
 values-failed lines (values.Fetch fetch.Failed) before after result r e = refl
-values-failed lines (values.Fetch fetch.Missing) before after result r e = absurd (other-text status.ReadFault (λ f. absurd (cc f)) (λ f. absurd (cc f)) _ _ before after result (λ f. absurd (cc f)) r e)
-values-failed lines (values.Fetch fetch.TooLong) before after result r e = absurd (other-text status.ReadFault (λ f. absurd (cc f)) (λ f. absurd (cc f)) _ _ before after result (λ f. absurd (cc f)) r e)
-values-failed lines (values.Fetch fetch.Memory) before after result r e = absurd (other-text status.ReadFault (λ f. absurd (cc f)) (λ f. absurd (cc f)) _ _ before after result (λ f. absurd (cc f)) r e)
-values-failed lines (values.Valid published unpublished) before after result r e = absurd (other-text status.ReadFault (λ f. absurd (cc f)) (λ f. absurd (cc f)) _ _ before after result (λ f. absurd (cc f)) r e)
+values-failed lines (values.Fetch fetch.Missing) before after result r e =
+    absurd (other-text status.ReadFault (λ f. absurd (cc f)) (λ f. absurd (cc f)) _ _ before after result (λ f. absurd (cc f)) r e)
+values-failed lines (values.Fetch fetch.TooLong) before after result r e =
+    absurd (other-text status.ReadFault (λ f. absurd (cc f)) (λ f. absurd (cc f)) _ _ before after result (λ f. absurd (cc f)) r e)
+values-failed lines (values.Fetch fetch.Memory) before after result r e =
+    absurd (other-text status.ReadFault (λ f. absurd (cc f)) (λ f. absurd (cc f)) _ _ before after result (λ f. absurd (cc f)) r e)
+values-failed lines (values.Valid published unpublished) before after result r e =
+    absurd (other-text status.ReadFault (λ f. absurd (cc f)) (λ f. absurd (cc f)) _ _ before after result (λ f. absurd (cc f)) r e)
 values-failed lines (values.Invalid run fault) before after result r e = absurd (other-text status.ReadFault (λ f. absurd (cc f)) (λ f. absurd (cc f)) _ _ before after result (λ f. absurd (cc f)) r e)
-values-failed lines (values.Text (text_fault.BadLine n)) before after result r e = absurd (other-text status.ReadFault (λ f. absurd (cc f)) (λ f. absurd (cc f)) _ _ before after result (λ f. absurd (cc f)) r e)
-values-failed lines (values.Text (text_fault.BadOrder n)) before after result r e = absurd (other-text status.ReadFault (λ f. absurd (cc f)) (λ f. absurd (cc f)) _ _ before after result (λ f. absurd (cc f)) r e)
-values-failed lines (values.Text (text_fault.Truncated n)) before after result r e = absurd (other-text status.ReadFault (λ f. absurd (cc f)) (λ f. absurd (cc f)) _ _ before after result (λ f. absurd (cc f)) r e)
-values-failed lines (values.Text text_fault.Memory) before after result r e = absurd (other-text status.ReadFault (λ f. absurd (cc f)) (λ f. absurd (cc f)) _ _ before after result (λ f. absurd (cc f)) r e)
+values-failed lines (values.Text (text_fault.BadLine n)) before after result r e =
+    absurd (other-text status.ReadFault (λ f. absurd (cc f)) (λ f. absurd (cc f)) _ _ before after result (λ f. absurd (cc f)) r e)
+values-failed lines (values.Text (text_fault.BadOrder n)) before after result r e =
+    absurd (other-text status.ReadFault (λ f. absurd (cc f)) (λ f. absurd (cc f)) _ _ before after result (λ f. absurd (cc f)) r e)
+values-failed lines (values.Text (text_fault.Truncated n)) before after result r e =
+    absurd (other-text status.ReadFault (λ f. absurd (cc f)) (λ f. absurd (cc f)) _ _ before after result (λ f. absurd (cc f)) r e)
+values-failed lines (values.Text text_fault.Memory) before after result r e =
+    absurd (other-text status.ReadFault (λ f. absurd (cc f)) (λ f. absurd (cc f)) _ _ before after result (λ f. absurd (cc f)) r e)
 
 failed : (pages : Option Pages) (late : Type 0) (o : Outcome) (before after : Option (List ℕ)) (result : Status)
     → Reported pages late o before after result → result ≡ status.ReadFault → IsNoPage fetch.Failed o ⊎ IsOwn o
@@ -65,14 +73,20 @@ values-missing : (lines : List ℕ) (end : ValueEnd) (before after : Option (Lis
     → ReportsValues lines end before after result → result ≡ status.Missing → IsPageEnd fetch.Missing end
 values-missing lines (values.Fetch fetch.Failed) before after result r e = absurd (other-text status.Missing (λ f. absurd (cc f)) (λ f. absurd (cc f)) _ _ before after result (λ f. absurd (cc f)) r e)
 values-missing lines (values.Fetch fetch.Missing) before after result r e = refl
-values-missing lines (values.Fetch fetch.TooLong) before after result r e = absurd (other-text status.Missing (λ f. absurd (cc f)) (λ f. absurd (cc f)) _ _ before after result (λ f. absurd (cc f)) r e)
+values-missing lines (values.Fetch fetch.TooLong) before after result r e =
+    absurd (other-text status.Missing (λ f. absurd (cc f)) (λ f. absurd (cc f)) _ _ before after result (λ f. absurd (cc f)) r e)
 values-missing lines (values.Fetch fetch.Memory) before after result r e = absurd (other-text status.Missing (λ f. absurd (cc f)) (λ f. absurd (cc f)) _ _ before after result (λ f. absurd (cc f)) r e)
-values-missing lines (values.Valid published unpublished) before after result r e = absurd (other-text status.Missing (λ f. absurd (cc f)) (λ f. absurd (cc f)) _ _ before after result (λ f. absurd (cc f)) r e)
+values-missing lines (values.Valid published unpublished) before after result r e =
+    absurd (other-text status.Missing (λ f. absurd (cc f)) (λ f. absurd (cc f)) _ _ before after result (λ f. absurd (cc f)) r e)
 values-missing lines (values.Invalid run fault) before after result r e = absurd (other-text status.Missing (λ f. absurd (cc f)) (λ f. absurd (cc f)) _ _ before after result (λ f. absurd (cc f)) r e)
-values-missing lines (values.Text (text_fault.BadLine n)) before after result r e = absurd (other-text status.Missing (λ f. absurd (cc f)) (λ f. absurd (cc f)) _ _ before after result (λ f. absurd (cc f)) r e)
-values-missing lines (values.Text (text_fault.BadOrder n)) before after result r e = absurd (other-text status.Missing (λ f. absurd (cc f)) (λ f. absurd (cc f)) _ _ before after result (λ f. absurd (cc f)) r e)
-values-missing lines (values.Text (text_fault.Truncated n)) before after result r e = absurd (other-text status.Missing (λ f. absurd (cc f)) (λ f. absurd (cc f)) _ _ before after result (λ f. absurd (cc f)) r e)
-values-missing lines (values.Text text_fault.Memory) before after result r e = absurd (other-text status.Missing (λ f. absurd (cc f)) (λ f. absurd (cc f)) _ _ before after result (λ f. absurd (cc f)) r e)
+values-missing lines (values.Text (text_fault.BadLine n)) before after result r e =
+    absurd (other-text status.Missing (λ f. absurd (cc f)) (λ f. absurd (cc f)) _ _ before after result (λ f. absurd (cc f)) r e)
+values-missing lines (values.Text (text_fault.BadOrder n)) before after result r e =
+    absurd (other-text status.Missing (λ f. absurd (cc f)) (λ f. absurd (cc f)) _ _ before after result (λ f. absurd (cc f)) r e)
+values-missing lines (values.Text (text_fault.Truncated n)) before after result r e =
+    absurd (other-text status.Missing (λ f. absurd (cc f)) (λ f. absurd (cc f)) _ _ before after result (λ f. absurd (cc f)) r e)
+values-missing lines (values.Text text_fault.Memory) before after result r e =
+    absurd (other-text status.Missing (λ f. absurd (cc f)) (λ f. absurd (cc f)) _ _ before after result (λ f. absurd (cc f)) r e)
 
 missing : (pages : Option Pages) (late : Type 0) (o : Outcome) (before after : Option (List ℕ)) (result : Status)
     → Reported pages late o before after result → result ≡ status.Missing → IsNoPage fetch.Missing o ⊎ IsOwn o
@@ -92,16 +106,24 @@ missing pages late NoMemory before after result r e = let f = sym r.0 ∙ e in a
 
 values-too-long : (lines : List ℕ) (end : ValueEnd) (before after : Option (List ℕ)) (result : Status)
     → ReportsValues lines end before after result → result ≡ status.TooLong → IsPageEnd fetch.TooLong end
-values-too-long lines (values.Fetch fetch.Failed) before after result r e = absurd (other-text status.TooLong (λ f. absurd (cc f)) (λ f. absurd (cc f)) _ _ before after result (λ f. absurd (cc f)) r e)
-values-too-long lines (values.Fetch fetch.Missing) before after result r e = absurd (other-text status.TooLong (λ f. absurd (cc f)) (λ f. absurd (cc f)) _ _ before after result (λ f. absurd (cc f)) r e)
+values-too-long lines (values.Fetch fetch.Failed) before after result r e =
+    absurd (other-text status.TooLong (λ f. absurd (cc f)) (λ f. absurd (cc f)) _ _ before after result (λ f. absurd (cc f)) r e)
+values-too-long lines (values.Fetch fetch.Missing) before after result r e =
+    absurd (other-text status.TooLong (λ f. absurd (cc f)) (λ f. absurd (cc f)) _ _ before after result (λ f. absurd (cc f)) r e)
 values-too-long lines (values.Fetch fetch.TooLong) before after result r e = refl
-values-too-long lines (values.Fetch fetch.Memory) before after result r e = absurd (other-text status.TooLong (λ f. absurd (cc f)) (λ f. absurd (cc f)) _ _ before after result (λ f. absurd (cc f)) r e)
-values-too-long lines (values.Valid published unpublished) before after result r e = absurd (other-text status.TooLong (λ f. absurd (cc f)) (λ f. absurd (cc f)) _ _ before after result (λ f. absurd (cc f)) r e)
+values-too-long lines (values.Fetch fetch.Memory) before after result r e =
+    absurd (other-text status.TooLong (λ f. absurd (cc f)) (λ f. absurd (cc f)) _ _ before after result (λ f. absurd (cc f)) r e)
+values-too-long lines (values.Valid published unpublished) before after result r e =
+    absurd (other-text status.TooLong (λ f. absurd (cc f)) (λ f. absurd (cc f)) _ _ before after result (λ f. absurd (cc f)) r e)
 values-too-long lines (values.Invalid run fault) before after result r e = absurd (other-text status.TooLong (λ f. absurd (cc f)) (λ f. absurd (cc f)) _ _ before after result (λ f. absurd (cc f)) r e)
-values-too-long lines (values.Text (text_fault.BadLine n)) before after result r e = absurd (other-text status.TooLong (λ f. absurd (cc f)) (λ f. absurd (cc f)) _ _ before after result (λ f. absurd (cc f)) r e)
-values-too-long lines (values.Text (text_fault.BadOrder n)) before after result r e = absurd (other-text status.TooLong (λ f. absurd (cc f)) (λ f. absurd (cc f)) _ _ before after result (λ f. absurd (cc f)) r e)
-values-too-long lines (values.Text (text_fault.Truncated n)) before after result r e = absurd (other-text status.TooLong (λ f. absurd (cc f)) (λ f. absurd (cc f)) _ _ before after result (λ f. absurd (cc f)) r e)
-values-too-long lines (values.Text text_fault.Memory) before after result r e = absurd (other-text status.TooLong (λ f. absurd (cc f)) (λ f. absurd (cc f)) _ _ before after result (λ f. absurd (cc f)) r e)
+values-too-long lines (values.Text (text_fault.BadLine n)) before after result r e =
+    absurd (other-text status.TooLong (λ f. absurd (cc f)) (λ f. absurd (cc f)) _ _ before after result (λ f. absurd (cc f)) r e)
+values-too-long lines (values.Text (text_fault.BadOrder n)) before after result r e =
+    absurd (other-text status.TooLong (λ f. absurd (cc f)) (λ f. absurd (cc f)) _ _ before after result (λ f. absurd (cc f)) r e)
+values-too-long lines (values.Text (text_fault.Truncated n)) before after result r e =
+    absurd (other-text status.TooLong (λ f. absurd (cc f)) (λ f. absurd (cc f)) _ _ before after result (λ f. absurd (cc f)) r e)
+values-too-long lines (values.Text text_fault.Memory) before after result r e =
+    absurd (other-text status.TooLong (λ f. absurd (cc f)) (λ f. absurd (cc f)) _ _ before after result (λ f. absurd (cc f)) r e)
 
 too-long : (pages : Option Pages) (late : Type 0) (o : Outcome) (before after : Option (List ℕ)) (result : Status)
     → Reported pages late o before after result → result ≡ status.TooLong → IsNoPage fetch.TooLong o ⊎ IsOwn o

@@ -173,7 +173,8 @@ module _ (asked : Option Asked) (pages : Pages) where
   gap-of-books o folder number gap (OfUsage e f) r h = absurd (reads_none asked folder e r)
   gap-of-books o folder number gap (OfRefusal g other s k f) r h = absurd (one asked pages g folder (Refuses other) (Lacks number gap) s r k h)
   gap-of-books o folder number gap (OfGap g n x s k f) r h = inl (n, f ∙ ap (λ y. NoPage n (fetch_of y)) (one asked pages g folder (Lacks n x) (Lacks number gap) s r k h))
-  gap-of-books o folder number gap (OfClear g job e k f) r h = absurd (one asked pages g folder (Gives job.books) (Lacks number gap) (reads asked _ g e (folder_by job.way g job.nodes job.workers)) r k h)
+  gap-of-books o folder number gap (OfClear g job e k f) r h =
+      absurd (one asked pages g folder (Gives job.books) (Lacks number gap) (reads asked _ g e (folder_by job.way g job.nodes job.workers)) r k h)
   gap-of-books o folder number gap (OfCheck g books e k states) r h = absurd (one asked pages g folder (Gives books) (Lacks number gap) (reads asked _ g e refl) r k h)
   gap-of-books o folder number gap (OfMigrate g part books e k states) r h = absurd (one asked pages g folder (Gives books) (Lacks number gap) (reads asked _ g e refl) r k h)
   gap-of-books o folder number gap (OfGenerate n e is) r h = absurd (reads_no_folder asked _ folder e refl r)
@@ -215,7 +216,9 @@ module _ (asked : Option Asked) (pages : Pages) where
 
   -- that isn't the publication that is printed as a feed or valued
   abbrev IsOfFiles : ℕ → Gap → Outcome → Type 0
-  IsOfFiles number gap o = Comes (IsGapOf gap) o ⊎ (((folder : List ℕ) × (asked ≡ Some (Feed folder)) × IsFeedGap (page_of pages (publication_path folder)) gap) ⊎ EndsValues asked pages (values.Fetch (fetch_of gap)))
+  IsOfFiles number gap o =
+      Comes (IsGapOf gap) o
+      ⊎ (((folder : List ℕ) × (asked ≡ Some (Feed folder)) × IsFeedGap (page_of pages (publication_path folder)) gap) ⊎ EndsValues asked pages (values.Fetch (fetch_of gap)))
 
   pub gap-comes : (o : Outcome) (number : ℕ) (gap : Gap) → Says asked pages o → LacksPage asked pages number gap → IsOfFiles number gap o
   gap-comes o number gap s (lacks-book folder r h) = inl (gap-of-books o folder number gap s r h)
@@ -327,11 +330,14 @@ module _ (asked : Option Asked) (pages : Pages) where
       → asked ≡ Some (command_by way folder nodes workers) → HasBooks pages folder books
       → Comes (IsDayOf way books nodes) o
   day-comes o way folder nodes workers books (OfUsage e f) c h = absurd (cc)
-  day-comes o way folder nodes workers books (OfRefusal g other s k f) c h = absurd (one asked pages g folder (Refuses other) (Gives books) s (reads asked _ folder c (folder_by way folder nodes workers)) k h)
-  day-comes o way folder nodes workers books (OfGap g n gap s k f) c h = absurd (one asked pages g folder (Lacks n gap) (Gives books) s (reads asked _ folder c (folder_by way folder nodes workers)) k h)
+  day-comes o way folder nodes workers books (OfRefusal g other s k f) c h =
+      absurd (one asked pages g folder (Refuses other) (Gives books) s (reads asked _ folder c (folder_by way folder nodes workers)) k h)
+  day-comes o way folder nodes workers books (OfGap g n gap s k f) c h =
+      absurd (one asked pages g folder (Lacks n gap) (Gives books) s (reads asked _ folder c (folder_by way folder nodes workers)) k h)
   day-comes o way folder nodes workers books (OfClear g job e k f) c h =
       let same = one_way job.way way g folder job.nodes nodes job.workers workers (asks-one _ _ e c) in
-      inl (job, f, one asked pages g folder (Gives job.books) (Gives books) (reads asked _ g e (folder_by job.way g job.nodes job.workers)) (reads asked _ folder c (folder_by way folder nodes workers)) k h, same.nodes, same.way)
+      inl
+      (job, f, one asked pages g folder (Gives job.books) (Gives books) (reads asked _ g e (folder_by job.way g job.nodes job.workers)) (reads asked _ folder c (folder_by way folder nodes workers)) k h, same.nodes, same.way)
   day-comes o way folder nodes workers books (OfCheck g other e k states) c h = absurd (no_other asked way folder nodes workers _ c e refl)
   day-comes o way folder nodes workers books (OfMigrate g part b e k states) c h = absurd (no_other asked way folder nodes workers _ c e refl)
   day-comes o way folder nodes workers books (OfGenerate n e is) c h = absurd (no_other asked way folder nodes workers _ c e refl)

@@ -186,9 +186,15 @@ module _ (shown : Option Pages) (late : Type 0) (before after : Option (List ℕ
     wanted text w q (Starved e p) = inr (inr (inr e))
 
   fault-report : (f : TextFault) (between : Option (List ℕ)) → ReportsText f between after result → OrFault (IsStatus (status.Refused (text_refusal f))) result
-  fault-report (text_fault.BadLine n) between r = wanted (IsStatus (status.Refused (text_refusal (text_fault.BadLine n)))) between (refused_line (text_refusal (text_fault.BadLine n))) (status.Refused (text_refusal (text_fault.BadLine n))) refl r
-  fault-report (text_fault.BadOrder n) between r = wanted (IsStatus (status.Refused (text_refusal (text_fault.BadOrder n)))) between (refused_line (text_refusal (text_fault.BadOrder n))) (status.Refused (text_refusal (text_fault.BadOrder n))) refl r
-  fault-report (text_fault.Truncated n) between r = wanted (IsStatus (status.Refused (text_refusal (text_fault.Truncated n)))) between (refused_line (text_refusal (text_fault.Truncated n))) (status.Refused (text_refusal (text_fault.Truncated n))) refl r
+  fault-report (text_fault.BadLine n) between r =
+      wanted (IsStatus (status.Refused (text_refusal (text_fault.BadLine n)))) between (refused_line (text_refusal (text_fault.BadLine n)))
+      (status.Refused (text_refusal (text_fault.BadLine n))) refl r
+  fault-report (text_fault.BadOrder n) between r =
+      wanted (IsStatus (status.Refused (text_refusal (text_fault.BadOrder n)))) between (refused_line (text_refusal (text_fault.BadOrder n)))
+      (status.Refused (text_refusal (text_fault.BadOrder n))) refl r
+  fault-report (text_fault.Truncated n) between r =
+      wanted (IsStatus (status.Refused (text_refusal (text_fault.Truncated n)))) between (refused_line (text_refusal (text_fault.Truncated n)))
+      (status.Refused (text_refusal (text_fault.Truncated n))) refl r
   fault-report text_fault.Memory between r = inr (inr (inr r.0))
 
   fed-refused : (page : List ℕ) (f : TextFault) → IsReportedFault page f
@@ -243,7 +249,8 @@ module _ (shown : Option Pages) (late : Type 0) (before after : Option (List ℕ
   module _ (asked : Option Asked) (pages : Pages) (is_shown : shown ≡ Some pages) (o : Outcome) (words : IsOfWords asked o) (says : Says asked pages o) (reported : Reported shown late o before after result) where
     -- what is said of the publication that is printed as a feed
     fed-by : (Q : Status → Type 0) (folder : List ℕ) → asked ≡ Some (Feed folder)
-        → ((between : Option (List ℕ)) (end : Result (Unit {0}) FeedStop) → FeedStates (page_of pages (publication_path folder)) before between end → ReportsFeed end between after result → OrFault Q result) → OrFault Q result
+        → ((between : Option (List ℕ)) (end : Result (Unit {0}) FeedStop) → FeedStates (page_of pages (publication_path folder)) before between end → ReportsFeed end between after result → OrFault Q result)
+        → OrFault Q result
     fed-by Q folder feed ends = elim (feed-comes asked pages o folder says feed) [
       | inl found ↦
           let parts : ReportsParts shown late (string_bytes found.0) before after result = same-report o (Feeds found.0) found.2 reported in

@@ -56,7 +56,8 @@ module _ (asked : Option Asked) (pages : Pages) where
   joins-comes o folder first last nodes workers (OfGenerate n e is) c = absurd (cc)
   joins-comes o folder first last nodes workers (OfValues g more books e k states) c = absurd (cc)
   joins-comes o folder first last nodes workers (OfFeed x e f) c = absurd (cc)
-  joins-comes o folder first last nodes workers (OfBlocks q e f) c = inl (record { quarters = q; is = f; words = let both : Some (blocks_of q) ≡ Some (Blocks folder first last nodes workers) = sym e ∙ c in cc })
+  joins-comes o folder first last nodes workers (OfBlocks q e f) c =
+      inl (record { quarters = q; is = f; words = let both : Some (blocks_of q) ≡ Some (Blocks folder first last nodes workers) = sym e ∙ c in cc })
   joins-comes o folder first last nodes workers (Fails x n y e) c = absurd (reads_no_folder asked _ x c refl y)
   joins-comes o folder first last nodes workers (Starves e) c = inr (subst IsExcused (sym e) tt)
 
@@ -150,9 +151,15 @@ module _ (shown : Option Pages) (late : Type 0) (before after : Option (List ℕ
   decided-answer status.Done h = let j = h.joinable in by-quarters (IsStatus status.Done) j.folder j.first j.last j.nodes j.workers j.words
       (by-market before after result pages j.folder j.first j.last j.nodes j.books j.blocks j.joint j.has j.made (IsStatus status.Done)
       (whole before after result pages j.folder j.first j.last j.nodes j.books j.blocks j.joint j.has j.made h.size h.sized h.enough))
-  decided-answer (status.Refused refusal) h = by-quarters (IsStatus (status.Refused refusal)) h.folder h.first h.last h.nodes h.workers h.words (by-refusal before after result pages h.folder h.first h.last h.nodes refusal h.is)
-  decided-answer status.Missing h = by-quarters (IsStatus status.Missing) h.folder h.first h.last h.nodes h.workers h.words (by-gap before after result pages h.folder h.first h.last h.nodes h.is.0 NotHeld h.is.1)
-  decided-answer status.TooLong h = by-quarters (IsStatus status.TooLong) h.folder h.first h.last h.nodes h.workers h.words (by-gap before after result pages h.folder h.first h.last h.nodes h.is.0 OverLimit h.is.1)
+  decided-answer (status.Refused refusal) h =
+      by-quarters (IsStatus (status.Refused refusal)) h.folder h.first h.last h.nodes h.workers h.words
+      (by-refusal before after result pages h.folder h.first h.last h.nodes refusal h.is)
+  decided-answer status.Missing h =
+      by-quarters (IsStatus status.Missing) h.folder h.first h.last h.nodes h.workers h.words
+      (by-gap before after result pages h.folder h.first h.last h.nodes h.is.0 NotHeld h.is.1)
+  decided-answer status.TooLong h =
+      by-quarters (IsStatus status.TooLong) h.folder h.first h.last h.nodes h.workers h.words
+      (by-gap before after result pages h.folder h.first h.last h.nodes h.is.0 OverLimit h.is.1)
   decided-answer status.Unpublished h = absurd h
   decided-answer status.Usage h = absurd h
   decided-answer status.ReadFault h = absurd h

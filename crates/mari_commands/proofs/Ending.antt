@@ -154,36 +154,51 @@ module _ (asked : Option Asked) where
     by-outcome : (AsksForBlocks asked → ⊥) → (late : Type 0) → (late → failed) → (o : Outcome) (result : Status)
         → WhereReported pages (λ reported. Says asked reported o) → IsOfWords asked o → IsReportable o
         → (IsNoPage fetch.Failed o → failed) → Reported pages late o before after result → Ends result
-    by-outcome other late later NoCommand result says words ready cause r = of-line (none-no-feed asked words) usage_line status.Usage result r (λ p. (words, p)) (part-of-usage asked before after words) (λ reported t. line-usage words refl)
+    by-outcome other late later NoCommand result says words ready cause r =
+        of-line (none-no-feed asked words) usage_line status.Usage result r (λ p. (words, p)) (part-of-usage asked before after words)
+        (λ reported t. line-usage words refl)
     by-outcome other late later (Day job) result says words ready cause r = of-day job result says words ready r
     by-outcome other late later (Feeds folder) result says words ready cause r = feed-answers asked pages failed before after late later (string_bytes folder) words result r
     by-outcome other late later (Joins q) result says words ready cause r = absurd (other (string_bytes q.folder, q.first, q.last, q.nodes, q.workers, words))
-    by-outcome other late later (Values v) result says words ready cause r = values-answers asked pages failed before after words.0 v.text v.end words.1 (λ reported t. values-is asked reported v (says reported t)) cause result r
+    by-outcome other late later (Values v) result says words ready cause r =
+        values-answers asked pages failed before after words.0 v.text v.end words.1 (λ reported t. values-is asked reported v (says reported t)) cause
+        result r
     by-outcome other late later (Text text) result says words ready cause r =
-        of-line (text-no-feed asked text.items words) text.items status.Done result r (λ p. (λ reported t. done-printed text.items (text-prints asked reported text (says reported t)) p, summary-is asked before after text.items words p, verdict-is asked before after text.items words p)) (part-of-text asked before after text.items words)
+        of-line (text-no-feed asked text.items words) text.items status.Done result r
+        (λ p. (λ reported t. done-printed text.items (text-prints asked reported text (says reported t)) p, summary-is asked before after text.items words p, verdict-is asked before after text.items words p))
+        (part-of-text asked before after text.items words)
         (λ reported t. line-text (text-prints asked reported text (says reported t)))
     by-outcome other late later (Invalid run number) result says words ready cause r =
         let alone = check-alone asked PUBLICATION words in
-        of-line (check-no-feed asked words) (invalid_line run number) (status.Invalid run number) result r (λ p. (inl words, (λ reported t. invalid-is asked reported run number (says reported t)), plain-line asked pages PUBLICATION TookAll (IsInvalidEnd run number) (invalid_line run number) before after alone p))
+        of-line (check-no-feed asked words) (invalid_line run number) (status.Invalid run number) result r
+        (λ p. (inl words, (λ reported t. invalid-is asked reported run number (says reported t)), plain-line asked pages PUBLICATION TookAll (IsInvalidEnd run number) (invalid_line run number) before after alone p))
         (λ p. part-of-folder asked before after (check-reads asked words)) (λ reported t. line-invalid run number (invalid-is asked reported run number (says reported t)) alone refl)
     by-outcome other late later (NoPage k fetch.Failed) result says words ready cause r =
         let none = files-no-feed asked words.0 in
         let text = file_line (codes "readfault") k in
-        of-line none text status.ReadFault result r (λ p. (inl words.0, (k, words.1, plain-line asked pages k TookFirst IsFailedEnd text before after words.2 p))) (λ p. part-of-folder asked before after words.0)
+        of-line none text status.ReadFault result r
+        (λ p. (inl words.0, (k, words.1, plain-line asked pages k TookFirst IsFailedEnd text before after words.2 p)))
+        (λ p. part-of-folder asked before after words.0)
         (λ reported t. let f = fails-is asked reported k (says reported t) in line-fault (cause refl) f.0 k f.1 words.1 words.2 refl)
     by-outcome other late later (NoPage k fetch.Missing) result says words ready cause r =
         let none = files-no-feed asked words.0 in
         let text = file_line (codes "missing") k in
-        of-line none text status.Missing result r (λ p. (inl words.0, record { file = k; wanted = words.1; first = λ reported t. missing-is asked reported k (says reported t); line = plain-line asked pages k TookFirst (IsGapEnd NotHeld) text before after words.2 p })) (λ p. part-of-folder asked before after words.0) (λ reported t. line-missing k (missing-is asked reported k (says reported t)) words.2 refl)
+        of-line none text status.Missing result r
+        (λ p. (inl words.0, record { file = k; wanted = words.1; first = λ reported t. missing-is asked reported k (says reported t); line = plain-line asked pages k TookFirst (IsGapEnd NotHeld) text before after words.2 p }))
+        (λ p. part-of-folder asked before after words.0) (λ reported t. line-missing k (missing-is asked reported k (says reported t)) words.2 refl)
     by-outcome other late later (NoPage k fetch.TooLong) result says words ready cause r =
         let none = files-no-feed asked words.0 in
         let text = file_line (codes "toolong") k in
-        of-line none text status.TooLong result r (λ p. (inl words.0, record { file = k; wanted = words.1; first = λ reported t. too-long-is asked reported k (says reported t); line = plain-line asked pages k TookFirst (IsGapEnd OverLimit) text before after words.2 p })) (λ p. part-of-folder asked before after words.0) (λ reported t. line-too-long k (too-long-is asked reported k (says reported t)) words.2 refl)
+        of-line none text status.TooLong result r
+        (λ p. (inl words.0, record { file = k; wanted = words.1; first = λ reported t. too-long-is asked reported k (says reported t); line = plain-line asked pages k TookFirst (IsGapEnd OverLimit) text before after words.2 p }))
+        (λ p. part-of-folder asked before after words.0) (λ reported t. line-too-long k (too-long-is asked reported k (says reported t)) words.2 refl)
     by-outcome other late later (NoPage k fetch.Memory) result says words ready cause r = of-nothing result r.0 r.1
     by-outcome other late later (Refused refusal) result says words ready cause r =
         let none = files-no-feed asked words.0 in
         let text = refused_line refusal in
-        of-line none text (status.Refused refusal) result r (λ p. (inl words.0, (λ reported t. refused-is asked reported refusal (says reported t)), plain-line asked pages refusal.file TookAll (IsRefusedEnd refusal) text before after words.1 p, ready.1)) (λ p. part-of-folder asked before after words.0)
+        of-line none text (status.Refused refusal) result r
+        (λ p. (inl words.0, (λ reported t. refused-is asked reported refusal (says reported t)), plain-line asked pages refusal.file TookAll (IsRefusedEnd refusal) text before after words.1 p, ready.1))
+        (λ p. part-of-folder asked before after words.0)
         (λ reported t. line-refusal refusal (refused-is asked reported refusal (says reported t)) words.1 refl)
     by-outcome other late later NoMemory result says words ready cause r = of-nothing result r.0 r.1
 

@@ -117,7 +117,8 @@ module _ (asked : Option Asked) (pages : Option Pages) (failed : Type 0) (before
   -- a call of the shelf failed
   of-failed : (result : Status) → failed → States (Err (stop.Fetch fetch.Failed)) → Reports (file_line (codes "readfault") PUBLICATION) status.ReadFault between after result → Ends result
   of-failed result why states (Printed e p) =
-      subst Ends (sym e) (inr (inl (folder, feed)), (PUBLICATION, wanted, record { between = between; ahead = lines-ahead folder feed refl (λ reported t. ahead-failed (page_in reported) (states reported t)); took = p }))
+      subst Ends (sym e)
+      (inr (inl (folder, feed)), (PUBLICATION, wanted, record { between = between; ahead = lines-ahead folder feed refl (λ reported t. ahead-failed (page_in reported) (states reported t)); took = p }))
   of-failed result why states (CutOff e p) =
       let cut : Ends status.WriteFault = (λ reported t. cut-fault why (record { between = between; ahead = lines-ahead folder feed refl (λ other u. let P : Pages → Type 0 = λ x. TookOf TookFirst (page_in x) before between in subst P (same reported other u) (ahead-failed (page_in reported) (states reported t))); began = p }), first-part) in
       subst Ends (sym e) cut
@@ -141,8 +142,10 @@ module _ (asked : Option Asked) (pages : Option Pages) (failed : Type 0) (before
 
   gap-ends : (gap : Gap) (line : WhereReported pages (λ reported. LacksPage asked reported PUBLICATION gap)) (took : WhereReported pages (λ reported. TookOf TookFirst (page_in reported) before between))
       → after ≡ then_took between (file_line (gap_word gap) PUBLICATION) → Ends (gap_status gap)
-  gap-ends NotHeld line took p = (inr (inl (folder, feed)), record { file = PUBLICATION; wanted = wanted; first = line; line = record { between = between; ahead = lines-ahead folder feed refl took; took = p } })
-  gap-ends OverLimit line took p = (inr (inl (folder, feed)), record { file = PUBLICATION; wanted = wanted; first = line; line = record { between = between; ahead = lines-ahead folder feed refl took; took = p } })
+  gap-ends NotHeld line took p =
+      (inr (inl (folder, feed)), record { file = PUBLICATION; wanted = wanted; first = line; line = record { between = between; ahead = lines-ahead folder feed refl took; took = p } })
+  gap-ends OverLimit line took p =
+      (inr (inl (folder, feed)), record { file = PUBLICATION; wanted = wanted; first = line; line = record { between = between; ahead = lines-ahead folder feed refl took; took = p } })
 
   of-gap : (gap : Gap) (result : Status) → WhereReported pages (λ reported. LacksPage asked reported PUBLICATION gap)
       → WhereReported pages (λ reported. TookOf TookFirst (page_in reported) before between)
@@ -171,7 +174,8 @@ module _ (asked : Option Asked) (pages : Option Pages) (failed : Type 0) (before
 
   of-fault : (f : TextFault) (result : Status) → HasName (text_refusal f) → States (Err (stop.Text f)) → ReportsRefusal (text_refusal f) between after result → Ends result
   of-fault f result name states (Printed e p) =
-      subst Ends (sym e) (inr (inl (folder, feed)), (λ reported t. fault-refused f reported (page_in reported) refl (states reported t)), record { between = between; ahead = lines-ahead folder feed (text-file f) (λ reported t. ahead-fault f (page_in reported) (states reported t)); took = p }, name)
+      subst Ends (sym e)
+      (inr (inl (folder, feed)), (λ reported t. fault-refused f reported (page_in reported) refl (states reported t)), record { between = between; ahead = lines-ahead folder feed (text-file f) (λ reported t. ahead-fault f (page_in reported) (states reported t)); took = p }, name)
   of-fault f result name states (CutOff e p) =
       let cut : Ends status.WriteFault = (
         λ reported t.
@@ -192,8 +196,12 @@ module _ (asked : Option Asked) (pages : Option Pages) (failed : Type 0) (before
   of-end : (end : Result (Unit {0}) FeedStop) (result : Status) → (IsFeedFetch fetch.Failed end → failed) → States end → ReportsFeed end between after result → Ends result
   of-end (Ok end) result cause states (e, p) = subst Ends (sym e) (done end states p)
   of-end (Err (stop.Fetch fetch.Failed)) result cause states r = of-failed result (cause refl) states r
-  of-end (Err (stop.Fetch fetch.Missing)) result cause states r = of-gap NotHeld result (λ reported t. missing-gap reported (page_in reported) refl (states reported t)) (λ reported t. ahead-missing (page_in reported) (states reported t)) r
-  of-end (Err (stop.Fetch fetch.TooLong)) result cause states r = of-gap OverLimit result (λ reported t. long-gap reported (page_in reported) refl (states reported t)) (λ reported t. ahead-long (page_in reported) (states reported t)) r
+  of-end (Err (stop.Fetch fetch.Missing)) result cause states r =
+      of-gap NotHeld result (λ reported t. missing-gap reported (page_in reported) refl (states reported t))
+      (λ reported t. ahead-missing (page_in reported) (states reported t)) r
+  of-end (Err (stop.Fetch fetch.TooLong)) result cause states r =
+      of-gap OverLimit result (λ reported t. long-gap reported (page_in reported) refl (states reported t))
+      (λ reported t. ahead-long (page_in reported) (states reported t)) r
   of-end (Err (stop.Fetch fetch.Memory)) result cause states (e, p) = subst Ends (sym e) (never-memory (λ reported t. no-wrapped (page_in reported) (states reported t)))
   of-end (Err (stop.Text (text_fault.BadLine n))) result cause states r = of-fault (text_fault.BadLine n) result (text-reportable (text_fault.BadLine n)).1 states r
   of-end (Err (stop.Text (text_fault.BadOrder n))) result cause states r = of-fault (text_fault.BadOrder n) result (text-reportable (text_fault.BadOrder n)).1 states r

@@ -47,8 +47,10 @@ pub quarters-failed : (given : Result JointText BooksFault) (before after : Opti
 quarters-failed (Ok printed) before after result r e =
     absurd (other-text status.ReadFault (λ f. absurd (cc f)) (λ f. absurd (cc f)) _ _ before after result (no-market printed.published status.ReadFault (λ f. absurd (cc f)) (λ f. absurd (cc f))) r e)
 quarters-failed (Err (why.Fetch n fetch.Failed)) before after result r e = refl
-quarters-failed (Err (why.Fetch n fetch.Missing)) before after result r e = absurd (other-text status.ReadFault (λ f. absurd (cc f)) (λ f. absurd (cc f)) _ _ before after result (λ f. absurd (cc f)) r e)
-quarters-failed (Err (why.Fetch n fetch.TooLong)) before after result r e = absurd (other-text status.ReadFault (λ f. absurd (cc f)) (λ f. absurd (cc f)) _ _ before after result (λ f. absurd (cc f)) r e)
+quarters-failed (Err (why.Fetch n fetch.Missing)) before after result r e =
+    absurd (other-text status.ReadFault (λ f. absurd (cc f)) (λ f. absurd (cc f)) _ _ before after result (λ f. absurd (cc f)) r e)
+quarters-failed (Err (why.Fetch n fetch.TooLong)) before after result r e =
+    absurd (other-text status.ReadFault (λ f. absurd (cc f)) (λ f. absurd (cc f)) _ _ before after result (λ f. absurd (cc f)) r e)
 quarters-failed (Err (why.Fetch n fetch.Memory)) before after result r e = let f = sym r.0 ∙ e in absurd (cc f)
 quarters-failed (Err (why.Refused refusal)) before after result r e = absurd (other-text status.ReadFault (λ f. absurd (cc f)) (λ f. absurd (cc f)) _ _ before after result (λ f. absurd (cc f)) r e)
 quarters-failed (Err why.Memory) before after result r e = let f = sym r.0 ∙ e in absurd (cc f)
@@ -57,9 +59,11 @@ pub quarters-missing : (given : Result JointText BooksFault) (before after : Opt
     → ReportsQuarters given before after result → result ≡ status.Missing → IsFetchFault fetch.Missing given
 quarters-missing (Ok printed) before after result r e =
     absurd (other-text status.Missing (λ f. absurd (cc f)) (λ f. absurd (cc f)) _ _ before after result (no-market printed.published status.Missing (λ f. absurd (cc f)) (λ f. absurd (cc f))) r e)
-quarters-missing (Err (why.Fetch n fetch.Failed)) before after result r e = absurd (other-text status.Missing (λ f. absurd (cc f)) (λ f. absurd (cc f)) _ _ before after result (λ f. absurd (cc f)) r e)
+quarters-missing (Err (why.Fetch n fetch.Failed)) before after result r e =
+    absurd (other-text status.Missing (λ f. absurd (cc f)) (λ f. absurd (cc f)) _ _ before after result (λ f. absurd (cc f)) r e)
 quarters-missing (Err (why.Fetch n fetch.Missing)) before after result r e = refl
-quarters-missing (Err (why.Fetch n fetch.TooLong)) before after result r e = absurd (other-text status.Missing (λ f. absurd (cc f)) (λ f. absurd (cc f)) _ _ before after result (λ f. absurd (cc f)) r e)
+quarters-missing (Err (why.Fetch n fetch.TooLong)) before after result r e =
+    absurd (other-text status.Missing (λ f. absurd (cc f)) (λ f. absurd (cc f)) _ _ before after result (λ f. absurd (cc f)) r e)
 quarters-missing (Err (why.Fetch n fetch.Memory)) before after result r e = let f = sym r.0 ∙ e in absurd (cc f)
 quarters-missing (Err (why.Refused refusal)) before after result r e = absurd (other-text status.Missing (λ f. absurd (cc f)) (λ f. absurd (cc f)) _ _ before after result (λ f. absurd (cc f)) r e)
 quarters-missing (Err why.Memory) before after result r e = let f = sym r.0 ∙ e in absurd (cc f)
@@ -68,8 +72,10 @@ pub quarters-too-long : (given : Result JointText BooksFault) (before after : Op
     → ReportsQuarters given before after result → result ≡ status.TooLong → IsFetchFault fetch.TooLong given
 quarters-too-long (Ok printed) before after result r e =
     absurd (other-text status.TooLong (λ f. absurd (cc f)) (λ f. absurd (cc f)) _ _ before after result (no-market printed.published status.TooLong (λ f. absurd (cc f)) (λ f. absurd (cc f))) r e)
-quarters-too-long (Err (why.Fetch n fetch.Failed)) before after result r e = absurd (other-text status.TooLong (λ f. absurd (cc f)) (λ f. absurd (cc f)) _ _ before after result (λ f. absurd (cc f)) r e)
-quarters-too-long (Err (why.Fetch n fetch.Missing)) before after result r e = absurd (other-text status.TooLong (λ f. absurd (cc f)) (λ f. absurd (cc f)) _ _ before after result (λ f. absurd (cc f)) r e)
+quarters-too-long (Err (why.Fetch n fetch.Failed)) before after result r e =
+    absurd (other-text status.TooLong (λ f. absurd (cc f)) (λ f. absurd (cc f)) _ _ before after result (λ f. absurd (cc f)) r e)
+quarters-too-long (Err (why.Fetch n fetch.Missing)) before after result r e =
+    absurd (other-text status.TooLong (λ f. absurd (cc f)) (λ f. absurd (cc f)) _ _ before after result (λ f. absurd (cc f)) r e)
 quarters-too-long (Err (why.Fetch n fetch.TooLong)) before after result r e = refl
 quarters-too-long (Err (why.Fetch n fetch.Memory)) before after result r e = let f = sym r.0 ∙ e in absurd (cc f)
 quarters-too-long (Err (why.Refused refusal)) before after result r e = absurd (other-text status.TooLong (λ f. absurd (cc f)) (λ f. absurd (cc f)) _ _ before after result (λ f. absurd (cc f)) r e)
@@ -97,20 +103,25 @@ module _ (q : JointJob) (pages : Option Pages) (failed : Type 0) (before after :
   of-text : (published : Bool) (text : List ℕ) (result : Status) → WhereReported pages (λ reported. HasQuartersText reported (string_bytes q.folder) q.first q.last q.nodes published text)
       → Reports text (if published then status.Done else status.Unpublished) before after result → Ends result
   of-text true text result has r = of-report text status.Done result r (λ p reported t. record { text = text; has = has reported t; taken = p }) (λ reported t p. CutText true text (has reported t) p)
-  of-text false text result has r = of-report text status.Unpublished result r (λ p reported t. record { text = text; has = has reported t; taken = p }) (λ reported t p. CutText false text (has reported t) p)
+  of-text false text result has r =
+      of-report text status.Unpublished result r (λ p reported t. record { text = text; has = has reported t; taken = p })
+      (λ reported t p. CutText false text (has reported t) p)
 
   by-given : (given : Result JointText BooksFault) (result : Status)
       → WhereReported pages (λ reported. QuartersReport reported (string_bytes q.folder) q.first q.last q.nodes given)
       → NamesQuartersFile given → IsSayable given
       → (IsFetchFault fetch.Failed given → failed) → ReportsQuarters given before after result → Ends result
   by-given (Ok printed) result states file said cause r = of-text printed.published printed.text result states r
-  by-given (Err (why.Fetch n fetch.Failed)) result states file said cause r = of-report (file_line (codes "readfault") n) status.ReadFault result r (λ p. (n, file, p)) (λ reported t p. Fails (cause refl) n file p)
+  by-given (Err (why.Fetch n fetch.Failed)) result states file said cause r =
+      of-report (file_line (codes "readfault") n) status.ReadFault result r (λ p. (n, file, p)) (λ reported t p. Fails (cause refl) n file p)
   by-given (Err (why.Fetch n fetch.Missing)) result states file said cause r =
       of-report (file_line (codes "missing") n) status.Missing result r (λ p. record { file = n; named = file; lacks = states; taken = p }) (λ reported t p. Lacks n NotHeld (states reported t) p)
   by-given (Err (why.Fetch n fetch.TooLong)) result states file said cause r =
       of-report (file_line (codes "toolong") n) status.TooLong result r (λ p. record { file = n; named = file; lacks = states; taken = p }) (λ reported t p. Lacks n OverLimit (states reported t) p)
   by-given (Err (why.Fetch n fetch.Memory)) result states file said cause r = of-nothing result r.0 r.1
-  by-given (Err (why.Refused refusal)) result states file said cause r = of-report (refused_line refusal) (status.Refused refusal) result r (λ p. (states, file, said.1, p)) (λ reported t p. Refuses refusal (states reported t) p)
+  by-given (Err (why.Refused refusal)) result states file said cause r =
+      of-report (refused_line refusal) (status.Refused refusal) result r (λ p. (states, file, said.1, p))
+      (λ reported t p. Refuses refusal (states reported t) p)
   by-given (Err why.Memory) result states file said cause r = of-nothing result r.0 r.1
 
 -- the words ask for quarters, and this is what is reported of them
@@ -123,7 +134,9 @@ module _ (pages : Option Pages) (failed : Type 0) (before after : Option (List �
   blocks-answers : (folder : List ℕ) (first last nodes workers : ℕ) (o : Outcome) → IsOfWords (Some (Blocks folder first last nodes workers)) o → Reported pages late o before after result
       → AnswersOf (Some (Blocks folder first last nodes workers)) pages failed before after result
   blocks-answers folder first last nodes workers NoCommand words r = absurd (cc words)
-  blocks-answers folder first last nodes workers (Day job) words r = absurd (no_other (Some (Blocks folder first last nodes workers)) job.way words.0 job.nodes job.workers (Blocks folder first last nodes workers) words.1 refl refl)
+  blocks-answers folder first last nodes workers (Day job) words r =
+      absurd
+      (no_other (Some (Blocks folder first last nodes workers)) job.way words.0 job.nodes job.workers (Blocks folder first last nodes workers) words.1 refl refl)
   blocks-answers folder first last nodes workers (Feeds other) words r = absurd (cc words)
   blocks-answers folder first last nodes workers (Joins q) words r = of-quarters (Blocks folder first last nodes workers) q words r
   blocks-answers folder first last nodes workers (Values v) words r = absurd (let e = words.0.2 in cc e)
@@ -148,12 +161,26 @@ module _ (pages : Option Pages) (failed : Type 0) (before after : Option (List �
       → IsOfWords asked o → IsReportable o → (IsNoPage fetch.Failed o → failed)
       → Reported shown late o before after result → AnswersOf asked pages failed before after result
   answers-of None says words ready cause r = answers None pages failed before after (no-blocks None refl) shown same late later o result says words ready cause r
-  answers-of (Some (Clear folder nodes workers)) says words ready cause r = answers (Some (Clear folder nodes workers)) pages failed before after (no-blocks (Some (Clear folder nodes workers)) refl) shown same late later o result says words ready cause r
-  answers-of (Some (Check folder)) says words ready cause r = answers (Some (Check folder)) pages failed before after (no-blocks (Some (Check folder)) refl) shown same late later o result says words ready cause r
-  answers-of (Some (Generate number)) says words ready cause r = answers (Some (Generate number)) pages failed before after (no-blocks (Some (Generate number)) refl) shown same late later o result says words ready cause r
-  answers-of (Some (Migrate folder part)) says words ready cause r = answers (Some (Migrate folder part)) pages failed before after (no-blocks (Some (Migrate folder part)) refl) shown same late later o result says words ready cause r
-  answers-of (Some (Feed folder)) says words ready cause r = answers (Some (Feed folder)) pages failed before after (no-blocks (Some (Feed folder)) refl) shown same late later o result says words ready cause r
-  answers-of (Some (Split folder nodes workers)) says words ready cause r = answers (Some (Split folder nodes workers)) pages failed before after (no-blocks (Some (Split folder nodes workers)) refl) shown same late later o result says words ready cause r
-  answers-of (Some (Value folder more)) says words ready cause r = answers (Some (Value folder more)) pages failed before after (no-blocks (Some (Value folder more)) refl) shown same late later o result says words ready cause r
+  answers-of (Some (Clear folder nodes workers)) says words ready cause r =
+      answers (Some (Clear folder nodes workers)) pages failed before after (no-blocks (Some (Clear folder nodes workers)) refl) shown same late later
+      o result says words ready cause r
+  answers-of (Some (Check folder)) says words ready cause r =
+      answers (Some (Check folder)) pages failed before after (no-blocks (Some (Check folder)) refl) shown same late later o result says words ready
+      cause r
+  answers-of (Some (Generate number)) says words ready cause r =
+      answers (Some (Generate number)) pages failed before after (no-blocks (Some (Generate number)) refl) shown same late later o result says words
+      ready cause r
+  answers-of (Some (Migrate folder part)) says words ready cause r =
+      answers (Some (Migrate folder part)) pages failed before after (no-blocks (Some (Migrate folder part)) refl) shown same late later o result says
+      words ready cause r
+  answers-of (Some (Feed folder)) says words ready cause r =
+      answers (Some (Feed folder)) pages failed before after (no-blocks (Some (Feed folder)) refl) shown same late later o result says words ready
+      cause r
+  answers-of (Some (Split folder nodes workers)) says words ready cause r =
+      answers (Some (Split folder nodes workers)) pages failed before after (no-blocks (Some (Split folder nodes workers)) refl) shown same late later
+      o result says words ready cause r
+  answers-of (Some (Value folder more)) says words ready cause r =
+      answers (Some (Value folder more)) pages failed before after (no-blocks (Some (Value folder more)) refl) shown same late later o result says
+      words ready cause r
   answers-of (Some (Blocks folder first last nodes workers)) says words ready cause r =
       blocks-answers pages failed before after result late later folder first last nodes workers o words (subst (λ (ps : Option Pages). Reported ps late o before after result) same r)

@@ -98,7 +98,8 @@ module _ (asked : Option Asked) where
       → asked ≡ Some (Check folder) → HasBooks pages folder books → page_of pages (publication_path folder) ≡ page
       → CheckStates books page (Refused refusal) → IsRefused asked pages refusal
   checked-refused pages folder books refusal None c g h (f, reported, is) = absurd reported
-  checked-refused pages folder books refusal (Some page) c g h (f, reported, is) = refused-text page f (record { books = books; checked = publication pages folder books page c g h; reported = reported }) is
+  checked-refused pages folder books refusal (Some page) c g h (f, reported, is) =
+      refused-text page f (record { books = books; checked = publication pages folder books page c g h; reported = reported }) is
 
   pub refused-is : (pages : Pages) (refusal : Refusal) → Says asked pages (Refused refusal) → IsRefused asked pages refusal
   refused-is pages refusal (OfUsage e f) = absurd (cc)

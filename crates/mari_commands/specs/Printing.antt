@@ -12,7 +12,9 @@ use Rattle.mari_commands.specs.Refusals.{check_name}
 
 -- the line that states how the program is called
 unfoldable pub usage_line : List ℕ
-usage_line = codes "usage: mari clear FOLDER [--nodes N] [--workers K] | mari check FOLDER | mari generate NUMBER | mari migrate FOLDER borders | mari migrate FOLDER limits | mari feed FOLDER | mari split FOLDER [--nodes N] [--workers K] | mari blocks FOLDER FIRST LAST [--nodes N] [--workers K] | mari value FOLDER K\n"
+usage_line =
+    codes
+    "usage: mari clear FOLDER [--nodes N] [--workers K] | mari check FOLDER | mari generate NUMBER | mari migrate FOLDER borders | mari migrate FOLDER limits | mari feed FOLDER | mari split FOLDER [--nodes N] [--workers K] | mari blocks FOLDER FIRST LAST [--nodes N] [--workers K] | mari value FOLDER K\n"
 
 -- the word of a page that can't be had; there is none when out of memory
 abbrev pub page_word : Fetch → List ℕ

@@ -166,12 +166,18 @@ Answers asked pages failed before after Unpublished =
     ⊎ (AsksToSplit asked × WhereReported pages (λ reported. WroteSplit asked reported false before after))
 Answers asked pages failed before after Usage = (asked ≡ None) × (after ≡ then_took before usage_line)
 Answers asked pages failed before after (Refused refusal) =
-    AsksForPages asked × WhereReported pages (λ reported. IsRefused asked reported refusal) × TookLine asked pages refusal.file TookAll (IsRefusedEnd refusal) (refused_line refusal) before after × HasName refusal
-Answers asked pages failed before after ReadFault = AsksForPages asked × ((file : ℕ) × MayWant asked file × TookLine asked pages file TookFirst IsFailedEnd (file_line (page_word fetch.Failed) file) before after)
+    AsksForPages asked × WhereReported pages (λ reported. IsRefused asked reported refusal) × TookLine asked pages refusal.file TookAll
+    (IsRefusedEnd refusal) (refused_line refusal) before after × HasName refusal
+Answers asked pages failed before after ReadFault =
+    AsksForPages asked
+    × ((file : ℕ) × MayWant asked file × TookLine asked pages file TookFirst IsFailedEnd (file_line (page_word fetch.Failed) file) before after)
 Answers asked pages failed before after WriteFault = WhereReported pages (λ reported. IsCutOff asked reported failed before after) × TookFirstPart asked before after
-Answers asked pages failed before after Memory = WhereReported pages (λ reported. IsStarved asked reported before after) × ((after ≡ before) ⊎ (AsksToClear asked ⊎ (AsksForFeed asked ⊎ AsksToSplit asked)))
+Answers asked pages failed before after Memory =
+    WhereReported pages (λ reported. IsStarved asked reported before after)
+    × ((after ≡ before) ⊎ (AsksToClear asked ⊎ (AsksForFeed asked ⊎ AsksToSplit asked)))
 Answers asked pages failed before after (Invalid run fault) =
-    (AsksToCheck asked ⊎ AsksForValues asked) × WhereReported pages (λ reported. IsInvalid asked reported run fault) × TookLine asked pages PUBLICATION TookAll (IsInvalidEnd run fault) (invalid_line run fault) before after
+    (AsksToCheck asked ⊎ AsksForValues asked) × WhereReported pages (λ reported. IsInvalid asked reported run fault) × TookLine asked pages
+    PUBLICATION TookAll (IsInvalidEnd run fault) (invalid_line run fault) before after
 Answers asked pages failed before after Missing = AsksForPages asked × TookGapLine asked pages NotHeld before after
 Answers asked pages failed before after TooLong = AsksForPages asked × TookGapLine asked pages OverLimit before after
 

@@ -139,7 +139,9 @@ others_keep nodes x w may y n =
       | inr l ↦
           let there : y ≡ length (with_state s nodes x) + (y - length nodes) = omega arith in
           ap (children_of (grown_by nodes x w may)) there
-          ∙ option_of (grown_by nodes x w may) (length (with_state s nodes x) + (y - length nodes)) (slice_get (map new_node (child_words w may)) (y - length nodes)) (get_back (with_state s nodes x) (map new_node (child_words w may)) (y - length nodes))
+          ∙ option_of (grown_by nodes x w may) (length (with_state s nodes x) + (y - length nodes))
+          (slice_get (map new_node (child_words w may)) (y - length nodes))
+          (get_back (with_state s nodes x) (map new_node (child_words w may)) (y - length nodes))
           ∙ new_are_leaves (child_words w may) (y - length nodes)
           ∙ sym (past_none nodes y l)
     ]

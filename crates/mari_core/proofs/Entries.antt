@@ -200,7 +200,9 @@ branch_entry g x next w may items grows waits can kids fits is =
     }
 
 two_pushed : (s s' : List TreeNode) (a b a' b' : TreeNode) → s ≡ s' → a ≡ a' → b ≡ b' → (s ++ a ∷ []) ++ b ∷ [] ≡ s' ++ a' ∷ b' ∷ []
-two_pushed s s' a b a' b' e f h = append_assoc s (a ∷ []) (b ∷ []) ∙ ap (λ (ns : List TreeNode). ns ++ a ∷ b ∷ []) e ∙ ap (λ (n : TreeNode). s' ++ n ∷ b ∷ []) f ∙ ap (λ (n : TreeNode). s' ++ a' ∷ n ∷ []) h
+two_pushed s s' a b a' b' e f h =
+    append_assoc s (a ∷ []) (b ∷ []) ∙ ap (λ (ns : List TreeNode). ns ++ a ∷ b ∷ []) e ∙ ap (λ (n : TreeNode). s' ++ n ∷ b ∷ []) f ∙ ap
+    (λ (n : TreeNode). s' ++ a' ∷ n ∷ []) h
 
 one_pushed : (s s' : List TreeNode) (a a' : TreeNode) → s ≡ s' → a ≡ a' → s ++ a ∷ [] ≡ s' ++ a' ∷ []
 one_pushed s s' a a' e f = ap (λ (ns : List TreeNode). ns ++ a ∷ []) e ∙ ap (λ (n : TreeNode). s' ++ n ∷ []) f
@@ -213,7 +215,8 @@ pub both_pushed : (nodes reserved states : List TreeNode) (x first : ℕ) (opene
     → (states ++ new_node closed_word ∷ []) ++ new_node open_word ∷ [] ≡ with_state (branch_of (length nodes) (child_words w true)) nodes x ++ map new_node (child_words w true)
 both_pushed nodes reserved states x first opened w closed_word open_word same count made is f h =
     two_pushed states (with_state (branch_of (length nodes) (child_words w true)) nodes x) (new_node closed_word) (new_node open_word) (new_node (w ++ false ∷ [])) (new_node (w ++ true ∷ []))
-    (is ∙ ap (λ (ns : List TreeNode). with_state (Branched first opened) ns x) same ∙ ap (λ (o : Option ℕ). with_state (Branched first o) nodes x) made ∙ ap (λ (i : ℕ). with_state (Branched i (Some (i + 1))) nodes x) count) (ap new_node f) (ap new_node h)
+    (is ∙ ap (λ (ns : List TreeNode). with_state (Branched first opened) ns x) same ∙ ap (λ (o : Option ℕ). with_state (Branched first o) nodes x) made ∙ ap (λ (i : ℕ). with_state (Branched i (Some (i + 1))) nodes x) count)
+    (ap new_node f) (ap new_node h)
 
 pub closed_pushed : (nodes reserved states : List TreeNode) (x first : ℕ) (opened : Option ℕ) (w closed_word : List Bool)
     → reserved ≡ nodes → first ≡ length nodes → opened ≡ None → states ≡ with_state (Branched first opened) reserved x
@@ -221,7 +224,8 @@ pub closed_pushed : (nodes reserved states : List TreeNode) (x first : ℕ) (ope
     → states ++ new_node closed_word ∷ [] ≡ with_state (branch_of (length nodes) (child_words w false)) nodes x ++ map new_node (child_words w false)
 closed_pushed nodes reserved states x first opened w closed_word same count made is f =
     one_pushed states (with_state (branch_of (length nodes) (child_words w false)) nodes x) (new_node closed_word) (new_node (w ++ false ∷ []))
-    (is ∙ ap (λ (ns : List TreeNode). with_state (Branched first opened) ns x) same ∙ ap (λ (o : Option ℕ). with_state (Branched first o) nodes x) made ∙ ap (λ (i : ℕ). with_state (Branched i None) nodes x) count) (ap new_node f)
+    (is ∙ ap (λ (ns : List TreeNode). with_state (Branched first opened) ns x) same ∙ ap (λ (o : Option ℕ). with_state (Branched first o) nodes x) made ∙ ap (λ (i : ℕ). with_state (Branched i None) nodes x) count)
+    (ap new_node f)
 
 -- ---- reading a node
 

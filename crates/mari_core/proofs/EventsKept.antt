@@ -86,7 +86,8 @@ pub event_kept : (s : Machine) (e : Event) → KeepsFacts s → IsProper s e →
 event_kept s (Look k) h proper r = look_kept s k (changed (seeing s.incumbent) s.actors k) h refl
 event_kept s (Offer k attained) h proper r =
     let p = passes (slice_get s.actors k) None r in
-    offer_kept s k (max s.incumbent attained.welfare) attained (changed (offering (max s.incumbent attained.welfare) attained) s.actors k) h proper (slice_get_within s.actors k p.actor p.there) refl refl
+    offer_kept s k (max s.incumbent attained.welfare) attained (changed (offering (max s.incumbent attained.welfare) attained) s.actors k) h proper
+    (slice_get_within s.actors k p.actor p.there) refl refl
 event_kept s (Take k x) h proper r =
     let p = passes (slice_get s.actors k) (take_refused (state_at s.tree.nodes x)) r in
     entry_event s (TakeEntry k x) h (take_passes (state_at s.tree.nodes x) p.none) tt

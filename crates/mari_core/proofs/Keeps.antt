@@ -72,10 +72,14 @@ leaf_kept s g x n full k e was is holds crowded = record {
   nodes_are = subst (λ (ws : List (List Bool)). AreNodes g.market ws) (sym same) k.nodes_are;
   root = ap (λ (ws : List (List Bool)). slice_get ws 0) same ∙ k.root;
   within_budget = omega (arith, length-with_state s g.nodes x, k.within_budget);
-  have_children = all_changed (λ (j : TreeNode). HasChildren g.market (words_of g.nodes) j.word j.state) (λ (j : TreeNode). HasChildren g.market (words_of (with_state s g.nodes x)) j.word j.state) (in_state s) g.nodes x k.have_children
+  have_children =
+      all_changed (λ (j : TreeNode). HasChildren g.market (words_of g.nodes) j.word j.state)
+      (λ (j : TreeNode). HasChildren g.market (words_of (with_state s g.nodes x)) j.word j.state) (in_state s) g.nodes x k.have_children
       (λ y j d there h. subst (λ (ws : List (List Bool)). HasChildren g.market ws j.word j.state) (sym same) h)
       (λ j there h. children_of_leaf g.market (words_of (with_state s g.nodes x)) j.word s is);
-  have_parents = all_changed (λ (j : TreeNode). (j.word ≡ []) ⊎ HasParent g.nodes j.word) (λ (j : TreeNode). (j.word ≡ []) ⊎ HasParent (with_state s g.nodes x) j.word) (in_state s) g.nodes x k.have_parents
+  have_parents =
+      all_changed (λ (j : TreeNode). (j.word ≡ []) ⊎ HasParent g.nodes j.word)
+      (λ (j : TreeNode). (j.word ≡ []) ⊎ HasParent (with_state s g.nodes x) j.word) (in_state s) g.nodes x k.have_parents
       (λ y j d there h. parent_stays s g.nodes x n e was j.word h)
       (λ j there h. parent_stays s g.nodes x n e was j.word h);
   hold = all_changed (λ (j : TreeNode). HoldsAtCutoff g.market j.word j.state) (λ (j : TreeNode). HoldsAtCutoff g.market j.word j.state) (in_state s) g.nodes x k.hold

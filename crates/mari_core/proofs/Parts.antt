@@ -89,7 +89,8 @@ part_step : (m : Market) (nodes : List TreeNode) (s : NodeState) (word : List Bo
     → ArePartsOfSearch m (word ∷ words) (part_item (Some s) ∷ items)
 part_step m nodes Untaken word words items n h a = (n, a)
 part_step m nodes (Taken k) word words items n h a = (n, a)
-part_step m nodes (Branched closed opened) word words items n h a = (n, h.0, subst (λ (ws : List (List Bool)). ArePartsOfSearch m (ws ++ words) items) (read_words nodes (child_numbers (Branched closed opened)) (children m.gates word) h.1) a)
+part_step m nodes (Branched closed opened) word words items n h a =
+    (n, h.0, subst (λ (ws : List (List Bool)). ArePartsOfSearch m (ws ++ words) items) (read_words nodes (child_numbers (Branched closed opened)) (children m.gates word) h.1) a)
 part_step m nodes (Closed leaf cutoff) word words items n h a = (n, a)
 
 walk_parts : (g : Grown) → IsGrowth g → (waiting ns : List ℕ) → AreWithin g.nodes ns → IsWalk g.nodes waiting ns
@@ -142,7 +143,9 @@ leaf_later : (m : Market) (nodes : List TreeNode) (s : NodeState) (word : List B
     → Contains (leaves_of m (word ∷ words) (part_item (Some s) ∷ items)) leaf
 leaf_later m nodes Untaken word words items leaf h c = contains_tail leaf word (leaves_of m words items) c
 leaf_later m nodes (Taken k) word words items leaf h c = contains_tail leaf word (leaves_of m words items) c
-leaf_later m nodes (Branched closed opened) word words items leaf h c = subst (λ (ws : List (List Bool)). Contains (leaves_of m (ws ++ words) items) leaf) (read_words nodes (child_numbers (Branched closed opened)) (children m.gates word) h.1) c
+leaf_later m nodes (Branched closed opened) word words items leaf h c =
+    subst (λ (ws : List (List Bool)). Contains (leaves_of m (ws ++ words) items) leaf)
+    (read_words nodes (child_numbers (Branched closed opened)) (children m.gates word) h.1) c
 leaf_later m nodes (Closed l cutoff) word words items leaf h c = contains_tail leaf word (leaves_of m words items) c
 
 walk_leaf : (g : Grown) → IsGrowth g → (z : ℕ) (n : TreeNode) → slice_get g.nodes z ≡ Some n
@@ -199,7 +202,8 @@ tree_step : (m : Market) (nodes : List TreeNode) (cutoff : ℕ) (s : NodeState) 
     → AreParts m (LeafHolds m (pos cutoff)) (word ∷ words) (tree_item (Some s) ∷ items)
 tree_step m nodes cutoff Untaken word words items c h l d a = absurd (cc)
 tree_step m nodes cutoff (Taken k) word words items c h l d a = absurd (cc)
-tree_step m nodes cutoff (Branched closed opened) word words items c h l d a = (h.0, subst (λ (ws : List (List Bool)). AreParts m (LeafHolds m (pos cutoff)) (ws ++ words) items) (read_words nodes (child_numbers (Branched closed opened)) (children m.gates word) h.1) a)
+tree_step m nodes cutoff (Branched closed opened) word words items c h l d a =
+    (h.0, subst (λ (ws : List (List Bool)). AreParts m (LeafHolds m (pos cutoff)) (ws ++ words) items) (read_words nodes (child_numbers (Branched closed opened)) (children m.gates word) h.1) a)
 tree_step m nodes cutoff (Closed leaf own) word words items c h l d a = ((parts_rise m (pos own) (pos cutoff) (omega (arith, ints, c)) (word ∷ []) (Leaf leaf ∷ []) (l, tt)).0, a)
 
 walk_tree : (g : Grown) (cutoff : ℕ) → IsGrowth g → AreCutAt cutoff g.nodes → (waiting ns : List ℕ)

@@ -53,7 +53,9 @@ seed_waits = record { within = omega arith; none_before = λ y l. absurd (omega 
 -- the growth of one node, however its word is written
 pub seed_by : (m : Market) (budget : ℕ) (word : List Bool) → word ≡ [] → IsValid m → IsBudget budget
     → IsGrowth (record { market = m; budget = budget; nodes = new_node word ∷ []; full = false }) × IsNext (new_node word ∷ []) 0
-seed_by m budget word e v b = subst (λ (w : List Bool). IsGrowth (record { market = m; budget = budget; nodes = new_node w ∷ []; full = false }) × IsNext (new_node w ∷ []) 0) (sym e) (seed_grows m budget v b, seed_waits)
+seed_by m budget word e v b =
+    subst (λ (w : List Bool). IsGrowth (record { market = m; budget = budget; nodes = new_node w ∷ []; full = false }) × IsNext (new_node w ∷ []) 0)
+    (sym e) (seed_grows m budget v b, seed_waits)
 
 -- ---- a search tree that is larger than the budget
 

@@ -37,7 +37,9 @@ module _ (books : Books) (budget run : ℕ) (made : RunMarket) (also : Option (L
 
   -- the amounts of all providers are those of the block's activation at its prices
   pub same_amounts : IsPriced books made also clearing priced → priced.ledger.providers ≡ amounts_of books made also b
-  same_amounts p = p.providers ∙ sym (same2 (λ x ps. provider_amounts books.bids made.bids x ps (scheduled_or ps also)) clearing.activation (activation_of b) priced.pricing.published.cents (prices_of b) same_activation is.zones.prices)
+  same_amounts p =
+      p.providers ∙ sym
+      (same2 (λ x ps. provider_amounts books.bids made.bids x ps (scheduled_or ps also)) clearing.activation (activation_of b) priced.pricing.published.cents (prices_of b) same_activation is.zones.prices)
 
   pub reported : IsPriced books made also clearing priced → length clearing.activation.mw ≡ length made.bids + made.demands → IsReportedOf books run made also clearing b
   reported p long =

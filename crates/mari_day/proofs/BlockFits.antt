@@ -109,7 +109,8 @@ module _ (books : Books) (ok : IsAccepted books) (dated : IsDated books) (budget
   operators-fit =
       let many = along-length money_line books.zones.operators priced.ledger.operators shapes.operators in
       let some : 0 < length books.zones.operators = omega (arith, ok.zones.operators_there.there 0 0 (omega (arith, ok.zones.operators_there.one_each, ok.zones.some))) in
-      rw is.ledger.operators ((omega (arith, many, some), omega (arith, many, ok.zones.few_operators)), lines-fit books.zones.operators priced.ledger.operators ok.zones.operators (halves priced.ledger.operators p.balanced.small.operators))
+      rw is.ledger.operators
+      ((omega (arith, many, some), omega (arith, many, ok.zones.few_operators)), lines-fit books.zones.operators priced.ledger.operators ok.zones.operators (halves priced.ledger.operators p.balanced.small.operators))
 
   amount-fits : (place : ℕ) → place < length books.bids.providers → IsAmountLine (amount_line books.bids.providers priced.ledger.providers place)
   amount-fits place l = (ok.bids.providers place [] l, money (slice_index_or priced.ledger.providers place nothing) (p.balanced.small.providers place nothing (omega (arith, shapes.providers))))

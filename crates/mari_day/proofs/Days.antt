@@ -76,7 +76,9 @@ module _ (books : Books) (ok : IsAccepted books) (dated : IsDated books) where
   module _ (blocks : List Block) (ledger : Ledger) (sums : AreTotals books blocks ledger) (few : length blocks ≤ 1000) where
     -- so that the lines of operators can be made
     pub sums-halves : All IsHalf ledger.operators
-    sums-halves = All-weaker (LineIsWithin (length blocks * most_of_operator)) IsHalf (λ l s. record { payment = omega (arith, few, s.payment); rent = omega (arith, few, s.rent) }) ledger.operators sums.operators_within
+    sums-halves =
+        All-weaker (LineIsWithin (length blocks * most_of_operator)) IsHalf
+        (λ l s. record { payment = omega (arith, few, s.payment); rent = omega (arith, few, s.rent) }) ledger.operators sums.operators_within
 
     pub operators-fit : Listed 1 64 IsMoneyLine (money_lines_of books.zones.operators ledger.operators)
     operators-fit =

@@ -71,7 +71,8 @@ module _ (d z b i l r m : List ℕ) (rest : List (List ℕ)) where
   -- the books of the pages with the two in place
   again : (day : CalendarDay) (zones : ZoneBook) (own : BorderBook) (bids : BidBook) (links : LinkBook) (runs : RunBook) (demands : DemandBook) (stated : Option (List (List BorderLimits)))
       → of_file Day (calendar_day_in d) ≡ Ok day → of_file Zones (book_in zone_grammar z) ≡ Ok zones → of_file Bids (book_in (bid_grammar zones day.quarters) i) ≡ Ok bids
-      → of_file Links (book_in (link_grammar bids) l) ≡ Ok links → of_file Runs (book_in (run_grammar day.quarters) r) ≡ Ok runs → of_file Demands (book_in (demand_grammar zones (length runs.runs)) m) ≡ Ok demands
+      → of_file Links (book_in (link_grammar bids) l) ≡ Ok links → of_file Runs (book_in (run_grammar day.quarters) r) ≡ Ok runs → of_file Demands
+      (book_in (demand_grammar zones (length runs.runs)) m) ≡ Ok demands
       → (borders : BorderBook) (limits : List (List BorderLimits)) → AreRead (books-of day zones own bids links runs demands stated) borders limits
       → books_at (new-texts (books-of day zones own bids links runs demands stated)) ≡ Ok (with_limits (books-of day zones own bids links runs demands stated) borders limits)
   unfolding books_at
@@ -216,7 +217,8 @@ module _ (folder : List ℕ) (before after : Pages) (books : Books) (is : IsMigr
       let runs = one here Runs (Demands ∷ more) links.more links.rest in
       let demands = one here Demands more runs.more runs.rest in
       let are : texts ≡ day.text ∷ zones.text ∷ own.text ∷ bids.text ∷ links.text ∷ runs.text ∷ demands.text ∷ demands.more = cc (day.are, zones.are, own.are, bids.are, links.are, runs.are, demands.are) in
-      gives-books day.text zones.text own.text bids.text links.text runs.text demands.text demands.more more day.held zones.held bids.held links.held runs.held demands.held none (ap books_at (sym are) ∙ first)
+      gives-books day.text zones.text own.text bids.text links.text runs.text demands.text demands.more more day.held zones.held bids.held links.held
+      runs.held demands.held none (ap books_at (sym are) ∙ first)
 
   pub folder-read : HasBooks before folder books → HasBooks after folder (with_limits books borders limits)
   folder-read h =

@@ -167,7 +167,8 @@ closing-text p operators providers published unpublished e f g h =
 
 -- what writing them comes to
 pub closes-by : (books : Books) (budget : ℕ) (blocks : List Block) (before after : Option (List ℕ)) (text : List ℕ) (r : Result (Unit {0}) Stop) → OnOk r (after ≡ then_took before text)
-    → OnErr r ((n : ℕ) × (after ≡ then_took before (take n text))) → IfErr r (λ stop. stop ≡ Sink) → (p : Publication) → IsDayOf books budget blocks p → text ≡ total_text_of p → Closes books budget blocks before after r
+    → OnErr r ((n : ℕ) × (after ≡ then_took before (take n text))) → IfErr r (λ stop. stop ≡ Sink) → (p : Publication) → IsDayOf books budget blocks p
+    → text ≡ total_text_of p → Closes books budget blocks before after r
 closes-by books budget blocks before after text (Ok u) ok err e p is t = (p, is, ok ∙ ap (then_took before) t)
 closes-by books budget blocks before after text (Err Sink) ok err e p is t = (p, is, (err.0, err.1 ∙ ap (λ x. then_took before (take err.0 x)) t))
 closes-by books budget blocks before after text (Err NoMemory) ok err e p is t = cc e

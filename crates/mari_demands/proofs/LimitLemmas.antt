@@ -144,7 +144,8 @@ module _ (zones : ZoneBook) (borders : BorderBook) (runs : ℕ) where
               sym (sym (mod-mul-add run count border b) ∙ ap (λ n. n % count) e ∙ mod-mul-add (run_at runs line - 1) count (border_at zones borders line) is.border)
 
           by : ((run_at runs line == run + 1) ≡ true) × (run_at runs line ≡ run + 1) ⊎ ((run_at runs line == run + 1) ≡ false) × (run_at runs line ≢ run + 1)
-              → ((border_at zones borders line == border) ≡ true) × (border_at zones borders line ≡ border) ⊎ ((border_at zones borders line == border) ≡ false) × (border_at zones borders line ≢ border)
+              → ((border_at zones borders line == border) ≡ true) × (border_at zones borders line ≡ border)
+              ⊎ ((border_at zones borders line == border) ≡ false) × (border_at zones borders line ≢ border)
               → Goal
           by (inl a) (inl d) =
               let e : run ≡ run_at runs line - 1 = omega (arith, a.1) in

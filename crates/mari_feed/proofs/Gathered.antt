@@ -75,7 +75,9 @@ module _ {X : Type 0} (R : X → Type 0) (f : X → Data) where
   pub item_unread : (least most : ℕ) (vs : List Value) (i : ℕ) (v : Value) (d : Data) (e : FeedFault) (result : Result (List X) FeedFault)
       → i < length vs → v ≡ get_or vs i v → Some (items_view vs) ≡ as_array d
       → HandedOn e result → Reads R f (view v) (Err e) → Reads (Listed least most R) (list_of f) d result
-  item_unread least most vs i v d e result lt at is handed none = handed_on R f (view v) (Listed least most R) (list_of f) d e result handed none (λ ys r same. at_value vs i v ys lt at r.1 (same_values vs d ys is same))
+  item_unread least most vs i v d e result lt at is handed none =
+      handed_on R f (view v) (Listed least most R) (list_of f) d e result handed none
+      (λ ys r same. at_value vs i v ys lt at r.1 (same_values vs d ys is same))
 
   -- all were read
   pub all_read : (least most : ℕ) (xs : List X) (vs : List Value) (i : ℕ) (d : Data) → length vs ≤ i

@@ -61,7 +61,8 @@ module _ {X : Type 0} (f : X → Data) (xs : List X) (i : ℕ) (x : X) (lt : i <
         let not_empty : map f (take i xs) ≡ [] → ⊥ = λ n. let none = ap length n in omega (arith, none, long, above) in
         let t = 44 ∷ compact_text (f x) in
         e ∙ ap (λ (s : List ℕ). s ++ compact_text (f x)) c ∙ append_assoc before (44 ∷ []) (compact_text (f x)) ∙ ap (λ (s : List ℕ). s ++ t) begun
-        ∙ append_assoc old (91 ∷ joined (map f (take i xs))) t ∙ ap (λ (s : List ℕ). old ++ 91 ∷ s) (sym (joined_more (map f (take i xs)) (f x) not_empty)) ∙ ap (λ (ds : List Data). old ++ 91 ∷ joined ds) (sym next)
+        ∙ append_assoc old (91 ∷ joined (map f (take i xs))) t ∙ ap (λ (s : List ℕ). old ++ 91 ∷ s)
+        (sym (joined_more (map f (take i xs)) (f x) not_empty)) ∙ ap (λ (ds : List Data). old ++ 91 ∷ joined ds) (sym next)
 
 pub all_items : {X R E : Type 0} (r : Result R E) (f : X → Data) (xs : List X) (i : ℕ) (old before after : List ℕ)
     → length xs ≤ i → before ≡ old ++ 91 ∷ joined (map f (take i xs)) → OnOk r (after ≡ before ++ 93 ∷ [])

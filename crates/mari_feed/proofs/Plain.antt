@@ -133,7 +133,9 @@ mutual
 
   items_line : (later : Bool) (ds : Items) → ArePlain ds → IsLine (items_text later ds)
   items_line later no_items h = refl
-  items_line later (item d ds) h = both (comma_if later) (compact_text d ++ items_text true ds) (comma_line later) (both (compact_text d) (items_text true ds) (text_line d h.0) (items_line true ds h.1))
+  items_line later (item d ds) h =
+      both (comma_if later) (compact_text d ++ items_text true ds) (comma_line later)
+      (both (compact_text d) (items_text true ds) (text_line d h.0) (items_line true ds h.1))
 
   members_line : (later : Bool) (before ms : Members) → PlainAfter before ms → IsLine (members_text later ms)
   members_line later before no_members h = refl
@@ -243,5 +245,6 @@ pub read_plain : (d : Data) → IsPlain d → depth d ≤ max_depth → read (co
 read_plain d h shallow =
     let j = outline d in
     let same : tokens (compact_text d) ≡ tree.json_tokens j = ap tokens (sym (print-outline d)) ∙ tokens-print (tree.json_tokens j) (ArePrintable-json_tokens j (numbers d h)) in
-    ap (λ r. option_and_then of_json (option_and_then (λ p. json.if_last p.0 p.1) r)) (ap (json.value max_depth) (same ∙ sym (append-nil (tree.json_tokens j))) ∙ value-json_tokens j max_depth [] (omega (arith, same_depth d, shallow)))
+    ap (λ r. option_and_then of_json (option_and_then (λ p. json.if_last p.0 p.1) r))
+    (ap (json.value max_depth) (same ∙ sym (append-nil (tree.json_tokens j))) ∙ value-json_tokens j max_depth [] (omega (arith, same_depth d, shallow)))
     ∙ value_back d h

@@ -85,13 +85,18 @@ abbrev made_zone : List ℕ → Cents → Cents → Cents → ℕ → ZoneLine
 made_zone x0 x1 x2 x3 x4 = record { name = x0; price = x1; least = x2; greatest = x3; area = x4 }
 
 alike_zone : (g h : ZoneLine) → g.name ≡ h.name → g.price ≡ h.price → g.least ≡ h.least → g.greatest ≡ h.greatest → g.area ≡ h.area → g ≡ h
-alike_zone g h e0 e1 e2 e3 e4 = ap (λ (x : List ℕ). made_zone x g.price g.least g.greatest g.area) e0 ∙ ap (λ (x : Cents). made_zone h.name x g.least g.greatest g.area) e1 ∙ ap (λ (x : Cents). made_zone h.name h.price x g.greatest g.area) e2 ∙ ap (λ (x : Cents). made_zone h.name h.price h.least x g.area) e3 ∙ ap (λ (x : ℕ). made_zone h.name h.price h.least h.greatest x) e4
+alike_zone g h e0 e1 e2 e3 e4 =
+    ap (λ (x : List ℕ). made_zone x g.price g.least g.greatest g.area) e0 ∙ ap (λ (x : Cents). made_zone h.name x g.least g.greatest g.area) e1 ∙ ap
+    (λ (x : Cents). made_zone h.name h.price x g.greatest g.area) e2 ∙ ap (λ (x : Cents). made_zone h.name h.price h.least x g.area) e3 ∙ ap
+    (λ (x : ℕ). made_zone h.name h.price h.least h.greatest x) e4
 
 abbrev made_border : List ℕ → List ℕ → ℤ → Quarters → BorderLine
 made_border x0 x1 x2 x3 = record { from = x0; to = x1; flow = x2; rent = x3 }
 
 alike_border : (g h : BorderLine) → g.from ≡ h.from → g.to ≡ h.to → g.flow ≡ h.flow → g.rent ≡ h.rent → g ≡ h
-alike_border g h e0 e1 e2 e3 = ap (λ (x : List ℕ). made_border x g.to g.flow g.rent) e0 ∙ ap (λ (x : List ℕ). made_border h.from x g.flow g.rent) e1 ∙ ap (λ (x : ℤ). made_border h.from h.to x g.rent) e2 ∙ ap (λ (x : Quarters). made_border h.from h.to h.flow x) e3
+alike_border g h e0 e1 e2 e3 =
+    ap (λ (x : List ℕ). made_border x g.to g.flow g.rent) e0 ∙ ap (λ (x : List ℕ). made_border h.from x g.flow g.rent) e1 ∙ ap
+    (λ (x : ℤ). made_border h.from h.to x g.rent) e2 ∙ ap (λ (x : Quarters). made_border h.from h.to h.flow x) e3
 
 abbrev made_bid : List ℕ → ℕ → BidLine
 made_bid x0 x1 = record { id = x0; mw = x1 }
@@ -103,7 +108,9 @@ abbrev made_operator : List ℕ → Quarters → Quarters → Quarters → Money
 made_operator x0 x1 x2 x3 = record { name = x0; payment = x1; rent = x2; net = x3 }
 
 alike_operator : (g h : MoneyLine) → g.name ≡ h.name → g.payment ≡ h.payment → g.rent ≡ h.rent → g.net ≡ h.net → g ≡ h
-alike_operator g h e0 e1 e2 e3 = ap (λ (x : List ℕ). made_operator x g.payment g.rent g.net) e0 ∙ ap (λ (x : Quarters). made_operator h.name x g.rent g.net) e1 ∙ ap (λ (x : Quarters). made_operator h.name h.payment x g.net) e2 ∙ ap (λ (x : Quarters). made_operator h.name h.payment h.rent x) e3
+alike_operator g h e0 e1 e2 e3 =
+    ap (λ (x : List ℕ). made_operator x g.payment g.rent g.net) e0 ∙ ap (λ (x : Quarters). made_operator h.name x g.rent g.net) e1 ∙ ap
+    (λ (x : Quarters). made_operator h.name h.payment x g.net) e2 ∙ ap (λ (x : Quarters). made_operator h.name h.payment h.rent x) e3
 
 abbrev made_provider : List ℕ → Quarters → AmountLine
 made_provider x0 x1 = record { name = x0; amount = x1 }
@@ -127,7 +134,9 @@ abbrev made_conflict : List ℕ → Prices → Activation → Conflict
 made_conflict x0 x1 x2 = record { chain = x0; potentials = x1; activation = x2 }
 
 alike_conflict : (g h : Conflict) → g.chain ≡ h.chain → g.potentials ≡ h.potentials → g.activation ≡ h.activation → g ≡ h
-alike_conflict g h e0 e1 e2 = ap (λ (x : List ℕ). made_conflict x g.potentials g.activation) e0 ∙ ap (λ (x : Prices). made_conflict h.chain x g.activation) e1 ∙ ap (λ (x : Activation). made_conflict h.chain h.potentials x) e2
+alike_conflict g h e0 e1 e2 =
+    ap (λ (x : List ℕ). made_conflict x g.potentials g.activation) e0 ∙ ap (λ (x : Prices). made_conflict h.chain x g.activation) e1 ∙ ap
+    (λ (x : Activation). made_conflict h.chain h.potentials x) e2
 
 abbrev made_full : Heading → ℕ → List ZoneLine → List BorderLine → List BidLine → List ℕ → List TreeItem → List MoneyLine → List AmountLine → FullBlock
 made_full x0 x1 x2 x3 x4 x5 x6 x7 x8 = record { heading = x0; welfare = x1; zones = x2; borders = x3; bids = x4; demands = x5; tree = x6; operators = x7; providers = x8 }
@@ -135,7 +144,16 @@ made_full x0 x1 x2 x3 x4 x5 x6 x7 x8 = record { heading = x0; welfare = x1; zone
 alike_full : (g h : FullBlock) → g.heading ≡ h.heading → g.welfare ≡ h.welfare → g.zones ≡ h.zones
     → g.borders ≡ h.borders → g.bids ≡ h.bids → g.demands ≡ h.demands → g.tree ≡ h.tree → g.operators ≡ h.operators
     → g.providers ≡ h.providers → g ≡ h
-alike_full g h e0 e1 e2 e3 e4 e5 e6 e7 e8 = ap (λ (x : Heading). made_full x g.welfare g.zones g.borders g.bids g.demands g.tree g.operators g.providers) e0 ∙ ap (λ (x : ℕ). made_full h.heading x g.zones g.borders g.bids g.demands g.tree g.operators g.providers) e1 ∙ ap (λ (x : List ZoneLine). made_full h.heading h.welfare x g.borders g.bids g.demands g.tree g.operators g.providers) e2 ∙ ap (λ (x : List BorderLine). made_full h.heading h.welfare h.zones x g.bids g.demands g.tree g.operators g.providers) e3 ∙ ap (λ (x : List BidLine). made_full h.heading h.welfare h.zones h.borders x g.demands g.tree g.operators g.providers) e4 ∙ ap (λ (x : List ℕ). made_full h.heading h.welfare h.zones h.borders h.bids x g.tree g.operators g.providers) e5 ∙ ap (λ (x : List TreeItem). made_full h.heading h.welfare h.zones h.borders h.bids h.demands x g.operators g.providers) e6 ∙ ap (λ (x : List MoneyLine). made_full h.heading h.welfare h.zones h.borders h.bids h.demands h.tree x g.providers) e7 ∙ ap (λ (x : List AmountLine). made_full h.heading h.welfare h.zones h.borders h.bids h.demands h.tree h.operators x) e8
+alike_full g h e0 e1 e2 e3 e4 e5 e6 e7 e8 =
+    ap (λ (x : Heading). made_full x g.welfare g.zones g.borders g.bids g.demands g.tree g.operators g.providers) e0 ∙ ap
+    (λ (x : ℕ). made_full h.heading x g.zones g.borders g.bids g.demands g.tree g.operators g.providers) e1 ∙ ap
+    (λ (x : List ZoneLine). made_full h.heading h.welfare x g.borders g.bids g.demands g.tree g.operators g.providers) e2 ∙ ap
+    (λ (x : List BorderLine). made_full h.heading h.welfare h.zones x g.bids g.demands g.tree g.operators g.providers) e3 ∙ ap
+    (λ (x : List BidLine). made_full h.heading h.welfare h.zones h.borders x g.demands g.tree g.operators g.providers) e4 ∙ ap
+    (λ (x : List ℕ). made_full h.heading h.welfare h.zones h.borders h.bids x g.tree g.operators g.providers) e5 ∙ ap
+    (λ (x : List TreeItem). made_full h.heading h.welfare h.zones h.borders h.bids h.demands x g.operators g.providers) e6 ∙ ap
+    (λ (x : List MoneyLine). made_full h.heading h.welfare h.zones h.borders h.bids h.demands h.tree x g.providers) e7 ∙ ap
+    (λ (x : List AmountLine). made_full h.heading h.welfare h.zones h.borders h.bids h.demands h.tree h.operators x) e8
 
 -- ---- members
 

@@ -25,7 +25,9 @@ shallow_item : (x : TreeItem) → depth (item_value x) ≤ 2
 shallow_item item.Branch = omega arith
 shallow_item (item.Leaf (leaf.Bound p)) = omega (arith, numbers price_value (λ _. refl) p.cents)
 shallow_item (item.Leaf (leaf.Cut c)) = omega (arith, numbers zone_number (λ _. refl) c.zones)
-shallow_item (item.Leaf (leaf.Conflict c)) = omega (arith, numbers price_value (λ _. refl) c.potentials.cents, numbers zone_number (λ _. refl) c.chain, numbers whole (λ _. refl) c.activation.flow, numbers natural (λ _. refl) c.activation.mw)
+shallow_item (item.Leaf (leaf.Conflict c)) =
+    omega
+    (arith, numbers price_value (λ _. refl) c.potentials.cents, numbers zone_number (λ _. refl) c.chain, numbers whole (λ _. refl) c.activation.flow, numbers natural (λ _. refl) c.activation.mw)
 
 shallow_full : (b : FullBlock) → depth (full_value b) ≤ max_depth
 shallow_full b = omega (

@@ -158,4 +158,6 @@ children_read gates x n answer e = ap (λ (b : Bool). (decisions x n ++ false �
 
 -- a prefix with one decision more, and with one fewer
 pub word_more : (x y : Prefix) (opened : Bool) → y.length ≡ x.length + 1 → ((g : ℕ) → g < x.length → bit_of y g ≡ bit_of x g) → bit_of y x.length ≡ opened → word_of y ≡ word_of x ++ opened ∷ []
-word_more x y opened l e b = ap (decisions y) l ∙ decisions_more y x.length ∙ ap (λ (w : List Bool). w ++ bit_of y x.length ∷ []) (same_decisions x y x.length e) ∙ ap (λ (c : Bool). word_of x ++ c ∷ []) b
+word_more x y opened l e b =
+    ap (decisions y) l ∙ decisions_more y x.length ∙ ap (λ (w : List Bool). w ++ bit_of y x.length ∷ []) (same_decisions x y x.length e) ∙ ap
+    (λ (c : Bool). word_of x ++ c ∷ []) b

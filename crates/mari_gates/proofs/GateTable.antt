@@ -42,7 +42,8 @@ undecided_closed gates word up g d taken l e t = sym (undecided_read gates word 
 pub undecided_below : (gates : List GateInfo) (word : List Bool) (up : ℕ → GateState) (g : ℕ) (d : GateInfo) (taken : Bool) (answer : GateState)
     → g < length gates → taken ≡ is_taken (get_or gates g d).group gates word → taken ≡ false
     → answer ≡ below_parent up (get_or gates g d).parent → answer ≡ undecided gates word up g
-undecided_below gates word up g d taken answer l e t below = below ∙ sym (undecided_read gates word up g d taken l e ∙ ap (λ (b : Bool). if b then Closed else below_parent up (get_or gates g d).parent) t)
+undecided_below gates word up g d taken answer l e t below =
+    below ∙ sym (undecided_read gates word up g d taken l e ∙ ap (λ (b : Bool). if b then Closed else below_parent up (get_or gates g d).parent) t)
 
 -- a gate past the prefix is as its group and its parent leave it
 pub state_past : (gates : List GateInfo) (x : Prefix) (states : List TableState) (g : ℕ) → ParentsEarlier gates

@@ -25,7 +25,8 @@ waiting_push gates w b =
     let long : length (w ++ b ∷ []) ≡ suc (length w) = omega (arith, length-append w (b ∷ [])) in
     ap (waiting gates (w ++ b ∷ [])) long
     ∙ ap (λ (c : Bool). (if c then [] else opened_child gates (take (length w) (w ++ b ∷ []))) ++ waiting gates (w ++ b ∷ []) (length w)) (opens_past w b)
-    ∙ ap (λ (u : List Bool). (if b then [] else opened_child gates u) ++ waiting gates (w ++ b ∷ []) (length w)) (take-append-le (length w) w (b ∷ []) (omega arith) ∙ take_all (length w) w (omega arith))
+    ∙ ap (λ (u : List Bool). (if b then [] else opened_child gates u) ++ waiting gates (w ++ b ∷ []) (length w))
+    (take-append-le (length w) w (b ∷ []) (omega arith) ∙ take_all (length w) w (omega arith))
     ∙ ap (λ (ws : List (List Bool)). (if b then [] else opened_child gates w) ++ ws) (waiting_front gates w (b ∷ []) (length w) (omega arith))
 
 same_tail : (w : List Bool) (xs ys : List (List Bool)) → (w ∷ xs) ≡ (w ∷ ys) → xs ≡ ys
@@ -74,7 +75,8 @@ pub waiting_sibling : (gates : List GateInfo) (x y z : Prefix) (b : Bool) → wo
 waiting_sibling gates x y z b e closed may child =
     ap (λ (w : List Bool). w ∷ waiting_after gates w) child
     ∙ ap (λ (ws : List (List Bool)). (word_of y ++ true ∷ []) ∷ ws) (waiting_push gates (word_of y) true)
-    ∙ sym (ap (waiting_after gates) e ∙ waiting_push gates (word_of y) b ∙ ap (λ (c : Bool). (if c then [] else opened_child gates (word_of y)) ++ waiting_after gates (word_of y)) closed ∙ ap (λ (ws : List (List Bool)). ws ++ waiting_after gates (word_of y)) may)
+    ∙ sym
+    (ap (waiting_after gates) e ∙ waiting_push gates (word_of y) b ∙ ap (λ (c : Bool). (if c then [] else opened_child gates (word_of y)) ++ waiting_after gates (word_of y)) closed ∙ ap (λ (ws : List (List Bool)). ws ++ waiting_after gates (word_of y)) may)
 
 -- the first child of a branch, and what is left after it
 pub first_child : (gates : List GateInfo) (x y : Prefix) → word_of y ≡ word_of x ++ false ∷ [] → left_at gates (Some y) ≡ children gates (word_of x) ++ waiting_after gates (word_of x)

@@ -105,7 +105,8 @@ pub cleared_more : (budget : ℕ) (islands : List Island) (clearings news : List
     → AllZip (IsClearedBy budget) (take (place + 1) islands) news
 cleared_more budget islands clearings news place i c l is so_far here pushed =
     let more : take (place + 1) islands ≡ take place islands ++ i ∷ [] = take_more islands place i l ∙ ap (λ (j : Island). take place islands ++ j ∷ []) (sym is) in
-    subst (λ (xs : List Island). AllZip (IsClearedBy budget) xs news) (sym more) (subst (AllZip (IsClearedBy budget) (take place islands ++ i ∷ [])) (sym pushed) (all_zipped_more (IsClearedBy budget) (take place islands) clearings i c so_far here))
+    subst (λ (xs : List Island). AllZip (IsClearedBy budget) xs news) (sym more)
+    (subst (AllZip (IsClearedBy budget) (take place islands ++ i ∷ [])) (sym pushed) (all_zipped_more (IsClearedBy budget) (take place islands) clearings i c so_far here))
 
 pub all_cleared : (budget : ℕ) (islands : List Island) (clearings given : List Clearing) (place : ℕ)
     → length islands ≤ place → AllZip (IsClearedBy budget) (take place islands) clearings → given ≡ clearings

@@ -60,12 +60,16 @@ module _ (m : Market) (first : ℕ → ℕ) (f : ℕ) (v : IsValid m) (s : Split
 
   pub order_to : (o : Order) (q : ℕ) → Contains m.orders o → first o.zone ≡ f → IsConsistentOrder (is_open m a) ps o q
       → IsConsistentOrder (is_open (island_of m first f) (own_of m first f a)) qs (order_among (zones_of m first f) (gates_of m first f) o) q
-  order_to o q h e k = subst (λ (t : Standing). Trade o q t (price_at qs (place_of (zones_of m first f) o.zone))) (sym (standing_same o h e)) (subst (Trade o q (standing_of (is_open m a) o.gate)) (sym (price_same o h e)) k)
+  order_to o q h e k =
+      subst (λ (t : Standing). Trade o q t (price_at qs (place_of (zones_of m first f) o.zone))) (sym (standing_same o h e))
+      (subst (Trade o q (standing_of (is_open m a) o.gate)) (sym (price_same o h e)) k)
 
   pub order_from : (o : Order) (q : ℕ) → Contains m.orders o → first o.zone ≡ f
       → IsConsistentOrder (is_open (island_of m first f) (own_of m first f a)) qs (order_among (zones_of m first f) (gates_of m first f) o) q
       → IsConsistentOrder (is_open m a) ps o q
-  order_from o q h e k = subst (Trade o q (standing_of (is_open m a) o.gate)) (price_same o h e) (subst (λ (t : Standing). Trade o q t (price_at qs (place_of (zones_of m first f) o.zone))) (standing_same o h e) k)
+  order_from o q h e k =
+      subst (Trade o q (standing_of (is_open m a) o.gate)) (price_same o h e)
+      (subst (λ (t : Standing). Trade o q t (price_at qs (place_of (zones_of m first f) o.zone))) (standing_same o h e) k)
 
   pub border_to : (b : Border) (q : ℤ) → IsValidBorder m.zones b → first b.from ≡ f → first b.to ≡ f → IsConsistentBorder ps b q → IsConsistentBorder qs (border_among (zones_of m first f) b) q
   border_to b q valid d e k =
@@ -111,7 +115,10 @@ module _ (m : Market) (first : ℕ → ℕ) (f : ℕ) (v : IsValid m) (s : Split
   pub own_consistent : IsConsistent (island_of m first f) (own_of m first f a) (own_prices m first f ps)
   own_consistent = record {
     prices = record { one_each = length_own; capped = own_capped };
-    orders = all_beside (is_order_in (inside first f)) (order_among (zones_of m first f) (gates_of m first f)) (λ o q. Contains m.orders o × IsConsistentOrder (is_open m a) ps o q) (IsConsistentOrder (is_open (island_of m first f) (own_of m first f a)) (own_prices m first f ps))
+    orders =
+        all_beside (is_order_in (inside first f)) (order_among (zones_of m first f) (gates_of m first f))
+        (λ o q. Contains m.orders o × IsConsistentOrder (is_open m a) ps o q)
+        (IsConsistentOrder (is_open (island_of m first f) (own_of m first f a)) (own_prices m first f ps))
         (λ o q t h. order_to m first f v s a long ps (own_prices m first f ps) own_agree o q h.0 (eqb-true _ _ t) h.1)
         m.orders a.mw (AllZip-with (Contains m.orders) (IsConsistentOrder (is_open m a) ps) m.orders a.mw (All-contains_itself m.orders) k.orders);
     borders = all_beside (is_border_in (inside first f)) (border_among (zones_of m first f)) (λ b q. IsValidBorder m.zones b × IsConsistentBorder ps b q) (IsConsistentBorder (own_prices m first f ps))
@@ -187,7 +194,9 @@ module _ (m : Market) (first : ℕ → ℕ) (v : IsValid m) (s : Splits m first)
       subst IsCapped (sym (get_or-map-range_with_len joined_price 0 m.zones i i d less (omega arith))) (capped_at i less)
 
   AgreesThere : Zone m → Order → ℕ → Type 0
-  AgreesThere z o q = is_order_in (inside first (first z.0)) o ≡ true → IsConsistentOrder (is_open (island_of m first (first z.0)) (own_of m first (first z.0) a)) (of_island (first z.0)) (order_among (zones_of m first (first z.0)) (gates_of m first (first z.0)) o) q
+  AgreesThere z o q =
+      is_order_in (inside first (first z.0)) o ≡ true → IsConsistentOrder (is_open (island_of m first (first z.0)) (own_of m first (first z.0) a))
+      (of_island (first z.0)) (order_among (zones_of m first (first z.0)) (gates_of m first (first z.0)) o) q
 
   each_order : AllZip (λ o q. (z : Zone m) → AgreesThere z o q) m.orders a.mw
   unfolding AgreesThere
@@ -207,7 +216,9 @@ module _ (m : Market) (first : ℕ → ℕ) (v : IsValid m) (s : Splits m first)
 
   each_border : AllZip (λ b q. (z : Zone m) → FlowsThere z b q) m.borders a.flow
   unfolding FlowsThere
-  each_border = AllZip-each FlowsThere m.borders a.flow (sym long.borders) (λ z. from_beside (is_border_in (inside first (first z.0))) (border_among (zones_of m first (first z.0))) (IsConsistentBorder (of_island (first z.0))) m.borders a.flow long.borders (of_island_is z.0 z.1).borders)
+  each_border =
+      AllZip-each FlowsThere m.borders a.flow (sym long.borders)
+      (λ z. from_beside (is_border_in (inside first (first z.0))) (border_among (zones_of m first (first z.0))) (IsConsistentBorder (of_island (first z.0))) m.borders a.flow long.borders (of_island_is z.0 z.1).borders)
 
   -- over a border between two islands nothing can flow
   IsClosed : Border → ℤ → Type 0
@@ -232,7 +243,9 @@ module _ (m : Market) (first : ℕ → ℕ) (v : IsValid m) (s : Splits m first)
 
   borders_agree : AllZip (IsConsistentBorder joined_prices) m.borders a.flow
   borders_agree = AllZip-both (λ b q. IsValidBorder m.zones b × (IsClosed b q × IsStill first b q)) (λ b q. (z : Zone m) → FlowsThere z b q) (IsConsistentBorder joined_prices) border_agrees
-      m.borders a.flow (AllZip-with (IsValidBorder m.zones) (λ b q. IsClosed b q × IsStill first b q) m.borders a.flow v.borders (AllZip-both IsClosed (IsStill first) (λ b q. IsClosed b q × IsStill first b q) (λ b q c k. (c, k)) m.borders a.flow limits_closed still)) each_border
+      m.borders a.flow
+      (AllZip-with (IsValidBorder m.zones) (λ b q. IsClosed b q × IsStill first b q) m.borders a.flow v.borders (AllZip-both IsClosed (IsStill first) (λ b q. IsClosed b q × IsStill first b q) (λ b q c k. (c, k)) m.borders a.flow limits_closed still))
+      each_border
 
   -- what is admissible in each island is so in the whole
   pub whole_admissible : IsAdmissible m a

@@ -155,7 +155,9 @@ module _ (m : Market) (first : ℕ → ℕ) (f : ℕ) (v : IsValid m) (s : Split
 
   pub own_feasible : IsFeasible (island_of m first f) (own_of m first f a)
   own_feasible = record {
-    orders = all_beside (is_order_in (inside first f)) (order_among (zones_of m first f) (gates_of m first f)) (λ o q. Contains m.orders o × IsWithin (own_bounds m a o) q) (λ o q. IsWithin (own_bounds (island_of m first f) (own_of m first f a) o) q)
+    orders =
+        all_beside (is_order_in (inside first f)) (order_among (zones_of m first f) (gates_of m first f))
+        (λ o q. Contains m.orders o × IsWithin (own_bounds m a o) q) (λ o q. IsWithin (own_bounds (island_of m first f) (own_of m first f a) o) q)
         (λ o q t h. subst (λ (span : Span). IsWithin span q) (sym (bounds_same m first f v s a long o h.0 (eqb-true _ _ t))) h.1)
         m.orders a.mw (AllZip-with (Contains m.orders) (λ o q. IsWithin (own_bounds m a o) q) m.orders a.mw (All-contains_itself m.orders) fe.orders);
     gates = record { parents = parent_open; groups = one_of_group };

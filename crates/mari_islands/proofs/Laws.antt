@@ -118,7 +118,9 @@ module _ (m : Market) (islands : List Island) (v : IsValid m) (h : AreIslands m 
 
   -- what is feasible in the whole is so in each island
   pub islands_feasible : (a : Activation) → HasLengths m a → IsFeasible m a → All (λ (i : Island). IsFeasible i.market (activation_in i a)) islands
-  islands_feasible a long fe = all_islands (λ i. IsFeasible i.market (activation_in i a)) (λ f l e. subst (IsFeasible (island_of m first_of f)) (sym (own_is m first_of f a long)) (own_feasible m first_of f v are_split a fe))
+  islands_feasible a long fe =
+      all_islands (λ i. IsFeasible i.market (activation_in i a))
+      (λ f l e. subst (IsFeasible (island_of m first_of f)) (sym (own_is m first_of f a long)) (own_feasible m first_of f v are_split a fe))
 
   -- the welfare of the whole is the sum of that of the islands
   pub sum_of_islands : (a : Activation) → HasLengths m a → welfare_of m a ≡ int_sum (λ (i : Island). welfare_of i.market (activation_in i a)) islands
@@ -144,7 +146,9 @@ module _ (m : Market) (islands : List Island) (v : IsValid m) (h : AreIslands m 
   pub joined_still : (a : Activation) → HasLengths m a
       → ((k : ℕ) → k < length m.borders → All (λ (i : Island). Contains i.borders k → ⊥) islands → int_at a.flow k ≡ pos 0)
       → AllZip (IsStill first_of) m.borders a.flow
-  joined_still a long none = zip_from (IsStill first_of) m.borders a.flow long.borders (λ k d e l apart. get_or_default a.flow k e (pos 0) (omega (arith, l, long.borders)) ∙ none k l (between k d apart))
+  joined_still a long none =
+      zip_from (IsStill first_of) m.borders a.flow long.borders
+      (λ k d e l apart. get_or_default a.flow k e (pos 0) (omega (arith, l, long.borders)) ∙ none k l (between k d apart))
 
   -- first activations of the islands are together the first activation of the whole
   pub joined_first : (a : Activation) → HasLengths m a → AllZip (IsStill first_of) m.borders a.flow → All (λ (i : Island). IsFirst i.market (activation_in i a)) islands → IsFirst m a
@@ -156,7 +160,9 @@ module _ (m : Market) (islands : List Island) (v : IsValid m) (h : AreIslands m 
 
   -- what is admissible in the whole is so in each island
   pub islands_admissible : (a : Activation) → IsAdmissible m a → All (λ (i : Island). IsAdmissible i.market (activation_in i a)) islands
-  islands_admissible a adm = all_islands (λ i. IsAdmissible i.market (activation_in i a)) (λ f l e. subst (IsAdmissible (island_of m first_of f)) (sym (own_is m first_of f a (lengths_of a adm.feasible))) (own_admissible m first_of f v are_split a adm))
+  islands_admissible a adm =
+      all_islands (λ i. IsAdmissible i.market (activation_in i a))
+      (λ f l e. subst (IsAdmissible (island_of m first_of f)) (sym (own_is m first_of f a (lengths_of a adm.feasible))) (own_admissible m first_of f v are_split a adm))
 
   -- an admissible activation with a tree for each island that holds for what it is there is the first
   pub certified_first : (a : Activation) (trees : List (List TreeItem)) → AreCertified m islands a trees → IsFirst m a
@@ -166,4 +172,5 @@ module _ (m : Market) (islands : List Island) (v : IsValid m) (h : AreIslands m 
       let both = AllZip-both (λ (i : Island) (tree : List TreeItem). IsAdmissible i.market (activation_in i a)) (HoldsInIsland a) (λ (i : Island) (tree : List TreeItem). IsAdmissible i.market (activation_in i a) × HoldsInIsland a i tree) (λ i tree k h. (k, h)) islands trees adm c.hold in
       let firsts = AllZip-both (λ (i : Island) (tree : List TreeItem). IsValid i.market) (λ (i : Island) (tree : List TreeItem). IsAdmissible i.market (activation_in i a) × HoldsInIsland a i tree) (λ (i : Island) (tree : List TreeItem). IsFirst i.market (activation_in i a))
       (λ i tree k h. first_by_tree i.market (activation_in i a) tree k h.0 h.1) islands trees valid both in
-      joined_first a (lengths_of a c.admissible.feasible) (flows_still m first_of a are_split c.admissible.feasible) (all_first (λ (i : Island). IsFirst i.market (activation_in i a)) islands trees firsts)
+      joined_first a (lengths_of a c.admissible.feasible) (flows_still m first_of a are_split c.admissible.feasible)
+      (all_first (λ (i : Island). IsFirst i.market (activation_in i a)) islands trees firsts)

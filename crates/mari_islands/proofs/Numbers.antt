@@ -67,12 +67,14 @@ numbers_more p n = ap (filter p) (range_more 0 n ∙ ap (λ (k : ℕ). range_wit
 pub kept_more : (p : ℕ → Bool) (n : ℕ) (old new : List ℕ) → old ≡ filter p (range_with_len 0 n) → p n ≡ true → new ≡ old ++ n ∷ [] → new ≡ filter p (range_with_len 0 (n + 1))
 kept_more p n old new e t h =
     let one : suc n ≡ n + 1 = omega arith in
-    h ∙ ap (λ (xs : List ℕ). xs ++ n ∷ []) e ∙ ap (λ (xs : List ℕ). filter p (range_with_len 0 n) ++ xs) (sym (cond-true (p n) (n ∷ []) [] t)) ∙ sym (numbers_more p n) ∙ ap (λ (k : ℕ). filter p (range_with_len 0 k)) one
+    h ∙ ap (λ (xs : List ℕ). xs ++ n ∷ []) e ∙ ap (λ (xs : List ℕ). filter p (range_with_len 0 n) ++ xs) (sym (cond-true (p n) (n ∷ []) [] t)) ∙ sym
+    (numbers_more p n) ∙ ap (λ (k : ℕ). filter p (range_with_len 0 k)) one
 
 pub kept_same : (p : ℕ → Bool) (n : ℕ) (old : List ℕ) → old ≡ filter p (range_with_len 0 n) → p n ≡ false → old ≡ filter p (range_with_len 0 (n + 1))
 kept_same p n old e t =
     let one : suc n ≡ n + 1 = omega arith in
-    e ∙ sym (append-nil (filter p (range_with_len 0 n))) ∙ ap (λ (xs : List ℕ). filter p (range_with_len 0 n) ++ xs) (sym (cond-false (p n) (n ∷ []) [] t)) ∙ sym (numbers_more p n) ∙ ap (λ (k : ℕ). filter p (range_with_len 0 k)) one
+    e ∙ sym (append-nil (filter p (range_with_len 0 n))) ∙ ap (λ (xs : List ℕ). filter p (range_with_len 0 n) ++ xs)
+    (sym (cond-false (p n) (n ∷ []) [] t)) ∙ sym (numbers_more p n) ∙ ap (λ (k : ℕ). filter p (range_with_len 0 k)) one
 
 -- each number is below all later ones
 abbrev pub Rises : List ℕ → Type 0

@@ -82,4 +82,6 @@ module _ (m : Market) (first : ℕ → ℕ) (f : ℕ) (v : IsValid m) (s : Split
 
   -- a gate of the island is open there where it is open in the whole
   pub open_same : (a : Activation) → length a.mw ≡ length m.orders → (j g : ℕ) → IsGateAt m first f j g → is_open (island_of m first f) (own_of m first f a) j ≡ is_open m a g
-  open_same a l j g own = runs_beside (is_order_in (inside first f)) (order_among (zones_of m first f) (gates_of m first f)) g j m.orders a.mw l (λ k d less. alike j g own _ (All-contains_itself m.orders k d less))
+  open_same a l j g own =
+      runs_beside (is_order_in (inside first f)) (order_among (zones_of m first f) (gates_of m first f)) g j m.orders a.mw l
+      (λ k d less. alike j g own _ (All-contains_itself m.orders k d less))

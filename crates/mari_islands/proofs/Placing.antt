@@ -88,7 +88,8 @@ pub record AreDisjoint (i j : Island) : Type 0 where
 pairs_map : {X Y : Type 0} (f : X → Y) (R : Y → Y → Type 0) (xs : List X) (x : X) → AllPairs (λ a b. R (f a) (f b)) xs → AllPairs R (map f xs)
 pairs_map {X} {Y} f R xs x h = λ i j d l k.
     let long : j < length xs = omega (arith, k, length-map xs f) in
-    subst (λ (b : Y). R (get_or (map f xs) i d) b) (sym (get_or-map f xs j x d long)) (subst (λ (a : Y). R a (f (get_or xs j x))) (sym (get_or-map f xs i x d (omega (arith, l, long)))) (h i j x l long))
+    subst (λ (b : Y). R (get_or (map f xs) i d) b) (sym (get_or-map f xs j x d long))
+    (subst (λ (a : Y). R a (f (get_or xs j x))) (sym (get_or-map f xs i x d (omega (arith, l, long)))) (h i j x l long))
 
 module _ (m : Market) (islands : List Island) (v : IsValid m) (h : AreIslands m islands) where
   two_parts : (e f : ℕ) → e < f → AreDisjoint (part_at m islands v h e) (part_at m islands v h f)
@@ -165,6 +166,7 @@ module _ (m : Market) (islands : List Island) (v : IsValid m) (h : AreIslands m 
     apart = λ k none.
         let more = take_more islands i d l in
         let split : IsApart (take i islands ++ get_or islands i d ∷ []) k = subst (λ (is : List Island). IsApart is k) more none in
-        p.other_flow k (All-contains (λ (e : Island). Contains e.borders k → ⊥) (take i islands ++ get_or islands i d ∷ []) (get_or islands i d) split (Contains-push (take i islands) (get_or islands i d)))
+        p.other_flow k
+        (All-contains (λ (e : Island). Contains e.borders k → ⊥) (take i islands ++ get_or islands i d ∷ []) (get_or islands i d) split (Contains-push (take i islands) (get_or islands i d)))
         ∙ so_far.apart k (λ j e less. All-contains (λ (e : Island). Contains e.borders k → ⊥) (take i islands ++ get_or islands i d ∷ []) _ split (Contains-append_left (take i islands) (get_or islands i d ∷ []) _ (All-contains_itself (take i islands) j e less)));
   }

@@ -96,5 +96,7 @@ module _ (m : Market) (first : ℕ → ℕ) (v : IsValid m) (heads : HasHeads m 
 
   pub welfare_sum : (a : Activation) → length a.mw ≡ length m.orders → welfare_of m a ≡ sum_below m.zones (λ f. counts (is_head first) f *ℤ welfare_in a f)
   welfare_sum a l =
-      spread (counts (is_head first)) m.zones order_gain gain_in (λ (o : Order). o.zone < m.zones) spread_gain m.orders a.mw (All-weaker (IsValidOrder m.zones (length m.gates)) (λ o. o.zone < m.zones) (λ o h. h.zone) m.orders v.orders)
-      ∙ sum_below-same m.zones (λ f. counts (is_head first) f *ℤ sum_along (gain_in f) m.orders a.mw) (λ f. counts (is_head first) f *ℤ welfare_in a f) (λ f less. ap (λ (w : ℤ). counts (is_head first) f *ℤ w) (sym (own_welfare a l f)))
+      spread (counts (is_head first)) m.zones order_gain gain_in (λ (o : Order). o.zone < m.zones) spread_gain m.orders a.mw
+      (All-weaker (IsValidOrder m.zones (length m.gates)) (λ o. o.zone < m.zones) (λ o h. h.zone) m.orders v.orders)
+      ∙ sum_below-same m.zones (λ f. counts (is_head first) f *ℤ sum_along (gain_in f) m.orders a.mw)
+      (λ f. counts (is_head first) f *ℤ welfare_in a f) (λ f less. ap (λ (w : ℤ). counts (is_head first) f *ℤ w) (sym (own_welfare a l f)))

@@ -61,7 +61,8 @@ module _ (m : Market) (first : ℕ → ℕ) (f : ℕ) (v : IsValid m) where
   earlier : (j h : ℕ) → IsParentAt m first f (get_or (gates_of m first f) j 0) h → j < length (gates_of m first f) → h < j
   earlier j h k l =
       let g = gate_at m first f j l in
-      places_rise (gates_of m first f) k.parent (get_or (gates_of m first f) j 0) h j (gates_rise m first f) k.place g.place ((v.gates (get_or (gates_of m first f) j 0) g.there).parent k.parent k.is_parent)
+      places_rise (gates_of m first f) k.parent (get_or (gates_of m first f) j 0) h j (gates_rise m first f) k.place g.place
+      ((v.gates (get_or (gates_of m first f) j 0) g.there).parent k.parent k.is_parent)
 
   gate_used : (j : ℕ) → j < length (gates_of m first f) → Any (λ (o : Order). o.gate ≡ Some j) (map (order_among (zones_of m first f) (gates_of m first f)) (orders_of m first f))
   gate_used j l =

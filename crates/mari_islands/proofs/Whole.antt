@@ -39,7 +39,10 @@ still_within b q e = record { back = omega (arith, ints, e); limit = omega (arit
 
 module _ (m : Market) (first : ℕ → ℕ) (v : IsValid m) (s : Splits m first) (a : Activation) (long : HasLengths m a) (still : AllZip (IsStill first) m.borders a.flow) (fe : InEach IsFeasible m first a) where
   InOwnBounds : Zone m → Order → ℕ → Type 0
-  InOwnBounds z o q = is_order_in (inside first (first z.0)) o ≡ true → IsWithin (own_bounds (island_of m first (first z.0)) (own_of m first (first z.0) a) (order_among (zones_of m first (first z.0)) (gates_of m first (first z.0)) o)) q
+  InOwnBounds z o q =
+      is_order_in (inside first (first z.0)) o ≡ true → IsWithin
+      (own_bounds (island_of m first (first z.0)) (own_of m first (first z.0) a) (order_among (zones_of m first (first z.0)) (gates_of m first (first z.0)) o))
+      q
 
   each_order : AllZip (λ o q. (z : Zone m) → InOwnBounds z o q) m.orders a.mw
   unfolding InOwnBounds
@@ -59,7 +62,9 @@ module _ (m : Market) (first : ℕ → ℕ) (v : IsValid m) (s : Splits m first)
 
   each_border : AllZip (λ b q. (z : Zone m) → InOwnLimits z b q) m.borders a.flow
   unfolding InOwnLimits
-  each_border = AllZip-each InOwnLimits m.borders a.flow (sym long.borders) (λ z. from_beside (is_border_in (inside first (first z.0))) (border_among (zones_of m first (first z.0))) IsWithinLimits m.borders a.flow long.borders (fe z.0 z.1).borders)
+  each_border =
+      AllZip-each InOwnLimits m.borders a.flow (sym long.borders)
+      (λ z. from_beside (is_border_in (inside first (first z.0))) (border_among (zones_of m first (first z.0))) IsWithinLimits m.borders a.flow long.borders (fe z.0 z.1).borders)
 
   border_within : (b : Border) (q : ℤ) → IsValidBorder m.zones b × IsStill first b q → ((z : Zone m) → InOwnLimits z b q) → IsWithinLimits b q
   unfolding InOwnLimits
@@ -94,7 +99,9 @@ module _ (m : Market) (first : ℕ → ℕ) (v : IsValid m) (s : Splits m first)
   an_order g l = let used = (v.gates g l).used in record { order = used.1; of_market = (used.0, used.2, used.3); of_gate = used.4 }
 
   own_parent : (f g h j k : ℕ) → IsPlace (gates_of m first f) g j → IsPlace (gates_of m first f) h k → parent_of m.gates g ≡ Some h → parent_of (island_of m first f).gates j ≡ Some k
-  own_parent f g h j k a b is = parent_info m first f j a.there ∙ ap (λ (n : ℕ). option_and_then (place_in (gates_of m first f)) (parent_of m.gates n)) a.read ∙ ap (option_and_then (place_in (gates_of m first f))) is ∙ b.found
+  own_parent f g h j k a b is =
+      parent_info m first f j a.there ∙ ap (λ (n : ℕ). option_and_then (place_in (gates_of m first f)) (parent_of m.gates n)) a.read ∙ ap
+      (option_and_then (place_in (gates_of m first f))) is ∙ b.found
 
   parents_open : (g h : ℕ) → is_open m a g ≡ true → parent_of m.gates g ≡ Some h → is_open m a h ≡ true
   parents_open g h e is =

@@ -31,7 +31,9 @@ at_word R f (x ∷ xs) (y ∷ ys) w left a e = let rest : map f ys ≡ map f xs 
 
 pub begun_unread : {X : Type 0} (R : X → Type 0) (f : X → List ℕ) (least most : ℕ) (xs : List X) (w : List ℕ) (ws left all : List (List ℕ)) (e : FormFault) (result : Result (List X) FormFault)
     → Begun R f most xs ws all → ws ≡ w ∷ left → Reads R f w (Err e) → (x : FormFault) × (result ≡ Err x) × (x ≡ e) → Reads (Listed least most R) (map f) all result
-begun_unread R f least most xs w ws left all e result b next none is = handed_on R f w (Listed least most R) (map f) all e result is none (λ ys r same. at_word R f xs ys w left r.1 (same ∙ b.whole ∙ ap (λ (vs : List (List ℕ)). map f xs ++ vs) next))
+begun_unread R f least most xs w ws left all e result b next none is =
+    handed_on R f w (Listed least most R) (map f) all e result is none
+    (λ ys r same. at_word R f xs ys w left r.1 (same ∙ b.whole ∙ ap (λ (vs : List (List ℕ)). map f xs ++ vs) next))
 
 -- lists whose items are written alike are the same
 pub same_list : {X : Type 0} (R : X → Type 0) (f : X → List ℕ) → ((x y : X) → R x → R y → f x ≡ f y → x ≡ y) → (xs ys : List X) → All R xs → All R ys → map f xs ≡ map f ys → xs ≡ ys

@@ -89,7 +89,9 @@ both_short d t m n a b = omega (arith, length-append d t, a, b)
 euros_short : (z : ℤ) → unsigned_abs z ≤ 9999900 → length (printed_cents z) ≤ 9
 euros_short z h =
     let d = length-decimal-le 5 (unsigned_abs z / 100) (omega arith) (omega (arith, h)) (omega (arith, h)) in
-    both_short (sign_of (int_lt z (pos 0)) ++ decimal (unsigned_abs z / 100)) (46 ∷ (48 + unsigned_abs z % 100 / 10) ∷ (48 + unsigned_abs z % 10) ∷ []) 6 3 (sign_short (int_lt z (pos 0)) (decimal (unsigned_abs z / 100)) 5 d) (omega arith)
+    both_short (sign_of (int_lt z (pos 0)) ++ decimal (unsigned_abs z / 100))
+    (46 ∷ (48 + unsigned_abs z % 100 / 10) ∷ (48 + unsigned_abs z % 10) ∷ []) 6 3 (sign_short (int_lt z (pos 0)) (decimal (unsigned_abs z / 100)) 5 d)
+    (omega arith)
 
 pub price_size : (z : ℤ) → IsPrice z → unsigned_abs z ≤ 9999900
 price_size (pos n) h = let high : pos n ≤ℤ pos 9999900 = h.high in omega (arith, ints, high)
@@ -157,13 +159,22 @@ amount_line a r = few_words (amount_fields a) (name a.name r.0, (money_short a.a
 
 -- what stands after the first word
 fields_short : (l : Line) → InRange l → length (spaced (fields l)) ≤ most_fields
-fields_short (line.Head date quarters budget) r = few_words (fields (line.Head date quarters budget)) (omega arith, (name date r.0.0, (number quarters (omega (arith, r.1.1)), (number budget (omega (arith, r.2.1)), tt)))) (omega arith)
+fields_short (line.Head date quarters budget) r =
+    few_words (fields (line.Head date quarters budget))
+    (omega arith, (name date r.0.0, (number quarters (omega (arith, r.1.1)), (number budget (omega (arith, r.2.1)), tt)))) (omega arith)
 fields_short (line.Run h) r = few_words (fields (line.Run h)) (number h.run (omega (arith, r.0.1)), (number h.quarter (omega (arith, r.1.1)), (kind h.direct, (omega arith, tt)))) (omega arith)
 fields_short (line.Unpublished h count) r =
-    few_words (fields (line.Unpublished h count)) (number h.run (omega (arith, r.0.0.1)), (number h.quarter (omega (arith, r.0.1.1)), (kind h.direct, (omega arith, (number count (omega (arith, r.1.1)), tt))))) (omega arith)
+    few_words (fields (line.Unpublished h count))
+    (number h.run (omega (arith, r.0.0.1)), (number h.quarter (omega (arith, r.0.1.1)), (kind h.direct, (omega arith, (number count (omega (arith, r.1.1)), tt)))))
+    (omega arith)
 fields_short (line.Welfare w) r = let d = length-decimal-le 19 w (omega arith) (omega (arith, r)) (omega (arith, r)) in few_words (fields (line.Welfare w)) (omega (arith, d), tt) (omega arith)
-fields_short (line.Zone z) r = few_words (fields (line.Zone z)) (name z.name r.0, (price z.price r.1, (price z.least r.2, (price z.greatest r.3, (number z.area (omega (arith, r.4.1)), tt))))) (omega arith)
-fields_short (line.Border b) r = few_words (fields (line.Border b)) (name b.from r.0, (name b.to r.1, (short (signed_decimal b.flow) 7 (flow_short b.flow r.2) (omega arith), (money_short b.rent r.3, tt)))) (omega arith)
+fields_short (line.Zone z) r =
+    few_words (fields (line.Zone z))
+    (name z.name r.0, (price z.price r.1, (price z.least r.2, (price z.greatest r.3, (number z.area (omega (arith, r.4.1)), tt))))) (omega arith)
+fields_short (line.Border b) r =
+    few_words (fields (line.Border b))
+    (name b.from r.0, (name b.to r.1, (short (signed_decimal b.flow) 7 (flow_short b.flow r.2) (omega arith), (money_short b.rent r.3, tt))))
+    (omega arith)
 fields_short (line.Bid b) r = few_words (fields (line.Bid b)) (name b.id r.0, (number b.mw r.1, tt)) (omega arith)
 fields_short (line.Demand place mw) r = few_words (fields (line.Demand place mw)) (number place (omega (arith, r.0.1)), (number mw r.1, tt)) (omega arith)
 fields_short (line.Tree count) r = few_words (fields (line.Tree count)) (number count (omega (arith, r.1)), tt) (omega arith)

@@ -97,13 +97,18 @@ abbrev made_zoneline : List ℕ → Cents → Cents → Cents → ℕ → ZoneLi
 made_zoneline x0 x1 x2 x3 x4 = record { name = x0; price = x1; least = x2; greatest = x3; area = x4 }
 
 same_zoneline : (g h : ZoneLine) → g.name ≡ h.name → g.price ≡ h.price → g.least ≡ h.least → g.greatest ≡ h.greatest → g.area ≡ h.area → g ≡ h
-same_zoneline g h e0 e1 e2 e3 e4 = ap (λ (x : List ℕ). made_zoneline x g.price g.least g.greatest g.area) e0 ∙ ap (λ (x : Cents). made_zoneline h.name x g.least g.greatest g.area) e1 ∙ ap (λ (x : Cents). made_zoneline h.name h.price x g.greatest g.area) e2 ∙ ap (λ (x : Cents). made_zoneline h.name h.price h.least x g.area) e3 ∙ ap (λ (x : ℕ). made_zoneline h.name h.price h.least h.greatest x) e4
+same_zoneline g h e0 e1 e2 e3 e4 =
+    ap (λ (x : List ℕ). made_zoneline x g.price g.least g.greatest g.area) e0 ∙ ap (λ (x : Cents). made_zoneline h.name x g.least g.greatest g.area)
+    e1 ∙ ap (λ (x : Cents). made_zoneline h.name h.price x g.greatest g.area) e2 ∙ ap (λ (x : Cents). made_zoneline h.name h.price h.least x g.area)
+    e3 ∙ ap (λ (x : ℕ). made_zoneline h.name h.price h.least h.greatest x) e4
 
 abbrev made_borderline : List ℕ → List ℕ → ℤ → Quarters → BorderLine
 made_borderline x0 x1 x2 x3 = record { from = x0; to = x1; flow = x2; rent = x3 }
 
 same_borderline : (g h : BorderLine) → g.from ≡ h.from → g.to ≡ h.to → g.flow ≡ h.flow → g.rent ≡ h.rent → g ≡ h
-same_borderline g h e0 e1 e2 e3 = ap (λ (x : List ℕ). made_borderline x g.to g.flow g.rent) e0 ∙ ap (λ (x : List ℕ). made_borderline h.from x g.flow g.rent) e1 ∙ ap (λ (x : ℤ). made_borderline h.from h.to x g.rent) e2 ∙ ap (λ (x : Quarters). made_borderline h.from h.to h.flow x) e3
+same_borderline g h e0 e1 e2 e3 =
+    ap (λ (x : List ℕ). made_borderline x g.to g.flow g.rent) e0 ∙ ap (λ (x : List ℕ). made_borderline h.from x g.flow g.rent) e1 ∙ ap
+    (λ (x : ℤ). made_borderline h.from h.to x g.rent) e2 ∙ ap (λ (x : Quarters). made_borderline h.from h.to h.flow x) e3
 
 abbrev made_bidline : List ℕ → ℕ → BidLine
 made_bidline x0 x1 = record { id = x0; mw = x1 }
@@ -115,7 +120,9 @@ abbrev made_moneyline : List ℕ → Quarters → Quarters → Quarters → Mone
 made_moneyline x0 x1 x2 x3 = record { name = x0; payment = x1; rent = x2; net = x3 }
 
 same_moneyline : (g h : MoneyLine) → g.name ≡ h.name → g.payment ≡ h.payment → g.rent ≡ h.rent → g.net ≡ h.net → g ≡ h
-same_moneyline g h e0 e1 e2 e3 = ap (λ (x : List ℕ). made_moneyline x g.payment g.rent g.net) e0 ∙ ap (λ (x : Quarters). made_moneyline h.name x g.rent g.net) e1 ∙ ap (λ (x : Quarters). made_moneyline h.name h.payment x g.net) e2 ∙ ap (λ (x : Quarters). made_moneyline h.name h.payment h.rent x) e3
+same_moneyline g h e0 e1 e2 e3 =
+    ap (λ (x : List ℕ). made_moneyline x g.payment g.rent g.net) e0 ∙ ap (λ (x : Quarters). made_moneyline h.name x g.rent g.net) e1 ∙ ap
+    (λ (x : Quarters). made_moneyline h.name h.payment x g.net) e2 ∙ ap (λ (x : Quarters). made_moneyline h.name h.payment h.rent x) e3
 
 abbrev made_amountline : List ℕ → Quarters → AmountLine
 made_amountline x0 x1 = record { name = x0; amount = x1 }
@@ -175,7 +182,8 @@ same_fields (line.Zone g) (line.Zone h) r s k e =
     let least : price_text g.least ≡ price_text h.least = cc in
     let greatest : price_text g.greatest ≡ price_text h.greatest = cc in
     let area : decimal g.area ≡ decimal h.area = cc in
-    ap (λ x. line.Zone x) (same_zoneline g h name (cents g.price h.price r.1 s.1 price) (cents g.least h.least r.2 s.2 least) (cents g.greatest h.greatest r.3 s.3 greatest) (below g.area h.area 64 r.4.1 s.4.1 (omega arith) area))
+    ap (λ x. line.Zone x)
+    (same_zoneline g h name (cents g.price h.price r.1 s.1 price) (cents g.least h.least r.2 s.2 least) (cents g.greatest h.greatest r.3 s.3 greatest) (below g.area h.area 64 r.4.1 s.4.1 (omega arith) area))
 same_fields (line.Border g) (line.Border h) r s k e =
     let from : g.from ≡ h.from = cc in
     let to : g.to ≡ h.to = cc in

@@ -32,7 +32,9 @@ hundredths_text n = decimal (n / 100) ++ 46 ∷ (48 + n % 100 / 10) ∷ (48 + n 
 pub price_parts : (z : ℤ) (b : Bool) (size text : List ℕ) → unsigned_abs z < 2 ^ 64 → printed_cents z ≡ text → text ≡ sign_of b ++ size → (b ≡ false → has_minus size ≡ false)
     → (int_lt z (pos 0) ≡ b) × (hundredths_text (unsigned_abs z) ≡ size)
 price_parts z b size text small e parts unsigned =
-    same_parts (int_lt z (pos 0)) b (hundredths_text (unsigned_abs z)) size (sym (append_assoc (sign_of (int_lt z (pos 0))) (decimal (unsigned_abs z / 100)) _) ∙ e ∙ parts) (no_minus (unsigned_abs z / 100) _ (omega arith)) unsigned
+    same_parts (int_lt z (pos 0)) b (hundredths_text (unsigned_abs z)) size
+    (sym (append_assoc (sign_of (int_lt z (pos 0))) (decimal (unsigned_abs z / 100)) _) ∙ e ∙ parts) (no_minus (unsigned_abs z / 100) _ (omega arith))
+    unsigned
 
 -- the same the other way
 pub whole_of_parts : (z : ℤ) (b : Bool) (n : ℕ) (size text : List ℕ) → int_lt z (pos 0) ≡ b → unsigned_abs z ≡ n → decimal n ≡ size → text ≡ sign_of b ++ size → signed_decimal z ≡ text
@@ -41,7 +43,8 @@ whole_of_parts z b n size text sign is e parts =
 
 pub price_of_parts : (z : ℤ) (b : Bool) (n : ℕ) (size text : List ℕ) → int_lt z (pos 0) ≡ b → unsigned_abs z ≡ n → hundredths_text n ≡ size → text ≡ sign_of b ++ size → printed_cents z ≡ text
 price_of_parts z b n size text sign is e parts =
-    append_assoc (sign_of (int_lt z (pos 0))) (decimal (unsigned_abs z / 100)) _ ∙ ap (λ (s : Bool). sign_of s ++ hundredths_text (unsigned_abs z)) sign ∙ ap (λ m. sign_of b ++ hundredths_text m) is ∙ ap (λ t. sign_of b ++ t) e ∙ sym parts
+    append_assoc (sign_of (int_lt z (pos 0))) (decimal (unsigned_abs z / 100)) _ ∙ ap (λ (s : Bool). sign_of s ++ hundredths_text (unsigned_abs z))
+    sign ∙ ap (λ m. sign_of b ++ hundredths_text m) is ∙ ap (λ t. sign_of b ++ t) e ∙ sym parts
 
 -- texts that end in as many bytes are the same where their parts are
 pub same_ends : (xs ys us vs : List ℕ) → length us ≡ length vs → xs ++ us ≡ ys ++ vs → (xs ≡ ys) × (us ≡ vs)

@@ -23,7 +23,9 @@ Between least greatest n = (least ≤ n) × (n ≤ greatest)
 
 -- a date: four digits, a hyphen, two digits, a hyphen, and two digits, whether or not there is such a day
 abbrev pub is_date : List ℕ → Bool
-is_date text = length text == 10 && list_all is_ascii_digit (take 4 text) && slice_index text 4 == 45 && list_all is_ascii_digit (take 2 (drop 5 text)) && slice_index text 7 == 45 && list_all is_ascii_digit (drop 8 text)
+is_date text =
+    length text == 10 && list_all is_ascii_digit (take 4 text) && slice_index text 4 == 45 && list_all is_ascii_digit (take 2 (drop 5 text)) &&
+    slice_index text 7 == 45 && list_all is_ascii_digit (drop 8 text)
 
 abbrev pub IsDate : List ℕ → Type 0
 IsDate text = IsName text × (is_date text ≡ true)

@@ -173,7 +173,8 @@ module _ (bids : BidBook) where
         let children = (said_by bids rows).children in
         let found = made-some (λ (link : Link). link.second) (find (λ (link : Link). link.first == bid) children) parent is in
         let itself = found-has (λ (link : Link). link.first == bid) IsChild children found.0 found.1 are.children in
-        third-yes (above-none bid) (is-member bid) (is-linked bid) (found-any (λ (link : Link). link.first == bid) (λ (link : Link). (link.first == bid) || (link.second == bid)) children found.0 found.1 (rw itself.0 refl))
+        third-yes (above-none bid) (is-member bid) (is-linked bid)
+        (found-any (λ (link : Link). link.first == bid) (λ (link : Link). (link.first == bid) || (link.second == bid)) children found.0 found.1 (rw itself.0 refl))
 
     parent-there : (bid parent : ℕ) → parent_of (said_by bids rows).children bid ≡ Some parent → IsParent bids (link_book bids rows) bid parent
     parent-there bid parent is =

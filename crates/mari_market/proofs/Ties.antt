@@ -159,11 +159,16 @@ tree_holds_plain m w gates items h = AreParts-map m (LeafHoldsFor m w gates) (Le
 
 -- and a tree that holds does so for the word with every gate closed
 pub tree_holds_closed : (m : Market) (w : ℤ) (items : List TreeItem) → TreeHolds m w items → TreeHoldsFor m w (all_closed m) items
-tree_holds_closed m w items h = AreParts-map m (LeafHolds m w) (LeafHoldsFor m w (all_closed m)) (λ word leaf k. record { holds = k; early = λ e. absurd (none_before_closed (length m.gates) word e) }) ([] ∷ []) items h
+tree_holds_closed m w items h =
+    AreParts-map m (LeafHolds m w) (LeafHoldsFor m w (all_closed m))
+    (λ word leaf k. record { holds = k; early = λ e. absurd (none_before_closed (length m.gates) word e) }) ([] ∷ []) items h
 
 -- and without gates for the gate word of each activation
 pub tree_holds_without_gates : (m : Market) (a : Activation) (w : ℤ) (items : List TreeItem) → length m.gates ≡ 0 → TreeHolds m w items → TreeHoldsFor m w (gate_word_of m a) items
-tree_holds_without_gates m a w items none h = AreParts-map m (LeafHolds m w) (LeafHoldsFor m w (gate_word_of m a)) (λ word leaf k. record { holds = k; early = λ e. absurd (omega (arith, opens_within (gate_word_of m a) e.gate e.opened, length-gate_word_of m a, none)) }) ([] ∷ []) items h
+tree_holds_without_gates m a w items none h =
+    AreParts-map m (LeafHolds m w) (LeafHoldsFor m w (gate_word_of m a))
+    (λ word leaf k. record { holds = k; early = λ e. absurd (omega (arith, opens_within (gate_word_of m a) e.gate e.opened, length-gate_word_of m a, none)) })
+    ([] ∷ []) items h
 
 below_less : (v w : ℤ) → v ≡ w → v ≤ℤ (w -ℤ pos 1) → ⊥
 below_less v w e l = omega (arith, ints, e, l)
@@ -186,7 +191,9 @@ first_by_tree m a items v adm h = record { optimal = best; none_before = none }
     best = optimal_by_tree m a items v adm (tree_holds_plain m (welfare_of m a) (gate_word_of m a) items h)
 
     none : (b : Activation) → IsOptimal m b → ComesBefore (gate_word_of m b) (gate_word_of m a) → ⊥
-    none b k before = below_less (welfare_of m b) (welfare_of m a) (one_welfare m b a k best) (earlier_is_worse m (welfare_of m a) (gate_word_of m a) items b v (length-gate_word_of m a) h k.admissible before)
+    none b k before =
+        below_less (welfare_of m b) (welfare_of m a) (one_welfare m b a k best)
+        (earlier_is_worse m (welfare_of m a) (gate_word_of m a) items b v (length-gate_word_of m a) h k.admissible before)
 
 -- an optimal activation that opens no gate is the first
 pub closed_is_first : (m : Market) (a : Activation) → IsOptimal m a → gate_word_of m a ≡ all_closed m → IsFirst m a

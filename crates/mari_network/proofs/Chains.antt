@@ -50,7 +50,9 @@ hop_carries z false b d = omega (arith, ints, if_neg (b.from == z) d, if_neg (b.
 
 pub hop_carried : (z : ℕ) (bs : List Border) (fs : List ℤ) (h : Hop) (d : ℤ) → h.border < length bs
     → h.border < length fs
-    → sum_along (carried_out z) bs (set fs h.border (get_or fs h.border (pos 0) +ℤ more_flow h.forth d)) ≡ (sum_along (carried_out z) bs fs +ℤ at_zone z (tail_of h.forth (border_at bs h.border)) d) -ℤ at_zone z (head_of h.forth (border_at bs h.border)) d
+    → sum_along (carried_out z) bs (set fs h.border (get_or fs h.border (pos 0) +ℤ more_flow h.forth d))
+    ≡ (sum_along (carried_out z) bs fs +ℤ at_zone z (tail_of h.forth (border_at bs h.border)) d) -ℤ at_zone z
+    (head_of h.forth (border_at bs h.border)) d
 hop_carried z bs fs h d there l = omega (arith, ints, pushed z bs fs h.border (more_flow h.forth d) no_border there l, hop_carries z h.forth (border_at bs h.border) d)
 
 pub hop_within : (bs : List Border) (fs : List ℤ) (h : Hop) (d : ℤ) → h.border < length bs

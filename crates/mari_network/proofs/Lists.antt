@@ -38,7 +38,9 @@ zip_append P (s ∷ ss) rs [] ys a b = absurd a
 pub zip_step : {X Y : Type 0} (P : X → Y → Type 0) (xs : List X) (ys new : List Y) (i : ℕ) (d : X) (y : Y)
     → i < length xs → new ≡ ys ++ y ∷ [] → AllZip P (take i xs) ys → P (get_or xs i d) y
     → AllZip P (take (i + 1) xs) new
-zip_step {X = X} {Y = Y} P xs ys new i d y l e a p = subst (λ (zs : List X). AllZip P zs new) (sym (take_more xs i d l)) (subst (λ (zs : List Y). AllZip P (take i xs ++ get_or xs i d ∷ []) zs) (sym e) (zip_append P (take i xs) (get_or xs i d ∷ []) ys (y ∷ []) a (p, tt)))
+zip_step {X = X} {Y = Y} P xs ys new i d y l e a p =
+    subst (λ (zs : List X). AllZip P zs new) (sym (take_more xs i d l))
+    (subst (λ (zs : List Y). AllZip P (take i xs ++ get_or xs i d ∷ []) zs) (sym e) (zip_append P (take i xs) (get_or xs i d ∷ []) ys (y ∷ []) a (p, tt)))
 
 pub zip_first : {X Y : Type 0} (P : X → Y → Type 0) (ss rs : List X) (ys : List Y) → AllZip P (ss ++ rs) ys → AllZip P ss (take (length ss) ys)
 zip_first P [] rs ys a = tt
@@ -57,4 +59,6 @@ pushed_map {Y = Y} f xs i d items new v h n e w = n ∙ ap (λ (ys : List Y). ys
 pub pushed_after : {X Y : Type 0} (f : X → Y) (first : List Y) (xs : List X) (i : ℕ) (d : X) (items new : List Y) (v : Y)
     → i < length xs → new ≡ items ++ v ∷ [] → items ≡ first ++ map f (take i xs) → v ≡ f (get_or xs i d)
     → new ≡ first ++ map f (take (i + 1) xs)
-pushed_after {Y = Y} f first xs i d items new v h n e w = n ∙ ap (λ (ys : List Y). ys ++ v ∷ []) e ∙ append_assoc first (map f (take i xs)) (v ∷ []) ∙ ap (λ (y : Y). first ++ (map f (take i xs) ++ y ∷ [])) w ∙ ap (λ (ys : List Y). first ++ ys) (sym (map_more f xs i d h))
+pushed_after {Y = Y} f first xs i d items new v h n e w =
+    n ∙ ap (λ (ys : List Y). ys ++ v ∷ []) e ∙ append_assoc first (map f (take i xs)) (v ∷ []) ∙ ap
+    (λ (y : Y). first ++ (map f (take i xs) ++ y ∷ [])) w ∙ ap (λ (ys : List Y). first ++ ys) (sym (map_more f xs i d h))

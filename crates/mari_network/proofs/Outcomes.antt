@@ -92,7 +92,8 @@ flow_runs bounds m more xs fs p e =
 
 ends_paid : (bounds : Order → Span) (m : Market) (more : List Slot) (xs fs : List ℤ) (p q : ℕ → ℤ)
     → Ends bounds m more xs fs p
-    → (sum_along (paid_slot q) (slots_of bounds m.orders) (take (length (slots_of bounds m.orders)) xs) +ℤ sum_along (paid_slot q) more (drop (length (slots_of bounds m.orders)) xs)) ≡ sum_along (cost_at q) m.borders fs
+    → (sum_along (paid_slot q) (slots_of bounds m.orders) (take (length (slots_of bounds m.orders)) xs) +ℤ sum_along (paid_slot q) more (drop (length (slots_of bounds m.orders)) xs))
+    ≡ sum_along (cost_at q) m.borders fs
 ends_paid bounds m more xs fs p q e =
     sym (sum_split (paid_slot q) IsWithinSlot (slots_of bounds m.orders) more xs e.running.amounts)
     ∙ paid_is_cost q m.zones (slots_of bounds m.orders ++ more) xs m.borders fs e.zones (λ k d l. let b_valid = e.valid.borders k d l in (b_valid.from, b_valid.to)) e.running.balance
@@ -119,7 +120,8 @@ ends_cut_out bounds m more xs fs p zones j e low there short =
     let rest = zip_rest (RunsSlot m.zones p) (slots_of bounds m.orders) more xs all in
     shortfall_is_cut_out bounds m zones
     (shortfall_out m.zones BEYOND p (is_in zones) (slots_of bounds m.orders) more (take (length (slots_of bounds m.orders)) xs) (drop (length (slots_of bounds m.orders)) xs) m.borders fs j no_slot (omega (arith, ints)) low
-    first (all_zip (IsReal BEYOND) (slots_of bounds m.orders) (take (length (slots_of bounds m.orders)) xs) (zip_long (RunsSlot m.zones p) (slots_of bounds m.orders) (take (length (slots_of bounds m.orders)) xs) first) (reals_real bounds m.zones (length m.gates) m.orders e.valid.orders))
+    first
+    (all_zip (IsReal BEYOND) (slots_of bounds m.orders) (take (length (slots_of bounds m.orders)) xs) (zip_long (RunsSlot m.zones p) (slots_of bounds m.orders) (take (length (slots_of bounds m.orders)) xs) first) (reals_real bounds m.zones (length m.gates) m.orders e.valid.orders))
     rest (all_zip (IsStandIn BEYOND) more (drop (length (slots_of bounds m.orders)) xs) (zip_long (RunsSlot m.zones p) more (drop (length (slots_of bounds m.orders)) xs) rest) e.others)
     (flow_runs bounds m more xs fs p e) (ends_paid bounds m more xs fs p (λ z. counts (is_in zones z)) e) there
     (subst (λ (x : ℤ). x <ℤ pos 0) (sym (get_or-drop (length (slots_of bounds m.orders)) xs j (pos 0))) short))
@@ -134,7 +136,8 @@ ends_cut_in bounds m more xs fs p zones j e high there short =
     let rest = zip_rest (RunsSlot m.zones p) (slots_of bounds m.orders) more xs all in
     shortfall_is_cut_in bounds m zones
     (shortfall_in m.zones BEYOND p (is_in zones) (slots_of bounds m.orders) more (take (length (slots_of bounds m.orders)) xs) (drop (length (slots_of bounds m.orders)) xs) m.borders fs j no_slot (omega (arith, ints)) high
-    first (all_zip (IsReal BEYOND) (slots_of bounds m.orders) (take (length (slots_of bounds m.orders)) xs) (zip_long (RunsSlot m.zones p) (slots_of bounds m.orders) (take (length (slots_of bounds m.orders)) xs) first) (reals_real bounds m.zones (length m.gates) m.orders e.valid.orders))
+    first
+    (all_zip (IsReal BEYOND) (slots_of bounds m.orders) (take (length (slots_of bounds m.orders)) xs) (zip_long (RunsSlot m.zones p) (slots_of bounds m.orders) (take (length (slots_of bounds m.orders)) xs) first) (reals_real bounds m.zones (length m.gates) m.orders e.valid.orders))
     rest (all_zip (IsStandIn BEYOND) more (drop (length (slots_of bounds m.orders)) xs) (zip_long (RunsSlot m.zones p) more (drop (length (slots_of bounds m.orders)) xs) rest) e.others)
     (flow_runs bounds m more xs fs p e) (ends_paid bounds m more xs fs p (λ z. counts (is_in zones z)) e) there
     (subst (λ (x : ℤ). pos 0 <ℤ x) (sym (get_or-drop (length (slots_of bounds m.orders)) xs j (pos 0))) short))

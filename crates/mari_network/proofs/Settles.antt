@@ -67,7 +67,8 @@ ends spans m more n xs fs prices e v network same runs tight = record {
 pub answer_optimum : (spans : Order → Span) (m : Market) (more : List Slot) (n : NetworkRecord) (s : Solved) (xs fs prices : List ℤ)
     → AreSlotsOf spans m more n.slots.now → IsValid m → IsNetwork n → IsNetworkOf m n → Runs n xs fs
     → AreTightPrices n xs fs prices
-    → s.activation.flow ≡ fs → ArePuts m.orders (take (length m.orders) xs) s.activation.mw → s.potentials.cents ≡ map capped_cents prices → pos s.welfare ≡ int_max (pos 0) (welfare_of m s.activation) → ((k : ℕ) → length m.orders ≤ k → k < length xs → int_at xs k ≡ pos 0)
+    → s.activation.flow ≡ fs → ArePuts m.orders (take (length m.orders) xs) s.activation.mw → s.potentials.cents ≡ map capped_cents prices → pos
+    s.welfare ≡ int_max (pos 0) (welfare_of m s.activation) → ((k : ℕ) → length m.orders ≤ k → k < length xs → int_at xs k ≡ pos 0)
     → IsSolution spans m s
 answer_optimum spans m more n s xs fs prices e v network same runs tight flow puts made stated none =
     let reals : length (slots_of spans m.orders) ≡ length m.orders = length-map m.orders (λ (o : Order). slot_of (spans o) o) in
@@ -113,7 +114,8 @@ highest n p zones h = record {
 pub answer_cut : (spans : Order → Span) (m : Market) (more : List Slot) (n : NetworkRecord) (xs fs prices : List ℤ) (side : CutSide) (cut : CutRecord) (i : ℕ)
     → AreSlotsOf spans m more n.slots.now → IsValid m → IsNetwork n → IsNetworkOf m n → Runs n xs fs
     → AreTightPrices n xs fs prices
-    → cut.side ≡ side → IsRising 0 (length prices) cut.zones → ((z : ℕ) → z < length prices → is_in cut.zones z ≡ is_inside side (int_at prices z)) → length m.orders ≤ i → i < length xs → int_at xs i ≢ pos 0 → (int_at xs i <ℤ pos 0 → side ≡ Out) → (pos 0 ≤ℤ int_at xs i → side ≡ In)
+    → cut.side ≡ side → IsRising 0 (length prices) cut.zones → ((z : ℕ) → z < length prices → is_in cut.zones z ≡ is_inside side (int_at prices z))
+    → length m.orders ≤ i → i < length xs → int_at xs i ≢ pos 0 → (int_at xs i <ℤ pos 0 → side ≡ Out) → (pos 0 ≤ℤ int_at xs i → side ≡ In)
     → IsCut spans m cut
 answer_cut spans m more n xs fs prices side cut i e v network same runs tight named rising inside from below nonzero out into =
     let reals : length (slots_of spans m.orders) ≡ length m.orders = length-map m.orders (λ (o : Order). slot_of (spans o) o) in

@@ -132,7 +132,10 @@ spread_more bs fs old start marked hops h s n =
             goes_on k (omega (arith, s.some)) (subst (λ (x : Hop). pos 1 ≤ℤ hop_room bs fs x) (sym same) n.room)
             (subst (λ (x : Hop). HasRoom bs fs (hops ++ h ∷ []) (pos 1) x.before) (sym same) (room_push bs fs hops h (pos 1) h.before n.at s.trace.each (s.room h.before n.at)))
       ];
-      ends = λ k p l. each_push (λ k x. 0 < k → (is_marked (set marked h.zone true) (border_at bs x.border).from ≡ true) × (is_marked (set marked h.zone true) (border_at bs x.border).to ≡ true)) hops h
+      ends = λ k p l.
+          each_push
+          (λ k x. 0 < k → (is_marked (set marked h.zone true) (border_at bs x.border).from ≡ true) × (is_marked (set marked h.zone true) (border_at bs x.border).to ≡ true))
+          hops h
           (λ k l p. (keep _ (s.ends k p l).0, keep _ (s.ends k p l).1))
           (λ _. both_ends (λ z. is_marked (set marked h.zone true) z ≡ true) h.forth (border_at bs h.border) (subst (λ (z : ℕ). is_marked (set marked h.zone true) z ≡ true) n.tail here) (subst (λ (z : ℕ). is_marked (set marked h.zone true) z ≡ true) n.head (keep _ (s.zones h.before n.at).0)))
           k (omega (arith, len)) p;

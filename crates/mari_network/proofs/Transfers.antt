@@ -35,7 +35,8 @@ trade_tight Withdraw c p s q i l h = (λ r. omega (arith, ints, clamps, i.low, i
 
 pub orders_within : (bounds : Order → Span) (os : List Order) (xs : List ℤ) (qs : List ℕ) → ArePuts os xs qs → AllZip IsWithinSlot (slots_of bounds os) xs → AllZip (λ o q. IsWithin (bounds o) q) os qs
 orders_within bounds [] [] [] r w = tt
-orders_within bounds (o ∷ os) (x ∷ xs) (q ∷ qs) r w = (trade_within o.side (bounds o) q (subst (λ (v : ℤ). least_put o.side (bounds o) ≤ℤ v) r.0 w.0.least) (subst (λ (v : ℤ). v ≤ℤ most_put o.side (bounds o)) r.0 w.0.most), orders_within bounds os xs qs r.1 w.1)
+orders_within bounds (o ∷ os) (x ∷ xs) (q ∷ qs) r w =
+    (trade_within o.side (bounds o) q (subst (λ (v : ℤ). least_put o.side (bounds o) ≤ℤ v) r.0 w.0.least) (subst (λ (v : ℤ). v ≤ℤ most_put o.side (bounds o)) r.0 w.0.most), orders_within bounds os xs qs r.1 w.1)
 orders_within bounds [] [] (q ∷ qs) r w = absurd r
 orders_within bounds [] (x ∷ xs) qs r w = absurd r
 orders_within bounds (o ∷ os) [] qs r w = absurd r

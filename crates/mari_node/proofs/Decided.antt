@@ -149,7 +149,9 @@ own_span m a word o v full w valid = same_span (length m.gates) (state_of m.gate
 pub decided_feasible : (m : Market) (a : Activation) (word : List Bool) → IsValid m → IsFeasibleWord m.gates word
     → length word ≡ length m.gates → IsWithinBounds (bounds_of_word m word) m a → IsFeasible m a
 decided_feasible m a word v feasible full w = record {
-  orders = AllZip-both (λ o q. IsValidOrder m.zones (length m.gates) o × IsWithin (bounds_of_word m word o) q) (λ o q. IsValidOrder m.zones (length m.gates) o × IsWithin (bounds_of_word m word o) q) (λ o q. IsWithin (own_bounds m a o) q)
+  orders =
+      AllZip-both (λ o q. IsValidOrder m.zones (length m.gates) o × IsWithin (bounds_of_word m word o) q)
+      (λ o q. IsValidOrder m.zones (length m.gates) o × IsWithin (bounds_of_word m word o) q) (λ o q. IsWithin (own_bounds m a o) q)
       (λ o q h _. subst (λ (s : Span). IsWithin s q) (own_span m a word o v full w h.0) h.1) m.orders a.mw (AllZip-with _ _ m.orders a.mw v.orders w.orders) (AllZip-with _ _ m.orders a.mw v.orders w.orders);
   gates = keeps_as m (is_open m a) (opens_in word) (opens_as_word m a word v full w) feasible.rules;
   borders = w.borders;
@@ -161,7 +163,9 @@ pub decided_tight : (m : Market) (a : Activation) (word : List Bool) (ps : List 
     → length word ≡ length m.gates → IsWithinBounds (bounds_of_word m word) m a
     → IsTight (bounds_of_word m word) m a ps → IsTight (own_bounds m a) m a ps
 decided_tight m a word ps v full w tight = record {
-  orders = AllZip-both (λ o q. IsValidOrder m.zones (length m.gates) o × IsTightOrder (bounds_of_word m word) ps o q) (λ o q. IsValidOrder m.zones (length m.gates) o × IsTightOrder (bounds_of_word m word) ps o q) (IsTightOrder (own_bounds m a) ps)
+  orders =
+      AllZip-both (λ o q. IsValidOrder m.zones (length m.gates) o × IsTightOrder (bounds_of_word m word) ps o q)
+      (λ o q. IsValidOrder m.zones (length m.gates) o × IsTightOrder (bounds_of_word m word) ps o q) (IsTightOrder (own_bounds m a) ps)
       (λ o q h _. subst (λ (s : Span). IsTightTrade o.side o.price.0 (price_at ps o.zone) s q) (own_span m a word o v full w h.0) h.1) m.orders a.mw (AllZip-with _ _ m.orders a.mw v.orders tight.orders) (AllZip-with _ _ m.orders a.mw v.orders tight.orders);
   borders = tight.borders;
 }

@@ -38,7 +38,9 @@ at_most state None o q w = w.most
 at_most state (Some g) o q w = below_greatest (state g) o q w
 
 all_at_most : (state : ℕ → GateState) (os : List Order) (qs : List ℕ) → AllZip (λ o q. IsWithin (span_in state o) q) os qs → AllZip (λ (o : Order) (q : ℕ). q ≤ o.greatest) os qs
-all_at_most state os qs w = AllZip-both (λ (o : Order) (q : ℕ). IsWithin (span_in state o) q) (λ (o : Order) (q : ℕ). IsWithin (span_in state o) q) (λ (o : Order) (q : ℕ). q ≤ o.greatest) (λ o q h _. at_most state o.gate o q h) os qs w w
+all_at_most state os qs w =
+    AllZip-both (λ (o : Order) (q : ℕ). IsWithin (span_in state o) q) (λ (o : Order) (q : ℕ). IsWithin (span_in state o) q)
+    (λ (o : Order) (q : ℕ). q ≤ o.greatest) (λ o q h _. at_most state o.gate o q h) os qs w w
 
 -- what lies within the bounds of a word is bounded
 pub bounded : (m : Market) (word : List Bool) (a : Activation) → IsWithinBounds (bounds_of_word m word) m a → IsBounded m a
@@ -61,7 +63,10 @@ never_partial n opens (Some g) o q v w p = by_state (opens g) w
     by_state false h = let s = p.some in let l = h.most in omega arith
 
 pub none_partial : (m : Market) (a : Activation) → IsValid m → AnyZip IsPartial m.orders a.mw → IsFeasible m a → ⊥
-none_partial m a v bad f = AnyZip-meets (λ o q. IsValidOrder m.zones (length m.gates) o × IsWithin (own_bounds m a o) q) IsPartial ⊥ (λ o q h p. never_partial (length m.gates) (is_open m a) o.gate o q h.0.gate h.1 p) m.orders a.mw (AllZip-with _ _ m.orders a.mw v.orders f.orders) bad
+none_partial m a v bad f =
+    AnyZip-meets (λ o q. IsValidOrder m.zones (length m.gates) o × IsWithin (own_bounds m a o) q) IsPartial ⊥
+    (λ o q h p. never_partial (length m.gates) (is_open m a) o.gate o q h.0.gate h.1 p) m.orders a.mw
+    (AllZip-with _ _ m.orders a.mw v.orders f.orders) bad
 
 runs_open : (n : ℕ) (opens : ℕ → Bool) (gate : Option ℕ) (o : Order) (q g : ℕ)
     → MatchOption gate (o.least ≡ 0) (λ g. (g < n) × (1 ≤ o.least)) → IsWithin (span_of (own opens) gate o) q
@@ -78,7 +83,8 @@ runs_open n opens (Some h) o q g v w e t = by_state (opens h) (ap opens same ∙
 
 pub run_together_of : (m : Market) (a : Activation) → IsValid m → IsFeasible m a → AllZip (RunsWhereOpen (is_open m a)) m.orders a.mw
 run_together_of m a v f = let both = AllZip-with _ _ m.orders a.mw v.orders f.orders in
-    AllZip-both (λ o q. IsValidOrder m.zones (length m.gates) o × IsWithin (own_bounds m a o) q) (λ o q. IsValidOrder m.zones (length m.gates) o × IsWithin (own_bounds m a o) q) (RunsWhereOpen (is_open m a))
+    AllZip-both (λ o q. IsValidOrder m.zones (length m.gates) o × IsWithin (own_bounds m a o) q)
+    (λ o q. IsValidOrder m.zones (length m.gates) o × IsWithin (own_bounds m a o) q) (RunsWhereOpen (is_open m a))
     (λ o q h _ g e t. runs_open (length m.gates) (is_open m a) o.gate o q g h.0.gate h.1 e t) m.orders a.mw both both
 
 -- ---- and when an activation is feasible

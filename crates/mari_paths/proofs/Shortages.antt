@@ -54,7 +54,9 @@ pub near_more : (m n k : ℕ) (a x y : ℤ) → IsNear m a → IsNear n x → y 
 near_more m n k a x y p q e l = record { low = omega (arith, ints, p.low, q.low, e); high = omega (arith, ints, p.high, q.high, e) }
 
 pub carried_near : (z : ℕ) (b : Border) (f : ℤ) → IsNear 200000 f → IsNear 400000 (carried_out z b f)
-carried_near z b f n = near_less 200000 200000 400000 (at_zone z b.from f) (at_zone z b.to f) (carried_out z b f) (near_zone 200000 z b.from f n) (near_zone 200000 z b.to f n) (omega (arith, ints)) (omega arith)
+carried_near z b f n =
+    near_less 200000 200000 400000 (at_zone z b.from f) (at_zone z b.to f) (carried_out z b f) (near_zone 200000 z b.from f n)
+    (near_zone 200000 z b.to f n) (omega (arith, ints)) (omega arith)
 
 pub small_amount : (n : ℕ) (slots : List Slot) (xs : List ℤ) (i : ℕ) → All (IsOrderSlot n) slots → AllZip IsWithinSlot slots xs → i < length slots → IsNear 99999 (int_at xs i)
 small_amount n slots xs i a w l =

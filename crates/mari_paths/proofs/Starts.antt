@@ -28,7 +28,9 @@ pub stand_ins_network : (n z : ℕ) (short : List ℤ) → z + length short ≤ 
 stand_ins_network n z [] l a = λ k d h. absurd (omega arith)
 stand_ins_network n z (d ∷ ds) l a =
     let near = All-head (IsNear 700000000) d ds a in
-    All-cons (IsNetworkSlot n) (stand_in_of z d) (stand_ins (z + 1) ds) ((stands_in z d).network n (omega arith) (omega (arith, ints, near.low)) (omega (arith, ints, near.high))) (stand_ins_network n (z + 1) ds (omega arith) (All-tail (IsNear 700000000) d ds a))
+    All-cons (IsNetworkSlot n) (stand_in_of z d) (stand_ins (z + 1) ds)
+    ((stands_in z d).network n (omega arith) (omega (arith, ints, near.low)) (omega (arith, ints, near.high)))
+    (stand_ins_network n (z + 1) ds (omega arith) (All-tail (IsNear 700000000) d ds a))
 
 not_zone : (y z : ℕ) (d : ℤ) → y < z → (if z == y then d else pos 0) ≡ pos 0
 not_zone y z d l = grind (arith)

@@ -69,7 +69,8 @@ pub entry_keeps : (m : Market) (budget workers : ℕ) (incumbent : IncumbentId) 
     → length returned ≡ length p.returned → AreTurns (grown p.tree e).nodes turns (p.journal ++ in_journal e ∷ [])
     → IsPool m budget workers incumbent (pool_of (grown p.tree e) keys (p.journal ++ in_journal e ∷ []) p.room turns returned p.seat)
 entry_keeps m budget workers incumbent p e keys turns returned h may paid cut ks t r report =
-    entry_keeps_by m budget workers incumbent p e keys turns returned h may (omega (arith, entry_paid p.tree e (unreturned p.returned) (unreturned returned) h.grows.within_budget may paid, h.room_is)) cut ks t r report
+    entry_keeps_by m budget workers incumbent p e keys turns returned h may
+    (omega (arith, entry_paid p.tree e (unreturned p.returned) (unreturned returned) h.grows.within_budget may paid, h.room_is)) cut ks t r report
 
 -- how much is owed once a taken node is put back
 pub back_owed : (g : Grown) (k x : ℕ) (returned : List Bool) → IsGrowth g → state_at g.nodes x ≡ Some (Taken k) → owed (grown g (GiveBack k x)) returned ≤ owed g returned + 1
@@ -156,7 +157,10 @@ pub settle_keeps : (m : Market) (budget workers : ℕ) (incumbent : IncumbentId)
     → IsPool m budget workers incumbent (settled_with p k x seen f)
 settle_keeps m budget workers incumbent p k x seen f h may =
     let e = settling p.tree k x seen f in
-    entry_keeps m budget workers incumbent (meeting p seen) e (keys_after p.tree e p.keys (child_key f)) p.turns p.returned (meeting_keeps m budget workers incumbent p seen h) may (settling_paid p.tree k x seen (unreturned p.returned) (closing_leaf seen f)) (settling_cut p.tree k x seen (max p.seat.seen seen) f (omega arith)) (keys_enough p.tree e p.keys (child_key f) h.keys_are) refl refl (settling_turns p.tree k x seen p.turns p.journal (closing_leaf seen f) h.turns_report)
+    entry_keeps m budget workers incumbent (meeting p seen) e (keys_after p.tree e p.keys (child_key f)) p.turns p.returned
+    (meeting_keeps m budget workers incumbent p seen h) may (settling_paid p.tree k x seen (unreturned p.returned) (closing_leaf seen f))
+    (settling_cut p.tree k x seen (max p.seat.seen seen) f (omega arith)) (keys_enough p.tree e p.keys (child_key f) h.keys_are) refl refl
+    (settling_turns p.tree k x seen p.turns p.journal (closing_leaf seen f) h.turns_report)
 
 -- ---- what became of a node
 

@@ -246,7 +246,9 @@ queue_more nodes words q r key h f = record {
     count = length-append nodes kids ∙ ap (λ (n : ℕ). length nodes + n) (length-map words new_node)
 
     numbers : (y : ℕ) → count_by (λ z. z == y) r.waiting ≡ count_by (λ z. z == y) q.waiting + count_by (λ z. z == y) (numbers_from (length nodes) (length words))
-    numbers y = times_permuted y _ r.waiting f.waiting ∙ times_append y q.waiting (numbers_from (length q.keys) (length words)) ∙ ap (λ (n : ℕ). count_by (λ z. z == y) q.waiting + count_by (λ z. z == y) (numbers_from n (length words))) h.keys
+    numbers y =
+        times_permuted y _ r.waiting f.waiting ∙ times_append y q.waiting (numbers_from (length q.keys) (length words)) ∙ ap
+        (λ (n : ℕ). count_by (λ z. z == y) q.waiting + count_by (λ z. z == y) (numbers_from n (length words))) h.keys
 
     front : (y : ℕ) → y < length nodes → state_at (nodes ++ kids) y ≡ state_at nodes y
     front y l = ap (λ (o : Option TreeNode). option_map (λ (n : TreeNode). n.state) o) (get_front nodes kids y l)

@@ -114,7 +114,9 @@ turns_after nodes news turns entries e other before h y k taken =
 pub turns_close : (g : Grown) (k x cutoff : ℕ) (leaf : Rattle.mari_market.specs.declared.certificate.Leaf.Leaf) (turns : List ℕ) (entries : List JournalEntry)
     → AreTurns g.nodes turns entries
     → AreTurns (grown g (Close k x leaf cutoff)).nodes turns (entries ++ in_journal (Close k x leaf cutoff) ∷ [])
-turns_close g k x cutoff leaf turns entries h = turns_after g.nodes (with_state (Closed leaf cutoff) g.nodes x) turns entries (in_journal (Close k x leaf cutoff)) (λ node j e. absurd (cc)) (λ y j t. taken_before (Closed leaf cutoff) g.nodes x y j (λ i e. absurd (cc)) t) h
+turns_close g k x cutoff leaf turns entries h =
+    turns_after g.nodes (with_state (Closed leaf cutoff) g.nodes x) turns entries (in_journal (Close k x leaf cutoff)) (λ node j e. absurd (cc))
+    (λ y j t. taken_before (Closed leaf cutoff) g.nodes x y j (λ i e. absurd (cc)) t) h
 
 pub turns_branch : (g : Grown) (k x cutoff : ℕ) (turns : List ℕ) (entries : List JournalEntry)
     → AreTurns g.nodes turns entries
@@ -127,11 +129,15 @@ turns_branch g k x cutoff turns entries h =
 pub turns_full : (g : Grown) (k x cutoff : ℕ) (turns : List ℕ) (entries : List JournalEntry)
     → AreTurns g.nodes turns entries
     → AreTurns (grown g (Full k x cutoff)).nodes turns (entries ++ in_journal (Full k x cutoff) ∷ [])
-turns_full g k x cutoff turns entries h = turns_after g.nodes (with_state Untaken g.nodes x) turns entries (in_journal (Full k x cutoff)) (λ node j e. absurd (cc)) (λ y j t. taken_before Untaken g.nodes x y j (λ i e. absurd (cc)) t) h
+turns_full g k x cutoff turns entries h =
+    turns_after g.nodes (with_state Untaken g.nodes x) turns entries (in_journal (Full k x cutoff)) (λ node j e. absurd (cc))
+    (λ y j t. taken_before Untaken g.nodes x y j (λ i e. absurd (cc)) t) h
 
 pub turns_back : (g : Grown) (k x : ℕ) (turns : List ℕ) (entries : List JournalEntry) → AreTurns g.nodes turns entries
     → AreTurns (grown g (GiveBack k x)).nodes turns (entries ++ in_journal (GiveBack k x) ∷ [])
-turns_back g k x turns entries h = turns_after g.nodes (with_state Untaken g.nodes x) turns entries (in_journal (GiveBack k x)) (λ node j e. absurd (cc)) (λ y j t. taken_before Untaken g.nodes x y j (λ i e. absurd (cc)) t) h
+turns_back g k x turns entries h =
+    turns_after g.nodes (with_state Untaken g.nodes x) turns entries (in_journal (GiveBack k x)) (λ node j e. absurd (cc))
+    (λ y j t. taken_before Untaken g.nodes x y j (λ i e. absurd (cc)) t) h
 
 -- the entry that takes a node gives it its turn
 pub turns_take : (g : Grown) (k x turn : ℕ) (turns : List ℕ) (entries : List JournalEntry) → x < length turns

@@ -105,7 +105,9 @@ module _ (books : Books) (ok : IsAccepted books) where
         let b : Block = get_or blocks k no_block in
         let first = up k (omega (arith, l)) in
         let next = next-block books ok (take k blocks) first (after k here) b (sound k b (slice_get-get_or blocks k no_block here)) in
-        subst (AreFirstBlocks books) (sym (ap (before_of books) (take-suc blocks k no_block here) ∙ map-append (past_of books) (take k blocks) (b ∷ []))) (first-more books ok (before_of books (take k blocks)) (past_of books b) next first)
+        subst (AreFirstBlocks books)
+        (sym (ap (before_of books) (take-suc blocks k no_block here) ∙ map-append (past_of books) (take k blocks) (b ∷ [])))
+        (first-more books ok (before_of books (take k blocks)) (past_of books b) next first)
 
     first-blocks : AreFirstBlocks books (before_of books blocks)
     first-blocks = let P : List Block → Type 0 = λ bs. AreFirstBlocks books (before_of books bs) in subst P (take-length blocks) (up (length blocks) (omega arith))

@@ -101,17 +101,21 @@ module _ (books : Books) (ok : IsAccepted books) (blocks : List Block) (kept : P
       kept-after entry = if entry.direct then kept.scheduled else Some (record { quarter = entry.quarter; prices = settled.prices })
 
       keeps : (new : Option Scheduled) (direct : Bool) → (run_numbered books (run_after blocks)).direct ≡ direct
-          → new ≡ (if direct then kept.scheduled else Some (record { quarter = (run_numbered books (run_after blocks)).quarter; prices = settled.prices })) → KeepsPrices books (blocks ++ block.Published b ∷ []) new
+          → new
+          ≡ (if direct then kept.scheduled else Some (record { quarter = (run_numbered books (run_after blocks)).quarter; prices = settled.prices }))
+          → KeepsPrices books (blocks ++ block.Published b ∷ []) new
       keeps new true e f = subst (KeepsPrices books (blocks ++ block.Published b ∷ [])) (sym f) (keeps-direct books ok blocks kept.scheduled progress.scheduled b last is.sound.heading e)
       keeps new false e f =
           let own : Scheduled = record { quarter = (run_numbered books (run_after blocks)).quarter; prices = settled.prices } in
           let consistent = is.sound.consistent in
-          subst (KeepsPrices books (blocks ++ block.Published b ∷ [])) (sym f) (keeps-scheduled books ok blocks kept.scheduled progress.scheduled b last is.sound.heading e own refl is.adds.prices consistent.prices.one_each consistent.prices.capped)
+          subst (KeepsPrices books (blocks ++ block.Published b ∷ [])) (sym f)
+          (keeps-scheduled books ok blocks kept.scheduled progress.scheduled b last is.sound.heading e own refl is.adds.prices consistent.prices.one_each consistent.prices.capped)
 
       -- the block of a run, which is added to all that is kept
       pub published-added : (run : ℕ) → run ≡ run_after blocks → (after : Progress)
           → StandsFor books (before_of books blocks ++ block_of books run settled.made.bids settled.activation ∷ []) after.remaining
-          → after.totals.operators ≡ map_along lines_together kept.totals.operators settled.ledger.operators → after.totals.providers ≡ map_along together kept.totals.providers settled.ledger.providers
+          → after.totals.operators ≡ map_along lines_together kept.totals.operators settled.ledger.operators → after.totals.providers ≡ map_along
+          together kept.totals.providers settled.ledger.providers
           → after.totals.rents ≡ map_along together kept.totals.rents settled.ledger.rents → after.scheduled ≡ kept-after (run_numbered books run) → after.published ≡ kept.published + 1
           → IsProgress books (blocks ++ block.Published b ∷ []) after
       published-added run own after stands operators providers rents scheduled count =

@@ -87,7 +87,9 @@ module _ (books : Books) (ok : IsAccepted books) (blocks : List Block) (kept : O
   module _ (b : FullBlock) (last : run_after blocks ≤ length books.runs.runs) (heading : b.heading ≡ heading_of books (run_after blocks)) where
     -- the published block of a direct run
     pub keeps-direct : (run_numbered books (run_after blocks)).direct ≡ true → KeepsPrices books (blocks ++ block.Published b ∷ []) kept
-    keeps-direct direct = keeps-same (block.Published b) (λ quarter. skip b.heading.direct (b.heading.quarter == quarter) (Some (prices_of b)) (scheduled_prices quarter blocks) (ap (λ (h : Heading). h.direct) heading ∙ direct))
+    keeps-direct direct =
+        keeps-same (block.Published b)
+        (λ quarter. skip b.heading.direct (b.heading.quarter == quarter) (Some (prices_of b)) (scheduled_prices quarter blocks) (ap (λ (h : Heading). h.direct) heading ∙ direct))
         (ap (λ d. if d then last_scheduled blocks else Some (record { quarter = b.heading.quarter; prices = record { cents = prices_of b } })) (ap (λ (h : Heading). h.direct) heading ∙ direct))
 
     -- that of a scheduled run

@@ -133,7 +133,8 @@ module _ (books : Books) (blocks : List Block) (sums : Ledger) (so_far : AreTota
         let names = books.zones.operators in
         record {
           operators = ap (money_lines_of names) operators ∙ sym (lines-together names sums.operators settled.ledger.operators so_far.one_each is.one_each)
-              ∙ ap (λ xs. map_along money_together xs (money_lines_of names settled.ledger.operators)) so_far.operators ∙ ap (map_along money_together (operator_totals books blocks)) (sym is.operators)
+              ∙ ap (λ xs. map_along money_together xs (money_lines_of names settled.ledger.operators)) so_far.operators ∙ ap
+              (map_along money_together (operator_totals books blocks)) (sym is.operators)
               ∙ sym (fold-append with_operators (money_lines_of names _) blocks (p ∷ []));
           providers =
               let all : List ℕ = range_with_len 0 (length books.bids.providers) in

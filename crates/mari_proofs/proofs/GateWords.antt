@@ -130,7 +130,11 @@ word_test m x a os qs answer v f full same_os same_qs t = (
 )
   where
     there : AllZip (λ (o : Order) q. RunsAsDecided (opens_gate x) o.gate q) os qs → AllZip (λ (o : Order) q. RunsAsDecided (opens_gate x) o.gate q) m.orders a.mw
-    there g = subst (λ (ys : List ℕ). AllZip (λ (o : Order) q. RunsAsDecided (opens_gate x) o.gate q) m.orders ys) same_qs (subst (λ (xs : List Order). AllZip (λ (o : Order) q. RunsAsDecided (opens_gate x) o.gate q) xs qs) same_os g)
+    there g =
+        subst (λ (ys : List ℕ). AllZip (λ (o : Order) q. RunsAsDecided (opens_gate x) o.gate q) m.orders ys) same_qs
+        (subst (λ (xs : List Order). AllZip (λ (o : Order) q. RunsAsDecided (opens_gate x) o.gate q) xs qs) same_os g)
 
     here : AllZip (λ (o : Order) q. RunsAsDecided (opens_gate x) o.gate q) m.orders a.mw → AllZip (λ (o : Order) q. RunsAsDecided (opens_gate x) o.gate q) os qs
-    here g = subst (λ (ys : List ℕ). AllZip (λ (o : Order) q. RunsAsDecided (opens_gate x) o.gate q) os ys) (sym same_qs) (subst (λ (xs : List Order). AllZip (λ (o : Order) q. RunsAsDecided (opens_gate x) o.gate q) xs a.mw) (sym same_os) g)
+    here g =
+        subst (λ (ys : List ℕ). AllZip (λ (o : Order) q. RunsAsDecided (opens_gate x) o.gate q) os ys) (sym same_qs)
+        (subst (λ (xs : List Order). AllZip (λ (o : Order) q. RunsAsDecided (opens_gate x) o.gate q) xs a.mw) (sym same_os) g)

@@ -27,4 +27,6 @@ earlier_for m w x items a v full t adm before = earlier_is_worse m w (word_of x)
 
 pub first_for : (m : Market) (w : ℤ) (gates : List Bool) (items : List TreeItem) (a : Activation) → IsValid m
     → TreeHoldsFor m w gates items → IsAdmissible m a → welfare_of m a ≡ w → gate_word_of m a ≡ gates → IsFirst m a
-first_for m w gates items a v t adm e g = first_by_tree m a items v adm (subst (λ (u : ℤ). TreeHoldsFor m u (gate_word_of m a) items) (sym e) (subst (λ (gs : List Bool). TreeHoldsFor m w gs items) (sym g) t))
+first_for m w gates items a v t adm e g =
+    first_by_tree m a items v adm
+    (subst (λ (u : ℤ). TreeHoldsFor m u (gate_word_of m a) items) (sym e) (subst (λ (gs : List Bool). TreeHoldsFor m w gs items) (sym g) t))

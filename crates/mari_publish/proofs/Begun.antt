@@ -144,7 +144,8 @@ from_pending (Zones zones) ls p k g is s fit =
     let prices : List Cents = record { 0 = pos 0 } ∷ [] in
     let new : Growing = record { listing = g.listing; count = g.count; tree = g.tree; pending = At zones prices } in
     let o : after_growing g g.pending (line.At prices) ≡ Some (held.Growing new) = rw is refl in
-    then_line ls p k (held.Growing g) (line.At prices) (kept_with k (held.Growing new), None) s fit ((omega arith, omega arith), cons_all IsCapped (record { 0 = pos 0 }) [] free_price (All-nil IsCapped)) (kept_some k _ (held.Growing new) o)
+    then_line ls p k (held.Growing g) (line.At prices) (kept_with k (held.Growing new), None) s fit
+    ((omega arith, omega arith), cons_all IsCapped (record { 0 = pos 0 }) [] free_price (All-nil IsCapped)) (kept_some k _ (held.Growing new) o)
     (λ s2 fit2. from_at zones prices (ls ++ line.At prices ∷ []) p (kept_with k (held.Growing new)) new refl s2 fit2)
 
 from_growing : (ls : List Line) (p : Publication) (k : Kept) (g : Growing) → Stands ls p k (held.Growing g) → Fit ls → Begins ls
@@ -173,7 +174,8 @@ from_listing ls p k b [] is s fit =
     let o : after_listing b (line.Zone a_zone) ≡ Some (held.Listing new) = if_true _ (held.Listing new)
     (and_from _ _ (and_from _ _ (and_from _ _ (eq-eqb _ _ no_borders) (eq-eqb _ _ no_bids)) (eq-eqb _ _ no_demands)) (lt-ltb _ _ (omega (arith, no_zones)))) in
     let len : length (b.zones ++ a_zone ∷ []) ≡ length b.zones + 1 = simp (length-append) in
-    then_line ls p k (held.Listing b) (line.Zone a_zone) (kept_with k (held.Listing new), None) s fit (refl, free_price, free_price, free_price, (omega arith, omega arith)) (kept_some k _ (held.Listing new) o)
+    then_line ls p k (held.Listing b) (line.Zone a_zone) (kept_with k (held.Listing new), None) s fit
+    (refl, free_price, free_price, free_price, (omega arith, omega arith)) (kept_some k _ (held.Listing new) o)
     (λ s2 fit2. from_zones (ls ++ line.Zone a_zone ∷ []) p (kept_with k (held.Listing new)) new s2 fit2 (omega (arith, len)))
 
 from_run : (ls : List Line) (p : Publication) (k : Kept) (h : Heading) → Stands ls p k (held.Run h) → Fit ls → Begins ls

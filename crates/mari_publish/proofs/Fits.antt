@@ -92,7 +92,9 @@ block_fits (block.Unpublished heading count) a w = a.0
 
 from_blocks : (bs : List Block) → Fit (flat_map block_lines bs) → AllByRecursion IsWithinLimits bs → All BlockFits bs
 from_blocks [] a w = All-nil BlockFits
-from_blocks (b ∷ bs) a w = cons_all BlockFits b bs (block_fits b (all_front InRange (block_lines b) (flat_map block_lines bs) a) w.0) (from_blocks bs (all_back InRange (block_lines b) (flat_map block_lines bs) a) w.1)
+from_blocks (b ∷ bs) a w =
+    cons_all BlockFits b bs (block_fits b (all_front InRange (block_lines b) (flat_map block_lines bs) a) w.0)
+    (from_blocks bs (all_back InRange (block_lines b) (flat_map block_lines bs) a) w.1)
 
 -- lines in range that don't come too often
 pub has_text : (p : Publication) → Fit (lines_of p) → AllByRecursion IsWithinLimits p.blocks → length p.blocks ≤ 1000 → Between 1 64 (length p.operators) → length p.providers ≤ 1638400 → HasText p

@@ -49,7 +49,8 @@ step p k l ls x e = ap (option_and_then (λ (y : Kept × Option Part). after_all
 
 through : (p : Publication) (xs ys : List Line) (o : Option (Kept × Option Part))
     → ((q : Publication) (k : Kept) → after_all q k (xs ++ ys) ≡ option_and_then (λ (s : Publication × Kept). after_all s.0 s.1 ys) (after_all q k xs))
-    → option_and_then (λ (y : Kept × Option Part). after_all (grown p y.1) y.0 (xs ++ ys)) o ≡ option_and_then (λ (s : Publication × Kept). after_all s.0 s.1 ys) (option_and_then (λ (y : Kept × Option Part). after_all (grown p y.1) y.0 xs) o)
+    → option_and_then (λ (y : Kept × Option Part). after_all (grown p y.1) y.0 (xs ++ ys)) o ≡ option_and_then
+    (λ (s : Publication × Kept). after_all s.0 s.1 ys) (option_and_then (λ (y : Kept × Option Part). after_all (grown p y.1) y.0 xs) o)
 through p xs ys None h = refl
 through p xs ys (Some y) h = h (grown p y.1) y.0
 
@@ -202,7 +203,8 @@ regrouped zs bs ds ms is os ps rest t e =
 
 block_follows : (p : Publication) (m n : ℕ) (b : Block) (rest : List Line) → IsWithinLimits b → m + n < 1000
     → after_all p (at m n held.Between) (block_lines b ++ rest) ≡ after_all (grown p (Some (part.Block b))) (at (m + ones b) (n + others b) held.Between) rest
-block_follows p m n (block.Unpublished h count) rest within lt = rw (lt-ltb _ _ lt) (ap (λ x. after_all (grown p (Some (part.Block (block.Unpublished h count)))) (at x (n + 1) held.Between) rest) (omega arith))
+block_follows p m n (block.Unpublished h count) rest within lt =
+    rw (lt-ltb _ _ lt) (ap (λ x. after_all (grown p (Some (part.Block (block.Unpublished h count)))) (at x (n + 1) held.Between) rest) (omega arith))
 block_follows p m n (block.Published b) rest within lt =
     let zs = map line.Zone b.zones in
     let bs = map line.Border b.borders in
@@ -236,7 +238,8 @@ abbrev with_blocks : Publication → List Block → Publication
 with_blocks p bs = record { date = p.date; quarters = p.quarters; budget = p.budget; blocks = bs; operators = p.operators; providers = p.providers }
 
 blocks_follow : (p : Publication) (m n : ℕ) (before bs : List Block) (rest : List Line) → AllByRecursion IsWithinLimits bs → m + n + length bs ≤ 1000
-    → after_all (with_blocks p before) (at m n held.Between) (flat_map block_lines bs ++ rest) ≡ after_all (with_blocks p (before ++ bs)) (at (m + published_in bs) (n + unpublished_in bs) held.Between) rest
+    → after_all (with_blocks p before) (at m n held.Between) (flat_map block_lines bs ++ rest) ≡ after_all (with_blocks p (before ++ bs))
+    (at (m + published_in bs) (n + unpublished_in bs) held.Between) rest
 blocks_follow p m n before [] rest within le =
     ap (λ (bs : List Block). after_all (with_blocks p bs) (at m n held.Between) rest) (sym (append-nil before))
     ∙ plus_none (λ a b. after_all (with_blocks p (before ++ [])) (at a b held.Between) rest) m n
@@ -326,7 +329,9 @@ pub came_more : (ls : List Line) (p : Publication) (k : Kept) (l : Line) (x : Ke
 came_more ls p k l x r e = in_parts nothing_read nothing_kept ls (l ∷ []) ∙ ap (option_and_then (λ (s : Publication × Kept). after_all s.0 s.1 (l ∷ []))) r ∙ step p k l [] x e
 
 came_none : (ls : List Line) (p : Publication) (k : Kept) (l : Line) (more : List Line) → Came ls p k → after k k.held l ≡ None → after_all nothing_read nothing_kept (ls ++ l ∷ more) ≡ None
-came_none ls p k l more r e = in_parts nothing_read nothing_kept ls (l ∷ more) ∙ ap (option_and_then (λ (s : Publication × Kept). after_all s.0 s.1 (l ∷ more))) r ∙ ap (option_and_then (λ (y : Kept × Option Part). after_all (grown p y.1) y.0 more)) e
+came_none ls p k l more r e =
+    in_parts nothing_read nothing_kept ls (l ∷ more) ∙ ap (option_and_then (λ (s : Publication × Kept). after_all s.0 s.1 (l ∷ more))) r ∙ ap
+    (option_and_then (λ (y : Kept × Option Part). after_all (grown p y.1) y.0 more)) e
 
 -- a line that may not follow begins no publication
 pub not_begun : (ls : List Line) (p : Publication) (k : Kept) (l : Line) → Came ls p k → after k k.held l ≡ None → Begins (ls ++ l ∷ []) → ⊥

@@ -30,20 +30,24 @@ after_four (Ok u) x y z v w a b c d ea eb ec ed =
     regroup p q s t = simp append_assoc
 
     together : text_of_lines (a ++ (b ++ (c ++ d))) ≡ text_of_lines a ++ (text_of_lines b ++ (text_of_lines c ++ text_of_lines d))
-    together = flat_map-append line_text a (b ++ (c ++ d)) ∙ ap (λ (t : List ℕ). text_of_lines a ++ t) (flat_map-append line_text b (c ++ d) ∙ ap (λ (t : List ℕ). text_of_lines b ++ t) (flat_map-append line_text c d))
+    together =
+        flat_map-append line_text a (b ++ (c ++ d)) ∙ ap (λ (t : List ℕ). text_of_lines a ++ t)
+        (flat_map-append line_text b (c ++ d) ∙ ap (λ (t : List ℕ). text_of_lines b ++ t) (flat_map-append line_text c d))
 after_four (Err e) x y z v w a b c d ea eb ec ed = tt
 
 -- the head, the blocks and the totals
 pub three_texts : (p : Publication) (y z w : List ℕ) → y ≡ [] ++ line_text (line.Head p.date p.quarters p.budget) → z ≡ y ++ text_of_lines (flat_map block_lines p.blocks) → w ≡ z ++ total_text_of p
     → w ≡ head_text_of p.date p.quarters p.budget ++ (flat_map block_text_of p.blocks ++ total_text_of p)
 three_texts p y z w ey ez ew =
-    ew ∙ ap (λ (t : List ℕ). t ++ total_text_of p) (ez ∙ ap (λ (t : List ℕ). t ++ text_of_lines (flat_map block_lines p.blocks)) ey ∙ ap (λ (t : List ℕ). line_text (line.Head p.date p.quarters p.budget) ++ t) (text_of_blocks p.blocks))
+    ew ∙ ap (λ (t : List ℕ). t ++ total_text_of p)
+    (ez ∙ ap (λ (t : List ℕ). t ++ text_of_lines (flat_map block_lines p.blocks)) ey ∙ ap (λ (t : List ℕ). line_text (line.Head p.date p.quarters p.budget) ++ t) (text_of_blocks p.blocks))
     ∙ append_assoc (line_text (line.Head p.date p.quarters p.budget)) (flat_map block_text_of p.blocks) (total_text_of p)
     ∙ ap (λ (t : List ℕ). t ++ (flat_map block_text_of p.blocks ++ total_text_of p)) (sym (append-nil (line_text (line.Head p.date p.quarters p.budget))))
 
 -- a loop writes the lines of a list's items: one more is written, so that those still to come are one less
 pub one_put : {X : Type 0} (F : List X → List Line) (g : X → List ℕ) → ((y : X) (ys : List X) → text_of_lines (F (y ∷ ys)) ≡ g y ++ text_of_lines (F ys))
-    → (xs : List X) (i : ℕ) (x : X) (a b whole : List ℕ) → i < length xs → x ≡ get_or xs i x → b ≡ a ++ g x → a ++ text_of_lines (F (drop i xs)) ≡ whole → b ++ text_of_lines (F (drop (i + 1) xs)) ≡ whole
+    → (xs : List X) (i : ℕ) (x : X) (a b whole : List ℕ) → i < length xs → x ≡ get_or xs i x → b ≡ a ++ g x → a ++ text_of_lines (F (drop i xs))
+    ≡ whole → b ++ text_of_lines (F (drop (i + 1) xs)) ≡ whole
 one_put F g first xs i x a b whole lt is put e =
     let rest = drop (i + 1) xs in
     ap (λ (t : List ℕ). t ++ text_of_lines (F rest)) put ∙ append_assoc a (g x) (text_of_lines (F rest))

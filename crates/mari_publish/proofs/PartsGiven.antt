@@ -143,7 +143,9 @@ on_parts : (p : Publication) (k : Kept) (l : Line) (ls : List Line) (q : Publica
     → ((x : Kept × Option Part) → after_all (grown p x.1) x.0 ls ≡ Some (q, r) → More (parts_so_far (grown p x.1) x.0.held) (parts_so_far q r.held))
     → option_and_then (λ (x : Kept × Option Part). after_all (grown p x.1) x.0 ls) o ≡ Some (q, r) → More (parts_so_far p k.held) (parts_so_far q r.held)
 on_parts p k l ls q r None is more e = absurd cc
-on_parts p k l ls q r (Some x) is more e = joined (parts_so_far p k.held) (parts_so_far q r.held) x.1 (subst (λ (P : List Part). More P (parts_so_far q r.held)) (step_parts p k k.held l x is) (more x e))
+on_parts p k l ls q r (Some x) is more e =
+    joined (parts_so_far p k.held) (parts_so_far q r.held) x.1
+    (subst (λ (P : List Part). More P (parts_so_far q r.held)) (step_parts p k k.held l x is) (more x e))
 
 more_parts : (ls : List Line) (p : Publication) (k : Kept) (q : Publication) (r : Kept) → after_all p k ls ≡ Some (q, r) → More (parts_so_far p k.held) (parts_so_far q r.held)
 more_parts [] p k q r e =

@@ -177,7 +177,8 @@ more_items : (xs : List Line) (t : Line) (is : List TreeItem) (i : TreeItem) (ps
     → xs ++ t ∷ (flat_map item_lines (is ++ i ∷ []) ++ []) ≡ (xs ++ t ∷ (flat_map item_lines is ++ ps)) ++ l ∷ []
 more_items xs t is i ps l e =
     let m : flat_map item_lines (is ++ i ∷ []) ≡ flat_map item_lines is ++ (ps ++ l ∷ []) = flat_map-append item_lines is (i ∷ []) ∙ ap (λ (x : List Line). flat_map item_lines is ++ x) (append-nil (item_lines i) ∙ e) in
-    one_more xs _ (t ∷ (flat_map item_lines is ++ ps)) l (ap (λ (ys : List Line). t ∷ ys) (append-nil (flat_map item_lines (is ++ i ∷ [])) ∙ m ∙ sym (append_assoc (flat_map item_lines is) ps (l ∷ []))))
+    one_more xs _ (t ∷ (flat_map item_lines is ++ ps)) l
+    (ap (λ (ys : List Line). t ∷ ys) (append-nil (flat_map item_lines (is ++ i ∷ [])) ∙ m ∙ sym (append_assoc (flat_map item_lines is) ps (l ∷ []))))
 
 more_pending : (xs : List Line) (t : Line) (is ps : List Line) (l : Line) → xs ++ t ∷ (is ++ (ps ++ l ∷ [])) ≡ (xs ++ t ∷ (is ++ ps)) ++ l ∷ []
 more_pending xs t is ps l = one_more xs _ (t ∷ (is ++ ps)) l (ap (λ (ys : List Line). t ∷ ys) (sym (append_assoc is ps (l ∷ []))))
@@ -225,17 +226,21 @@ growing_step p g Nothing (line.Cut cut) h is fits e =
     subst (λ x. Moves p (held.Growing g) (line.Cut cut) x) t.1 (with_item_step p g i (line.Cut cut) fits (ltb-true _ _ t.0) (ap (λ x. pending_lines x ++ line.Cut cut ∷ []) (sym is)))
 growing_step p g Nothing (line.Conflict zones) h is fits e =
     let t = cond_some (ltb (length g.tree) g.count) (with_pending g (Zones zones)) h e in
-    subst (λ x. Moves p (held.Growing g) (line.Conflict zones) x) t.1 (with_pending_step p g (Zones zones) (line.Conflict zones) fits (ltb-true _ _ t.0) (ap (λ x. pending_lines x ++ line.Conflict zones ∷ []) (sym is)))
+    subst (λ x. Moves p (held.Growing g) (line.Conflict zones) x) t.1
+    (with_pending_step p g (Zones zones) (line.Conflict zones) fits (ltb-true _ _ t.0) (ap (λ x. pending_lines x ++ line.Conflict zones ∷ []) (sym is)))
 growing_step p g Nothing (line.Operator o) h is fits e =
     let t = cond_some (eqb (length g.tree) g.count) (held.Ending (record { listing = g.listing; tree = g.tree; operators = o ∷ []; providers = [] })) h e in
     subst (λ x. Moves p (held.Growing g) (line.Operator o) x) t.1 (operator_step p g o fits (eqb-true _ _ t.0) (ap pending_lines is))
 growing_step p g (Zones zones) (line.At prices) h is fits e =
-    subst (λ x. Moves p (held.Growing g) (line.At prices) x) (some_is _ _ e) (with_pending_step p g (At zones prices) (line.At prices) fits (fits.1.due (ap is_nothing is)) (ap (λ x. pending_lines x ++ line.At prices ∷ []) (sym is)))
+    subst (λ x. Moves p (held.Growing g) (line.At prices) x) (some_is _ _ e)
+    (with_pending_step p g (At zones prices) (line.At prices) fits (fits.1.due (ap is_nothing is)) (ap (λ x. pending_lines x ++ line.At prices ∷ []) (sym is)))
 growing_step p g (At zones prices) (line.Flows flows) h is fits e =
-    subst (λ x. Moves p (held.Growing g) (line.Flows flows) x) (some_is _ _ e) (with_pending_step p g (Flows zones prices flows) (line.Flows flows) fits (fits.1.due (ap is_nothing is)) (ap (λ x. pending_lines x ++ line.Flows flows ∷ []) (sym is)))
+    subst (λ x. Moves p (held.Growing g) (line.Flows flows) x) (some_is _ _ e)
+    (with_pending_step p g (Flows zones prices flows) (line.Flows flows) fits (fits.1.due (ap is_nothing is)) (ap (λ x. pending_lines x ++ line.Flows flows ∷ []) (sym is)))
 growing_step p g (Flows zones prices flows) (line.Mws mws) h is fits e =
     let i = conflict_item zones prices flows mws in
-    subst (λ x. Moves p (held.Growing g) (line.Mws mws) x) (some_is (with_item g i) h e) (with_item_step p g i (line.Mws mws) fits (fits.1.due (ap is_nothing is)) (ap (λ x. pending_lines x ++ line.Mws mws ∷ []) (sym is)))
+    subst (λ x. Moves p (held.Growing g) (line.Mws mws) x) (some_is (with_item g i) h e)
+    (with_item_step p g i (line.Mws mws) fits (fits.1.due (ap is_nothing is)) (ap (λ x. pending_lines x ++ line.Mws mws ∷ []) (sym is)))
 growing_step p g _ _ h is fits e = absurd cc
 
 -- a line after a tree
@@ -281,7 +286,10 @@ totals_step p os ps (line.TotalOperator o) h fits e =
     let room : length os < 64 = ltb-true _ _ s.1 in
     let len = length_push os o in
     let lines : (qs : List AmountLine) → qs ≡ [] → map line.TotalOperator (os ++ o ∷ []) ++ map line.TotalProvider qs ≡ (map line.TotalOperator os ++ map line.TotalProvider qs) ++ line.TotalOperator o ∷ []
-    = λ qs none. subst (λ (qs : List AmountLine). map line.TotalOperator (os ++ o ∷ []) ++ map line.TotalProvider qs ≡ (map line.TotalOperator os ++ map line.TotalProvider qs) ++ line.TotalOperator o ∷ []) (sym none)
+    = λ qs none.
+    subst
+    (λ (qs : List AmountLine). map line.TotalOperator (os ++ o ∷ []) ++ map line.TotalProvider qs ≡ (map line.TotalOperator os ++ map line.TotalProvider qs) ++ line.TotalOperator o ∷ [])
+    (sym none)
     (push_nil (λ x. line.TotalOperator x) os o) in
     let few = fits.0.0 in
     subst (λ x. Moves p (held.Totals os ps) (line.TotalOperator o) x) t.1

@@ -91,11 +91,16 @@ kept_step ls p k h l (Some new) x s m e = subst (λ y. Next ls p l y) (some_is (
 
 -- a block that is whole
 block_push : (p : Publication) (b : Block) → front_lines (grown p (Some (part.Block b))) ++ [] ≡ front_lines p ++ block_lines b
-block_push p b = append-nil _ ∙ ap (λ (xs : List Line). line.Head p.date p.quarters p.budget ∷ xs) (flat_map-append block_lines p.blocks (b ∷ []) ∙ ap (λ (xs : List Line). flat_map block_lines p.blocks ++ xs) (append-nil (block_lines b)))
+block_push p b =
+    append-nil _ ∙ ap (λ (xs : List Line). line.Head p.date p.quarters p.budget ∷ xs)
+    (flat_map-append block_lines p.blocks (b ∷ []) ∙ ap (λ (xs : List Line). flat_map block_lines p.blocks ++ xs) (append-nil (block_lines b)))
 
 ended : (F m is os ps : List Line) (a b t e : Line)
     → (F ++ ((a ∷ b ∷ m) ++ t ∷ (is ++ (os ++ ps)))) ++ e ∷ [] ≡ F ++ (a ∷ b ∷ (m ++ (t ∷ is ++ (os ++ (ps ++ e ∷ [])))))
-ended F m is os ps a b t e = rw (append_assoc F ((a ∷ b ∷ m) ++ t ∷ (is ++ (os ++ ps))) (e ∷ []), append_assoc m (t ∷ (is ++ (os ++ ps))) (e ∷ []), append_assoc is (os ++ ps) (e ∷ []), append_assoc os ps (e ∷ [])) refl
+ended F m is os ps a b t e =
+    rw
+    (append_assoc F ((a ∷ b ∷ m) ++ t ∷ (is ++ (os ++ ps))) (e ∷ []), append_assoc m (t ∷ (is ++ (os ++ ps))) (e ∷ []), append_assoc is (os ++ ps) (e ∷ []), append_assoc os ps (e ∷ []))
+    refl
 
 first : (F : List Line) (l : Line) → F ++ l ∷ [] ≡ (F ++ []) ++ l ∷ []
 first F l = ap (λ (xs : List Line). xs ++ l ∷ []) (sym (append-nil F))

@@ -61,7 +61,9 @@ module _ (books : Books) (ok : IsAccepted books) (blocks : List PastBlock) (b : 
       first = first-more stands.first;
       mw = fill_by_all (mw_of (blocks ++ b ∷ [])) after.mw (length books.bids.bids) 0 (is.mws ∙ ap length stands.mw ∙ length-map-range_with_len (mw_of blocks) 0 (length books.bids.bids))
           (λ i l. is.mw i ∙ ap (λ n. n + mw_in_block i b) (kept-mw books ok blocks kept stands i) ∙ sym (sum_by_push (mw_in_block i) blocks b));
-      direct = fill_by_all (is_activated (of_direct_runs (blocks ++ b ∷ []))) after.direct (length books.bids.bids) false (is.marks ∙ ap length stands.direct ∙ length-map-range_with_len (is_activated (of_direct_runs blocks)) 0 (length books.bids.bids))
+      direct =
+          fill_by_all (is_activated (of_direct_runs (blocks ++ b ∷ []))) after.direct (length books.bids.bids) false
+          (is.marks ∙ ap length stands.direct ∙ length-map-range_with_len (is_activated (of_direct_runs blocks)) 0 (length books.bids.bids))
           (λ i l. is.direct i ∙ ap (λ t. t || (b.direct && nat_lt 0 (mw_in_block i b))) (kept-direct books ok blocks kept stands i) ∙ sym (direct-more i));
       quarter = is.quarter ∙ sym (last-more books ok blocks b ∙ rw published refl);
       flow = rw is.quarter (fill_by_all (flow_of (of_quarter b.quarter (blocks ++ b ∷ []))) after.flow (length books.borders.borders) (pos 0)
@@ -138,7 +140,10 @@ module _ (books : Books) (ok : IsAccepted books) (blocks : List PastBlock) (kept
             (All-weaker (IsOwn books run_of.quarter) (λ i. i < length books.bids.bids) (λ i h. h.there) (bids_of_quarter books.bids.bids run_of.quarter) own));
         long = rw is_past.bids (omega (arith, orders, length-append (map (λ i. bid_order (bid_numbered books.bids.bids i) (gate_of (gated_left books (taken_before books blocks run) run) i) ((taken_before books blocks run).mw i)) (numbers_of books blocks run)) (map demand_order (demands_of_run books.demands.demands run)), length-map (numbers_of books blocks run) (λ i. bid_order (bid_numbered books.bids.bids i) (gate_of (gated_left books (taken_before books blocks run) run) i) ((taken_before books blocks run).mw i))));
         small = λ i. rw (kept-mw books ok blocks kept stands i) (let left = (within-offer books ok blocks (block_of books run made.bids a) (own-blocks books ok blocks stands.first) next i (offers books ok blocks stands.first i)).left in omega (arith, left, most i));
-        flows = borders ∙ length-map-range_with_len (λ k. border_left (ends_at books.borders.borders k) (run_limits books run k) ((taken_before books blocks run).flow k)) 0 (length books.borders.borders)
+        flows =
+            borders ∙ length-map-range_with_len
+            (λ k. border_left (ends_at books.borders.borders k) (run_limits books run k) ((taken_before books blocks run).flow k)) 0
+            (length books.borders.borders)
             ∙ sym (ap length stands.flow ∙ length-map-range_with_len (flow_of (of_quarter (unwrap_or kept.quarter 0) blocks)) 0 (length books.borders.borders));
         flow = λ k.
             let sum : flow_of (of_quarter run_of.quarter (blocks ++ block_of books run made.bids a ∷ [])) k ≡ flow_of (of_quarter run_of.quarter blocks) k +ℤ get_or a.flow k (pos 0) =

@@ -51,7 +51,9 @@ quarters-fit books ok = All-map (λ key. key < books.quarters + 1) (λ (b : Bid)
 module _ (books : Books) (ok : IsAccepted books) where
   -- the run of a demand is one of the day's
   runs-below : All (λ (d : Demand). d.run < length books.runs.runs + 1) books.demands.demands
-  runs-below = All-weaker (IsDemand books.zones (length books.runs.runs)) (λ (d : Demand). d.run < length books.runs.runs + 1) (λ d h. omega (arith, h.last_run)) books.demands.demands ok.demands.demands
+  runs-below =
+      All-weaker (IsDemand books.zones (length books.runs.runs)) (λ (d : Demand). d.run < length books.runs.runs + 1)
+      (λ d h. omega (arith, h.last_run)) books.demands.demands ok.demands.demands
 
   pub runs-fit : All (λ key. key < length books.runs.runs + 1) (map (λ (d : Demand). d.run) books.demands.demands)
   runs-fit = All-map (λ key. key < length books.runs.runs + 1) (λ (d : Demand). d.run) books.demands.demands runs-below

@@ -17,7 +17,8 @@ pub mark-no : (marks : List Bool) (ns qs : List ℕ) (k i : ℕ) → k < length 
 mark-no marks ns qs k i l m none = rw (beside-drop i k ns qs l m, none) (by (get_or ns k 0 == i))
   where
     by : (t : Bool)
-        → (get_or marks i false || nat_lt 0 (mw_beside i (drop (k + 1) ns) (drop (k + 1) qs))) ≡ (get_or marks i false || nat_lt 0 ((if t then 0 else 0) + mw_beside i (drop (k + 1) ns) (drop (k + 1) qs)))
+        → (get_or marks i false || nat_lt 0 (mw_beside i (drop (k + 1) ns) (drop (k + 1) qs)))
+        ≡ (get_or marks i false || nat_lt 0 ((if t then 0 else 0) + mw_beside i (drop (k + 1) ns) (drop (k + 1) qs)))
     by true = ap (λ n. get_or marks i false || nat_lt 0 n) (omega arith)
     by false = ap (λ n. get_or marks i false || nat_lt 0 n) (omega arith)
 

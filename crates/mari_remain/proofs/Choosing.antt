@@ -70,7 +70,8 @@ free books kept quarter i ok =
     any-filter f (rivals_in books kept) (bids_of_quarter books.bids.bids quarter)
     ∙ ap (list_any (λ j. rivals_in books kept j && f j)) (of_the_quarter books.bids.bids quarter)
     ∙ any-filter (λ j. rivals_in books kept j && f j) own (range_with_len 0 (length books.bids.bids))
-    ∙ list_any-alike (λ j. own j && (rivals_in books kept j && f j)) (λ j. not (j == i) && (share_group books.links.links i j && is_used (taken_in books kept quarter) j)) (range_with_len 0 (length books.bids.bids))
+    ∙ list_any-alike (λ j. own j && (rivals_in books kept j && f j))
+    (λ j. not (j == i) && (share_group books.links.links i j && is_used (taken_in books kept quarter) j)) (range_with_len 0 (length books.bids.bids))
     (λ j. rival (own j) (not (j == i)) (get_or kept.mw j 0) (group_at books.links.links i) (group_at books.links.links j))
     ∙ ap (λ n. list_any (λ j. not (j == i) && (share_group books.links.links i j && is_used (taken_in books kept quarter) j)) (range_with_len 0 n)) (sym all)
 
@@ -160,7 +161,8 @@ module _ (books : Books) (kept : Tally) (run : Run) (ok : IsAccepted books) wher
   pub next : (k i : ℕ) → k < length (bids_of_quarter books.bids.bids run.quarter)
       → get_or (bids_of_quarter books.bids.bids run.quarter) k i ≡ i → i < length books.bids.bids
       → (bid_numbered books.bids.bids i).quarter ≡ run.quarter
-      → (chosen gated : List ℕ) → chosen ≡ filter (is_available books (taken_in books kept run.quarter) run) (take k (bids_of_quarter books.bids.bids run.quarter)) → gated ≡ filter (has_gate books.links) chosen
+      → (chosen gated : List ℕ) → chosen ≡ filter (is_available books (taken_in books kept run.quarter) run)
+      (take k (bids_of_quarter books.bids.bids run.quarter)) → gated ≡ filter (has_gate books.links) chosen
       → (may_run books (taken_in books kept run.quarter) run i && option_map_or (λ p. nat_lt 0 (get_or kept.mw p 0) || list_any (λ j. j == p) gated) (parent_at books.links.links i) true)
       ≡ is_available books (taken_in books kept run.quarter) run i
   next k i l here there own chosen gated is_chosen is_gated =

@@ -40,7 +40,8 @@ by_blocks books P none more blocks first = subst P (take-length blocks) (up (len
     up zero l = none
     up (suc k) l =
         let here : k < length blocks = omega (arith, l) in
-        subst P (sym (take-suc blocks k no_block here)) (more (take k blocks) (get_or blocks k no_block) (first k (get_or blocks k no_block) (slice_get-get_or blocks k no_block here)) (up k (omega (arith, l))))
+        subst P (sym (take-suc blocks k no_block here))
+        (more (take k blocks) (get_or blocks k no_block) (first k (get_or blocks k no_block) (slice_get-get_or blocks k no_block here)) (up k (omega (arith, l))))
 
 -- a sum over one list after another
 int_sum-append : {X : Type 0} (f : X → ℤ) (xs ys : List X) → int_sum f (xs ++ ys) ≡ int_sum f xs +ℤ int_sum f ys
@@ -113,7 +114,10 @@ flow-within flow more (negsuc n) (negsuc m) limit after e f l b small low high =
 -- the flows of one block more
 pub flow-more : (k quarter : ℕ) (before : List PastBlock) (b : PastBlock)
     → flow_of (of_quarter quarter (before ++ b ∷ [])) k ≡ flow_of (of_quarter quarter before) k +ℤ (if b.quarter == quarter then flow_in k b else pos 0)
-flow-more k quarter before b = ap (λ bs. flow_of bs k) (filter-append (λ (b : PastBlock). b.quarter == quarter) before (b ∷ [])) ∙ int_sum-append (flow_in k) (of_quarter quarter before) (cond (b.quarter == quarter) (b ∷ []) []) ∙ ap (λ v. flow_of (of_quarter quarter before) k +ℤ v) (one (b.quarter == quarter))
+flow-more k quarter before b =
+    ap (λ bs. flow_of bs k) (filter-append (λ (b : PastBlock). b.quarter == quarter) before (b ∷ [])) ∙ int_sum-append (flow_in k)
+    (of_quarter quarter before) (cond (b.quarter == quarter) (b ∷ []) []) ∙ ap (λ v. flow_of (of_quarter quarter before) k +ℤ v)
+    (one (b.quarter == quarter))
   where
     one : (t : Bool) → int_sum (flow_in k) (cond t (b ∷ []) []) ≡ (if t then flow_in k b else pos 0)
     one true = omega (arith, ints)
@@ -135,7 +139,9 @@ module _ (books : Books) (ok : IsAccepted books) where
           let fits = in_range books books.limits b.run k ok.limits (ok.borders.borders k _ l) in
           let same : (run_numbered books b.run).quarter ≡ quarter = sym next.quarter ∙ e in
           let small = so_far quarter k in
-          flow-within (flow_of (of_quarter quarter before) k) (get_or past.activation.flow k (pos 0)) (pos (run_limits books b.run k).limit -ℤ flow_of (of_quarter quarter before) k) (pos (run_limits books b.run k).back +ℤ flow_of (of_quarter quarter before) k)
+          flow-within (flow_of (of_quarter quarter before) k) (get_or past.activation.flow k (pos 0))
+          (pos (run_limits books b.run k).limit -ℤ flow_of (of_quarter quarter before) k)
+          (pos (run_limits books b.run k).back +ℤ flow_of (of_quarter quarter before) k)
           (run_limits books b.run k).limit (run_limits books b.run k).back refl refl fits.0 fits.1 small (rw same at within.back) (rw same at within.limit)
 
       published : (p : Option PastRun) → IfSome p (IsPastRun books before b.run) → b.quarter ≡ quarter

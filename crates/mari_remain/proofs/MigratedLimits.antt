@@ -308,6 +308,7 @@ module _ (zones : ZoneBook) (is : IsZoneBook zones) (borders : List BorderEnds) 
   table-has run border first last within =
       let wide : border < length (map bare borders) = omega (arith, within, length-map borders bare) in
       let back_again : (run - 1) + 1 ≡ run = omega (arith, first) in
-      ap (λ row. get_or row border no_limits) (get_or-map-range_with_len (λ r. map (λ b. limits (r + 1) b) (range_with_len 0 (length (map bare borders)))) 0 runs (run - 1) (run - 1) [] (omega (arith, first, last)) (omega arith))
+      ap (λ row. get_or row border no_limits)
+      (get_or-map-range_with_len (λ r. map (λ b. limits (r + 1) b) (range_with_len 0 (length (map bare borders)))) 0 runs (run - 1) (run - 1) [] (omega (arith, first, last)) (omega arith))
       ∙ get_or-map-range_with_len (λ b. limits ((run - 1) + 1) b) 0 (length (map bare borders)) border border no_limits wide (omega arith)
       ∙ ap (λ r. limits r border) back_again

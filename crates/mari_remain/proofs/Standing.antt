@@ -100,7 +100,9 @@ module _ (books : Books) (ok : IsAccepted books) where
   -- no published block of a quarter that isn't the last one's, no flow
   quarter-none : (quarter k : ℕ) (blocks : List PastBlock) → All (λ b. (b.quarter == quarter) ≡ true → flow_in k b ≡ pos 0) blocks → flow_of (of_quarter quarter blocks) k ≡ pos 0
   quarter-none quarter k [] h = refl
-  quarter-none quarter k (b ∷ bs) h = by (b.quarter == quarter) refl (quarter-none quarter k bs (All-tail (λ b. (b.quarter == quarter) ≡ true → flow_in k b ≡ pos 0) b bs h)) (All-head (λ b. (b.quarter == quarter) ≡ true → flow_in k b ≡ pos 0) b bs h)
+  quarter-none quarter k (b ∷ bs) h =
+      by (b.quarter == quarter) refl (quarter-none quarter k bs (All-tail (λ b. (b.quarter == quarter) ≡ true → flow_in k b ≡ pos 0) b bs h))
+      (All-head (λ b. (b.quarter == quarter) ≡ true → flow_in k b ≡ pos 0) b bs h)
     where
       by : (t : Bool) → (b.quarter == quarter) ≡ t → flow_of (of_quarter quarter bs) k ≡ pos 0
           → ((b.quarter == quarter) ≡ true → flow_in k b ≡ pos 0)

@@ -190,7 +190,8 @@ module _ (books : Books) (taken : Taken) (run : ℕ) (ok : IsAccepted books) (sm
       let zones : ℕ = length books.zones.zones in
       let valid : (i : ℕ) → i < length books.bids.bids → IsValidOrder (length books.zones.zones) (length (gated_left books taken run)) (bid_order (bid_numbered books.bids.bids i) (gate_of (gated_left books taken run) i) (taken.mw i)) =
       λ i l. bid books.zones (length books.bids.providers) books.quarters (length (gated_left books taken run)) (bid_numbered books.bids.bids i) (gate_of (gated_left books taken run) i) (taken.mw i) (ok.bids.bids i _ l) (λ g e. (gate-at (gated_left books taken run) i g e).0) in
-      All-map (IsValidOrder (length books.zones.zones) (length (gated_left books taken run))) (λ i. bid_order (bid_numbered books.bids.bids i) (gate_of (gated_left books taken run) i) (taken.mw i)) (numbers_left books taken run)
+      All-map (IsValidOrder (length books.zones.zones) (length (gated_left books taken run)))
+      (λ i. bid_order (bid_numbered books.bids.bids i) (gate_of (gated_left books taken run) i) (taken.mw i)) (numbers_left books taken run)
       (All-weaker (λ i. i < length books.bids.bids) (λ i. IsValidOrder (length books.zones.zones) (length (gated_left books taken run)) (bid_order (bid_numbered books.bids.bids i) (gate_of (gated_left books taken run) i) (taken.mw i))) valid (numbers_left books taken run) there)
 
   demand_orders : All (IsValidOrder (length books.zones.zones) (length (gated_left books taken run))) (map demand_order (demands_of_run books.demands.demands run))
@@ -222,7 +223,9 @@ module _ (books : Books) (taken : Taken) (run : ℕ) (ok : IsAccepted books) (sm
       border books.zones (ends_at books.borders.borders k) (run_limits books run k) (taken.flow k) is fits.0 fits.1 (small_flows k)
 
   borders : All (IsValidBorder (length books.zones.zones)) (market_left books taken run).borders
-  borders = All-map (IsValidBorder (length books.zones.zones)) (λ k. border_left (ends_at books.borders.borders k) (run_limits books run k) (taken.flow k)) (range_with_len 0 (length books.borders.borders))
+  borders =
+      All-map (IsValidBorder (length books.zones.zones)) (λ k. border_left (ends_at books.borders.borders k) (run_limits books run k) (taken.flow k))
+      (range_with_len 0 (length books.borders.borders))
       (All-weaker (λ k. k < length books.borders.borders) (λ k. IsValidBorder (length books.zones.zones) (border_left (ends_at books.borders.borders k) (run_limits books run k) (taken.flow k))) border_at
       (range_with_len 0 (length books.borders.borders)) (range-below (length books.borders.borders)))
 

@@ -69,7 +69,9 @@ line_of k at x = record { line = at; fields = bid_fields k x }
 
 bid-there : (f : Row → Bid) (n x k : ℕ) → k < n → n ≤ 960 → (at : ℕ) × (state : ℕ) × (slice_get (map f (bid_rows n x)) k ≡ Some (f (line_of k at state)))
 bid-there f zero x k before few = absurd (omega (arith, before))
-bid-there f (suc n) x k before few = rw (rows-more bid_line bid_records n x, map-append f (bid_rows n x) (row_of n x ∷ [])) (by (eqb_tells k n) (λ lower. bid-there f n x k lower (omega (arith, few))))
+bid-there f (suc n) x k before few =
+    rw (rows-more bid_line bid_records n x, map-append f (bid_rows n x) (row_of n x ∷ []))
+    (by (eqb_tells k n) (λ lower. bid-there f n x k lower (omega (arith, few))))
   where
     first : List Bid
     first = map f (bid_rows n x)

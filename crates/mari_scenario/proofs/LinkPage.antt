@@ -81,7 +81,9 @@ group-states : (t u : ℕ) → t < 100 → u < 100 → group t ≡ group u → t
 group-states t u a b e = let same : decimal t ≡ decimal u = cc e in decimal_injective t u (omega arith) (omega arith) same
 
 groups-differ : (m n : ℕ) → n < m → m < 24 → bytes_eq (group (m + 1)) (group (n + 1)) ≡ false
-groups-differ m n before few = false_from_ne_true (bytes_eq (group (m + 1)) (group (n + 1))) (λ t. apart (group-states (m + 1) (n + 1) (omega arith) (omega arith) ((bytes_eq-Decides (group (m + 1)) (group (n + 1))).0 t)))
+groups-differ m n before few =
+    false_from_ne_true (bytes_eq (group (m + 1)) (group (n + 1)))
+    (λ t. apart (group-states (m + 1) (n + 1) (omega arith) (omega arith) ((bytes_eq-Decides (group (m + 1)) (group (n + 1))).0 t)))
   where
     apart : m + 1 ≡ n + 1 → ⊥
     apart e = omega (arith, e)
@@ -98,7 +100,9 @@ apart a b lt = grind (arith, nat_tests)
 no-member : (n b : ℕ) → 40 * n ≤ b → list_any (λ (other : Member). other.bid == b) (members n) ≡ false
 no-member zero b past = refl
 no-member (suc n) b past =
-    rw (list_any-append (λ (other : Member). other.bid == b) (members n) (member n 9 ∷ member n 14 ∷ []), no-member n b (omega arith), apart (40 * n + 9) b (omega arith), apart (40 * n + 14) b (omega arith)) refl
+    rw
+    (list_any-append (λ (other : Member). other.bid == b) (members n) (member n 9 ∷ member n 14 ∷ []), no-member n b (omega arith), apart (40 * n + 9) b (omega arith), apart (40 * n + 14) b (omega arith))
+    refl
 
 no-child : (n b : ℕ) → 40 * n ≤ b → list_any (λ (link : Link). link.first == b) (children n) ≡ false
 no-child zero b past = refl

@@ -47,7 +47,8 @@ of-price : (z : ℤ) → unsigned_abs z < 2 ^ 64 → length (printed_cents z) �
 of-price z small =
     let n = unsigned_abs z in
     let sign = sign_of (int_lt z (pos 0)) in
-    omega (arith, length-append (sign ++ decimal (n / 100)) (46 ∷ (48 + n % 100 / 10) ∷ (48 + n % 10) ∷ []), length-append sign (decimal (n / 100)), of-sign (int_lt z (pos 0)), number (n / 100) (omega arith))
+    omega
+    (arith, length-append (sign ++ decimal (n / 100)) (46 ∷ (48 + n % 100 / 10) ∷ (48 + n % 10) ∷ []), length-append sign (decimal (n / 100)), of-sign (int_lt z (pos 0)), number (n / 100) (omega arith))
 
 of-whole : (z : ℤ) → unsigned_abs z < 2 ^ 64 → length (signed_decimal z) ≤ 21
 of-whole (pos n) small = omega (arith, number n small)
@@ -129,7 +130,8 @@ run-size : (i x : ℕ) → i < 24 → length (run_line i x).text ≤ 250
 unfolding scheduled_word
 run-size i x few =
     let reference = pos (4000 + draw 1 4000 x) in
-    omega (arith, length-line (decimal (i + 1)) (decimal (i + 1) ∷ scheduled_word ∷ printed_cents reference ∷ []), number (i + 1) (omega arith), of-price reference (omega (arith, draw-lt 1 4000 x (omega arith))))
+    omega
+    (arith, length-line (decimal (i + 1)) (decimal (i + 1) ∷ scheduled_word ∷ printed_cents reference ∷ []), number (i + 1) (omega arith), of-price reference (omega (arith, draw-lt 1 4000 x (omega arith))))
 
 demand-by : (i x : ℕ) (price : List ℕ) → i < 192 → length price ≤ 24 → length (demand_text i x price) ≤ 250
 demand-by i x price few small =
@@ -187,6 +189,7 @@ pages-short n =
     let demands = codes "run,zone,mw,price\n" in
     seven IsShort (codes "s/day.csv", day_text) (codes "s/zones.csv", zones_text) (codes "s/borders.csv", borders ++ (borders_at n).text) (codes "s/bids.csv", bids ++ (bids_at (before_bids n)).text)
     (codes "s/links.csv", links_text) (codes "s/runs.csv", runs ++ (runs_at (before_runs n)).text) (codes "s/demands.csv", demands ++ (demands_at (before_demands n)).text)
-    (omega (arith, day-short)) (omega (arith, zones-short)) (page-short borders border_line 10 n (omega arith) (omega arith) border-size) (page-short bids bid_line 960 (before_bids n) (omega arith) (omega arith) bid-size)
+    (omega (arith, day-short)) (omega (arith, zones-short)) (page-short borders border_line 10 n (omega arith) (omega arith) border-size)
+    (page-short bids bid_line 960 (before_bids n) (omega arith) (omega arith) bid-size)
     (page-short (codes "kind,first,second\n") link_lines 24 0 (omega arith) (omega arith) link-size) (page-short runs run_line 24 (before_runs n) (omega arith) (omega arith) run-size)
     (page-short demands demand_line 192 (before_demands n) (omega arith) (omega arith) demand-size)

@@ -71,4 +71,5 @@ first_attained m a e f = subst (λ (n : Market). IsAttained n a) (sym e) (subst 
 pub events_proper : (m : Market) (a : Attained) (events own : List Event) (budget : ℕ) → m ≡ oversized → a ≡ first
     → events ≡ own → AreProper (started oversized 2 first budget) own → AreProper (started m 2 a budget) events
 events_proper m a events own budget e f h p =
-    subst (λ (n : Market). AreProper (started n 2 a budget) events) (sym e) (subst (λ (b : Attained). AreProper (started oversized 2 b budget) events) (sym f) (subst (λ (es : List Event). AreProper (started oversized 2 first budget) es) (sym h) p))
+    subst (λ (n : Market). AreProper (started n 2 a budget) events) (sym e)
+    (subst (λ (b : Attained). AreProper (started oversized 2 b budget) events) (sym f) (subst (λ (es : List Event). AreProper (started oversized 2 first budget) es) (sym h) p))

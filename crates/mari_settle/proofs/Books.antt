@@ -63,4 +63,6 @@ payable_all bids zones gates h (n ∷ ns) [] v f = absurd f
 
 -- each number names a bid whose provider and zone are there
 pub payable : (bids : BidBook) (m : Market) (numbers : List ℕ) → HasProviders bids → IsValid m → NameOrders bids.bids numbers m.orders → All (NamesPayable bids m.zones) numbers
-payable bids m numbers h v named = payable_all bids m.zones (length m.gates) h numbers (take (length numbers) m.orders) (All-take (IsValidOrder m.zones (length m.gates)) (length numbers) m.orders v.orders) named
+payable bids m numbers h v named =
+    payable_all bids m.zones (length m.gates) h numbers (take (length numbers) m.orders)
+    (All-take (IsValidOrder m.zones (length m.gates)) (length numbers) m.orders v.orders) named

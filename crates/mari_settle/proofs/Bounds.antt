@@ -125,7 +125,9 @@ earned_small false p q h l = let small = product_small p (pos q) (p *ℤ pos q) 
 module _ (bids : BidBook) (ps scheduled : List Cents) (own : All IsCapped ps) (also : All IsCapped scheduled) (provider : ℕ) where
   bid_small : (bid : Option Bid) (q : ℕ) → q ≤ 9999 → unsigned_abs (bid_amount ps scheduled provider bid q) ≤ 9999900 * 9999
   bid_small None q l = omega arith
-  bid_small (Some bid) q l = by (bid.provider == provider) _ (earned_small bid.up _ q (paid_small bid.up _ (price_at ps bid.zone) (price_at scheduled bid.zone) refl (price_any ps own bid.zone) (price_any scheduled also bid.zone)) l)
+  bid_small (Some bid) q l =
+      by (bid.provider == provider) _
+      (earned_small bid.up _ q (paid_small bid.up _ (price_at ps bid.zone) (price_at scheduled bid.zone) refl (price_any ps own bid.zone) (price_any scheduled also bid.zone)) l)
     where
       by : (t : Bool) (v : ℤ) → unsigned_abs v ≤ 9999900 * 9999 → unsigned_abs (if t then v else pos 0) ≤ 9999900 * 9999
       by true v h = h

@@ -41,7 +41,9 @@ pub written_along_more : {X Y Z : Type 0} (f : X → Y → Z) (xs : List X) (ys 
     → i < length xs → i < length ys → i < length zs → take i zs ≡ map_along f (take i xs) (take i ys)
     → z ≡ f (get_or xs i d) (get_or ys i e)
     → take (i + 1) (set zs i z) ≡ map_along f (take (i + 1) xs) (take (i + 1) ys)
-written_along_more f xs ys zs i d e z h l m so_far here = take-set_at zs i (i + 1) z refl m ∙ ap (λ ws. ws ++ z ∷ []) so_far ∙ ap (λ w. map_along f (take i xs) (take i ys) ++ w ∷ []) here ∙ sym (map_along_more f xs ys i d e h l)
+written_along_more f xs ys zs i d e z h l m so_far here =
+    take-set_at zs i (i + 1) z refl m ∙ ap (λ ws. ws ++ z ∷ []) so_far ∙ ap (λ w. map_along f (take i xs) (take i ys) ++ w ∷ []) here ∙ sym
+    (map_along_more f xs ys i d e h l)
 
 -- where two lists are the same from a place on, they are so at that place and after it
 same_here : {X : Type 0} (xs ys : List X) (i : ℕ) (d : X) → drop i xs ≡ drop i ys → get_or xs i d ≡ get_or ys i d
@@ -57,7 +59,9 @@ pub changed_more : {X : Type 0} (f : X → X → X) (P : X → X → Type 0) (xs
     → i < length xs → length xs ≡ length old → AllZip P old ys → drop i xs ≡ drop i old
     → take i xs ≡ map_along f (take i old) (take i ys) → z ≡ f (get_or xs i d) (get_or ys i d)
     → take (i + 1) (set xs i z) ≡ map_along f (take (i + 1) old) (take (i + 1) ys)
-changed_more f P xs old ys i d z h l a rest so_far e = written_along_more f old ys xs i d d z (omega arith) (omega (arith, AllZip-long P old ys a)) h so_far (e ∙ ap (λ x. f x (get_or ys i d)) (same_here xs old i d rest))
+changed_more f P xs old ys i d z h l a rest so_far e =
+    written_along_more f old ys xs i d d z (omega arith) (omega (arith, AllZip-long P old ys a)) h so_far
+    (e ∙ ap (λ x. f x (get_or ys i d)) (same_here xs old i d rest))
 
 -- what holds of what it was holds where it isn't changed yet
 pub unchanged_at : {X : Type 0} (P : X → X → Type 0) (xs old ys : List X) (i : ℕ) (d : X) → i < length xs
@@ -83,4 +87,6 @@ range_sum_more f a (suc n) =
 
 -- a loop's step
 pub range_sum_step : (f : ℕ → ℤ) (n : ℕ) (total term new : ℤ) → total ≡ int_sum f (range_with_len 0 n) → term ≡ f n → new ≡ total +ℤ term → new ≡ int_sum f (range_with_len 0 (n + 1))
-range_sum_step f n total term new e t s = s ∙ ap (λ v. v +ℤ term) e ∙ ap (λ v. int_sum f (range_with_len 0 n) +ℤ v) t ∙ sym (range_sum_more f 0 n ∙ ap (λ (m : ℕ). int_sum f (range_with_len 0 n) +ℤ f m) (let same : 0 + n ≡ n = omega arith in same))
+range_sum_step f n total term new e t s =
+    s ∙ ap (λ v. v +ℤ term) e ∙ ap (λ v. int_sum f (range_with_len 0 n) +ℤ v) t ∙ sym
+    (range_sum_more f 0 n ∙ ap (λ (m : ℕ). int_sum f (range_with_len 0 n) +ℤ f m) (let same : 0 + n ≡ n = omega arith in same))

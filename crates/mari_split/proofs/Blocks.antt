@@ -81,7 +81,9 @@ trees_fit : (budget : ℕ) → budget ≤ 50000 → (islands : List Island) (cle
 trees_fit budget small [] [] a = All-nil (λ (c : Clearing). length c.tree ≤ 50000)
 trees_fit budget small [] (c ∷ clearings) a = absurd a
 trees_fit budget small (i ∷ islands) [] a = absurd a
-trees_fit budget small (i ∷ islands) (c ∷ clearings) a = All-cons (λ (c : Clearing). length c.tree ≤ 50000) c clearings (omega (arith, a.0.within_budget, small)) (trees_fit budget small islands clearings a.1)
+trees_fit budget small (i ∷ islands) (c ∷ clearings) a =
+    All-cons (λ (c : Clearing). length c.tree ≤ 50000) c clearings (omega (arith, a.0.within_budget, small))
+    (trees_fit budget small islands clearings a.1)
 
 module _ (m : Market) (v : IsValid m) (budget : ℕ) (islands : List Island) (are : AreIslands m islands) (joined : Joined) (clearings : List Clearing) (published : ArePublished m islands budget joined clearings) where
   pub run_fits : (b : FullBlock) → budget ≤ 50000 → MarketFits b → RunFits (record { block = b; islands = islands; clearings = clearings })

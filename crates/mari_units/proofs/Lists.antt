@@ -23,7 +23,8 @@ get_seam (x ∷ xs) ys y = get_seam xs ys y
 pub same_over : {X : Type 0} (f g : ℕ → X) (a n : ℕ) → ((k : ℕ) → a ≤ k → k < a + n → f k ≡ g k) → map f (range_with_len a n) ≡ map g (range_with_len a n)
 same_over f g a zero same = refl
 same_over f g a (suc n) same =
-    ap (λ x. x ∷ map f (range_with_len (a + 1) n)) (same a (omega arith) (omega arith)) ∙ ap (λ xs. g a ∷ xs) (same_over f g (a + 1) n (λ k from below. same k (omega (arith, from)) (omega (arith, below))))
+    ap (λ x. x ∷ map f (range_with_len (a + 1) n)) (same a (omega arith) (omega arith)) ∙ ap (λ xs. g a ∷ xs)
+    (same_over f g (a + 1) n (λ k from below. same k (omega (arith, from)) (omega (arith, below))))
 
 -- and below a number
 pub same_map : {X : Type 0} (f g : ℕ → X) (n : ℕ) → ((k : ℕ) → k < n → f k ≡ g k) → map f (range_with_len 0 n) ≡ map g (range_with_len 0 n)

@@ -159,7 +159,8 @@ ends_open Values rows pending (t ∷ u ∷ v ∷ more) n w end few st = absurd (
 ends_open Joins rows pending [] n w end few st = few_words Joins rows pending [] n w end (none_given _ (values (mk [] n w None end)) st.1 Joins refl)
 ends_open Joins rows pending (t ∷ []) n w end few st = few_words Joins rows pending (t ∷ []) n w end (blocks_one _ (values (mk (t ∷ []) n w None end)) st.1 t refl refl)
 ends_open Joins rows pending (t ∷ u ∷ []) n w end few st = few_words Joins rows pending (t ∷ u ∷ []) n w end (blocks_two _ (values (mk (t ∷ u ∷ []) n w None end)) st.1 t u refl refl refl)
-ends_open Joins rows pending (t ∷ u ∷ v ∷ []) n w end few st = all_words Joins rows pending (t ∷ u ∷ v ∷ []) n w end st (blocks_given _ (values (mk (t ∷ u ∷ v ∷ []) n w None end)) st.1 t u v refl refl refl)
+ends_open Joins rows pending (t ∷ u ∷ v ∷ []) n w end few st =
+    all_words Joins rows pending (t ∷ u ∷ v ∷ []) n w end st (blocks_given _ (values (mk (t ∷ u ∷ v ∷ []) n w None end)) st.1 t u v refl refl refl)
 ends_open Joins rows pending (t ∷ u ∷ v ∷ x ∷ more) n w end few st = absurd (omega (arith, few))
 
 ends_at : (verb : Verb) (rows : List Row) (pending : Pending) (words : List Text) (nodes workers : Option Text) (wait : Option Choice) (end : Bool)

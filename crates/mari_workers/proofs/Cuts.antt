@@ -103,7 +103,9 @@ within_both n (w ∷ ws) vs a b = (a.0, within_both n ws vs a.1 b)
 -- nor is one that waits after a word longer than that
 waiting_within : (gates : List GateInfo) (word : List Bool) (k n : ℕ) → k ≤ n → AreWithin n (waiting gates word k)
 waiting_within gates word zero n l = tt
-waiting_within gates word (suc k) n l = within_both n (if opens_in word k then [] else opened_child gates (take k word)) (waiting gates word k) (by_bit (opens_in word k)) (waiting_within gates word k n (omega arith))
+waiting_within gates word (suc k) n l =
+    within_both n (if opens_in word k then [] else opened_child gates (take k word)) (waiting gates word k) (by_bit (opens_in word k))
+    (waiting_within gates word k n (omega arith))
   where
     by_may : (may : Bool) → AreWithin n (if may then (take k word ++ true ∷ []) ∷ [] else [])
     by_may true = (omega (arith, l, length-append (take k word) (true ∷ []), length-take k word), tt)
@@ -205,7 +207,9 @@ word_longer above at l = omega (arith, l, length-decisions above above.length, l
 pub ends_below : (m : Market) (w : ℕ) (above at : Prefix) (left : List TreeItem)
     → IsBelow m w (word_of above) left (Some at) → at.length ≤ above.length
     → left_at m.gates (Some at) ≡ waiting_after m.gates (word_of above)
-ends_below m w above at left h l = none_below m.gates (word_of above) (word_of at) (waiting_after m.gates (word_of at)) h.below (omega (arith, l, length-decisions above above.length, length-decisions at at.length)) h.left_is h.longer
+ends_below m w above at left h l =
+    none_below m.gates (word_of above) (word_of at) (waiting_after m.gates (word_of at)) h.below
+    (omega (arith, l, length-decisions above above.length, length-decisions at at.length)) h.left_is h.longer
 
 pub ends_at_last : (m : Market) (w : ℕ) (word : List Bool) (left : List TreeItem) → IsBelow m w word left None → left_at m.gates None ≡ waiting_after m.gates word
 ends_at_last m w word left h = none_left_below m.gates word h.below h.left_is

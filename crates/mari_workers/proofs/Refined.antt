@@ -94,7 +94,9 @@ found_clears m aim x a done left items v h e =
 leaf_there : (m : Market) (P : List Bool → LeafRecord → Type 0) (words : List (List Bool)) (done rest : List TreeItem) (leaf : LeafRecord) (word : List Bool) (left : List (List Bool))
     → LeavesWords m P words done (word ∷ left)
     → Contains (leaves_of m words (map shape_of (done ++ Leaf leaf ∷ rest))) word
-leaf_there m P words [] rest leaf word left h = subst (λ (ws : List (List Bool)). Contains (leaves_of m ws (map shape_of (Leaf leaf ∷ rest))) word) (sym h) (contains_head word (leaves_of m left (map shape_of rest)))
+leaf_there m P words [] rest leaf word left h =
+    subst (λ (ws : List (List Bool)). Contains (leaves_of m ws (map shape_of (Leaf leaf ∷ rest))) word) (sym h)
+    (contains_head word (leaves_of m left (map shape_of rest)))
 leaf_there m P [] (item ∷ items) rest leaf word left h = absurd h
 leaf_there m P (w ∷ ws) (Leaf l ∷ items) rest leaf word left h = contains_tail word w (leaves_of m ws (map shape_of (items ++ Leaf leaf ∷ rest))) (leaf_there m P ws items rest leaf word left h.1)
 leaf_there m P (w ∷ ws) (Branch ∷ items) rest leaf word left h = leaf_there m P (children m.gates w ++ ws) items rest leaf word left h.1
@@ -147,7 +149,9 @@ pub last_clears : (m : Market) (aim : Aim) (walk : Walk) (last : Turn) (a : Acti
     → welfare_of m a ≡ pos aim.welfare → gate_word_of m a ≡ word_of aim.word → IsLastTurn m aim walk last
     → Clears m aim.budget (ended walk last a aim.welfare)
 last_clears m aim walk On a v adm e g h = ended_clears m aim a walk.done.items walk.left.items v adm e g h
-last_clears m aim walk Full a v adm e g h = crowded_spends m aim h.0 walk.done.items walk.left.items (walk.done.items ++ reverse walk.left.items) (map shape_of (walk.done.items ++ reverse walk.left.items)) v h.1 refl refl
+last_clears m aim walk Full a v adm e g h =
+    crowded_spends m aim h.0 walk.done.items walk.left.items (walk.done.items ++ reverse walk.left.items)
+    (map shape_of (walk.done.items ++ reverse walk.left.items)) v h.1 refl refl
 last_clears m aim walk (Yield b) a v adm e g h = found_clears m aim h.0 b walk.done.items walk.left.items (walk.done.items ++ reverse walk.left.items) v h.1 refl
 
 pub clears_as : {X : Type 0} (m : Market) (budget : ℕ) (r : Result Cleared X) (reported : Cleared) → IfOk r (λ cleared. cleared ≡ reported) → Clears m budget reported → IfOk r (Clears m budget)

@@ -248,8 +248,10 @@ children_count word false = refl
 pub leaf_branched : (m : Market) (aim : Aim) (x y : Prefix) (old leaf : LeafRecord) (may : Bool) (done left more : List TreeItem)
     → IsValid m → IsAim m aim → IsAtLeaf m aim x old done left
     → IsToBranch m aim.welfare (word_of aim.word) (word_of x) leaf
-    → IsFeasibleWord m.gates (word_of x ++ false ∷ []) → (may ≡ true → IsFeasibleWord m.gates (word_of x ++ true ∷ [])) → children m.gates (word_of x) ≡ (word_of x ++ false ∷ []) ∷ (if may then (word_of x ++ true ∷ []) ∷ [] else [])
-    → IsFeasiblePrefix m y → word_of y ≡ word_of x ++ false ∷ [] → more ≡ left ++ child_leaves leaf may → length done + length left + 1 + (if may then 2 else 1) ≤ aim.budget → IsTreeWalk m aim (done ++ Branch ∷ []) more (Some y)
+    → IsFeasibleWord m.gates (word_of x ++ false ∷ []) → (may ≡ true → IsFeasibleWord m.gates (word_of x ++ true ∷ [])) → children m.gates (word_of x)
+    ≡ (word_of x ++ false ∷ []) ∷ (if may then (word_of x ++ true ∷ []) ∷ [] else [])
+    → IsFeasiblePrefix m y → word_of y ≡ word_of x ++ false ∷ [] → more ≡ left ++ child_leaves leaf may → length done + length left + 1 +
+    (if may then 2 else 1) ≤ aim.budget → IsTreeWalk m aim (done ++ Branch ∷ []) more (Some y)
 leaf_branched m aim x y old leaf may done left more v k h t f g kids fy child e fits =
     let there : left_at m.gates (Some y) ≡ children m.gates (word_of x) ++ waiting_after m.gates (word_of x) = first_child m.gates x y child in
     let below = child_parts m aim (word_of x) leaf may (waiting_after m.gates (word_of x)) (reverse left) v k t h.after.0.node f g h.after.1 in
@@ -275,7 +277,8 @@ no_more_words word false = refl
 pub leaf_crowded : (m : Market) (aim : Aim) (x : Prefix) (old leaf : LeafRecord) (may : Bool) (done left more : List TreeItem)
     → IsValid m → IsAim m aim → IsAtLeaf m aim x old done left
     → IsToBranch m aim.welfare (word_of aim.word) (word_of x) leaf
-    → IsFeasibleWord m.gates (word_of x ++ false ∷ []) → (may ≡ true → IsFeasibleWord m.gates (word_of x ++ true ∷ [])) → children m.gates (word_of x) ≡ (word_of x ++ false ∷ []) ∷ (if may then (word_of x ++ true ∷ []) ∷ [] else [])
+    → IsFeasibleWord m.gates (word_of x ++ false ∷ []) → (may ≡ true → IsFeasibleWord m.gates (word_of x ++ true ∷ [])) → children m.gates (word_of x)
+    ≡ (word_of x ++ false ∷ []) ∷ (if may then (word_of x ++ true ∷ []) ∷ [] else [])
     → more ≡ left ++ Leaf leaf ∷ [] → aim.budget < length done + length left + 1 + (if may then 2 else 1) → IsCrowdedAt m aim x done more
 leaf_crowded m aim x old leaf may done left more v k h t f g kids e over =
     let below = child_parts m aim (word_of x) leaf may [] [] v k t h.after.0.node f g tt in

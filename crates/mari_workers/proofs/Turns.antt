@@ -60,8 +60,10 @@ turned_leaf m aim x old leaf done left new_done next h k there f e = (
 pub turned_branched : (m : Market) (aim : Aim) (x : Prefix) (old leaf : LeafRecord) (may : Bool) (done left new_done new_left : List TreeItem) (next : Option Prefix)
     → IsValid m → IsAim m aim → IsAtLeaf m aim x old done left
     → IsToBranch m aim.welfare (word_of aim.word) (word_of x) leaf
-    → IsFeasibleWord m.gates (word_of x ++ false ∷ []) → (may ≡ true → IsFeasibleWord m.gates (word_of x ++ true ∷ [])) → children m.gates (word_of x) ≡ (word_of x ++ false ∷ []) ∷ (if may then (word_of x ++ true ∷ []) ∷ [] else [])
-    → length done + length left + 1 + (if may then 2 else 1) ≤ aim.budget → new_done ≡ done ++ Branch ∷ [] → new_left ≡ left ++ child_leaves leaf may → IsDescended x next → IsTreeWalk m aim new_done new_left next × (length new_done ≡ length done + 1)
+    → IsFeasibleWord m.gates (word_of x ++ false ∷ []) → (may ≡ true → IsFeasibleWord m.gates (word_of x ++ true ∷ [])) → children m.gates (word_of x)
+    ≡ (word_of x ++ false ∷ []) ∷ (if may then (word_of x ++ true ∷ []) ∷ [] else [])
+    → length done + length left + 1 + (if may then 2 else 1) ≤ aim.budget → new_done ≡ done ++ Branch ∷ [] → new_left ≡ left ++ child_leaves leaf may
+    → IsDescended x next → IsTreeWalk m aim new_done new_left next × (length new_done ≡ length done + 1)
 turned_branched m aim x old leaf may done left new_done new_left None v k h t f g kids fits d l n = absurd n
 turned_branched m aim x old leaf may done left new_done new_left (Some y) v k h t f g kids fits d l n = (
   subst (λ (ds : List TreeItem). IsTreeWalk m aim ds new_left (Some y)) (sym d) (leaf_branched m aim x y old leaf may done left new_left v k h t f g kids (descended_feasible m x y f n.0 n.1) n.0 l fits),

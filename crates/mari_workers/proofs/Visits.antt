@@ -327,7 +327,8 @@ pub fewer_left : (m : Market) (budget : ℕ) (old new : Machine) (x : ℕ) (word
 fewer_left m budget old new x word key q r s h f v facts not_full more =
     let settled = visit_settles m old new x word key q r s h.under_way f v not_full more in
     let same = visit_same m old new x word key v in
-    omega (arith, settled.longer, length-with_state (Taken 0) old.tree.nodes x, facts.tree.within_budget, same.1, h.budget_is, h.under_way.queue.keys, ap length f.keys, length_permutation q.waiting (x ∷ r.waiting) f.leaves, length_waiting key (length new.tree.nodes - length r.keys) r s more)
+    omega
+    (arith, settled.longer, length-with_state (Taken 0) old.tree.nodes x, facts.tree.within_budget, same.1, h.budget_is, h.under_way.queue.keys, ap length f.keys, length_permutation q.waiting (x ∷ r.waiting) f.leaves, length_waiting key (length new.tree.nodes - length r.keys) r s more)
 
 -- an offer changes neither the tree nor the activation that the search began with
 pub still_after : (m : Market) (budget : ℕ) (s new : Machine) (q : Queued) → IsStill m budget s q → new.tree ≡ s.tree → new.first ≡ s.first → KeepsFacts new → IsStill m budget new q

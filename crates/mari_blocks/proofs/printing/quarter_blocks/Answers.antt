@@ -59,7 +59,9 @@ loop-quarter-preserved c =
           let is = c.loop-quarter.invariant.place blocks c.requires.joint.2 in
           let put : c.push.new.self.items ≡ c.loop-quarter.quarters.items ++ c.in_ok-block.block ∷ [] = search rules in
           rw put (one-more books c.requires.accepted blocks c.args.first c.args.last c.args.joint.now made c.args.activation.now c.args.priced.now c.requires.shapes
-          quarter c.loop-quarter.at c.in_ok-block.block low high is (is-there books c.requires.accepted blocks c.args.first c.args.last c.args.joint.now made c.args.activation.now c.args.priced.now c.requires.shapes quarter c.loop-quarter.at low high is) c.in_ok-block.ensures c.after-at.result c.after-at.ensures
+          quarter c.loop-quarter.at c.in_ok-block.block low high is
+          (is-there books c.requires.accepted blocks c.args.first c.args.last c.args.joint.now made c.args.activation.now c.args.priced.now c.requires.shapes quarter c.loop-quarter.at low high is)
+          c.in_ok-block.ensures c.after-at.result c.after-at.ensures
           c.loop-quarter.quarters.items c.loop-quarter.invariant.parts);
     }
 
@@ -69,4 +71,5 @@ returns c =
     let made = is-made c.args.books.now blocks c.args.first c.args.last c.args.joint.now c.requires.joint.2 in
     let end = c.loop-quarter.auto.quarter-end (omega (arith, c.requires.in_order)) in
     whole c.args.books.now c.requires.accepted blocks c.args.first c.args.last c.args.joint.now made c.args.activation.now c.args.priced.now c.requires.shapes
-    c.loop-quarter.quarter c.loop-quarter.at c.loop-quarter.quarters.items (omega (arith, end, c.loop-quarter-test.false)) (c.loop-quarter.invariant.place blocks c.requires.joint.2) c.loop-quarter.invariant.parts
+    c.loop-quarter.quarter c.loop-quarter.at c.loop-quarter.quarters.items (omega (arith, end, c.loop-quarter-test.false))
+    (c.loop-quarter.invariant.place blocks c.requires.joint.2) c.loop-quarter.invariant.parts

@@ -13,7 +13,8 @@ use Rattle.mari_capacity.proofs.gains.gain_from.Goals as goal
 pub returns-in-Ok-clause-relaxed : goal.returns-in-Ok-clause-relaxed
 returns-in-Ok-clause-relaxed c =
     let r = c.requires in
-    gained-relaxed c.args.market.now r.valid c.args.raise r.border (word_of c.args.word.now) c.args.welfare r.welfare c.in_ok-raised.raised c.in_ok-raised.ensures.market c.in-Ok.solved.welfare _ c.in-Ok.ensures.stated c.in-Ok.ensures.relaxed
+    gained-relaxed c.args.market.now r.valid c.args.raise r.border (word_of c.args.word.now) c.args.welfare r.welfare c.in_ok-raised.raised
+    c.in_ok-raised.ensures.market c.in-Ok.solved.welfare _ c.in-Ok.ensures.stated c.in-Ok.ensures.relaxed
 
 pub returns-in-Ok-clause-dual : goal.returns-in-Ok-clause-dual
 returns-in-Ok-clause-dual c =
@@ -25,12 +26,14 @@ returns-in-Ok-clause-dual c =
 pub returns-in-Ok-clause-at_least : goal.returns-in-Ok-clause-at_least
 returns-in-Ok-clause-at_least c =
     let r = c.requires in
-    gained-least c.args.market.now r.valid c.args.raise r.border (word_of c.args.word.now) c.args.welfare r.welfare c.in_ok-raised.raised c.in_ok-raised.ensures.market c.in-Ok.solved.welfare _ c.in-Ok.ensures.stated c.in-Ok.ensures.relaxed
+    gained-least c.args.market.now r.valid c.args.raise r.border (word_of c.args.word.now) c.args.welfare r.welfare c.in_ok-raised.raised
+    c.in_ok-raised.ensures.market c.in-Ok.solved.welfare _ c.in-Ok.ensures.stated c.in-Ok.ensures.relaxed
 
 pub returns-in-Ok-clause-at_most : goal.returns-in-Ok-clause-at_most
 returns-in-Ok-clause-at_most c =
     let r = c.requires in
-    gained-most c.args.market.now r.valid c.args.raise r.border (word_of c.args.word.now) c.args.welfare r.welfare c.in_ok-raised.raised c.in_ok-raised.ensures.market c.in-Ok.solved.welfare _ c.in-Ok.ensures.stated c.in-Ok.ensures.relaxed
+    gained-most c.args.market.now r.valid c.args.raise r.border (word_of c.args.word.now) c.args.welfare r.welfare c.in_ok-raised.raised
+    c.in_ok-raised.ensures.market c.in-Ok.solved.welfare _ c.in-Ok.ensures.stated c.in-Ok.ensures.relaxed
 
 pub unreachable-requires : goal.unreachable-requires
 unreachable-requires c =

@@ -57,17 +57,23 @@ returns-in-Err-push-clause-memory g c =
 pub returns-in-Err-push-clause-failed : goal.returns-in-Err-push-clause-failed
 returns-in-Err-push-clause-failed g c =
     let u = c.pieces.invariant.under in
-    counts_none _ _ _ _ (text-no-fetch (Unit {0}) c.args.books.now c.pieces.stream.more _ c.push.new.self.lines.items c.in-Err-push.stop fetch.Failed (c.in-Err-push.ensures.states u.text u.known.parts u.known.read)) c.pieces.invariant.faults c.in-Ok.ensures.failed.later
+    counts_none _ _ _ _
+    (text-no-fetch (Unit {0}) c.args.books.now c.pieces.stream.more _ c.push.new.self.lines.items c.in-Err-push.stop fetch.Failed (c.in-Err-push.ensures.states u.text u.known.parts u.known.read))
+    c.pieces.invariant.faults c.in-Ok.ensures.failed.later
 
 pub returns-in-Err-push-clause-missing : goal.returns-in-Err-push-clause-missing
 returns-in-Err-push-clause-missing g c =
     let u = c.pieces.invariant.under in
-    counts_none _ _ _ _ (text-no-fetch (Unit {0}) c.args.books.now c.pieces.stream.more _ c.push.new.self.lines.items c.in-Err-push.stop fetch.Missing (c.in-Err-push.ensures.states u.text u.known.parts u.known.read)) c.pieces.invariant.misses c.in-Ok.ensures.missing.later
+    counts_none _ _ _ _
+    (text-no-fetch (Unit {0}) c.args.books.now c.pieces.stream.more _ c.push.new.self.lines.items c.in-Err-push.stop fetch.Missing (c.in-Err-push.ensures.states u.text u.known.parts u.known.read))
+    c.pieces.invariant.misses c.in-Ok.ensures.missing.later
 
 pub returns-in-Err-push-clause-too_long : goal.returns-in-Err-push-clause-too_long
 returns-in-Err-push-clause-too_long g c =
     let u = c.pieces.invariant.under in
-    counts_none _ _ _ _ (text-no-fetch (Unit {0}) c.args.books.now c.pieces.stream.more _ c.push.new.self.lines.items c.in-Err-push.stop fetch.TooLong (c.in-Err-push.ensures.states u.text u.known.parts u.known.read)) c.pieces.invariant.overs c.in-Ok.ensures.too_long.later
+    counts_none _ _ _ _
+    (text-no-fetch (Unit {0}) c.args.books.now c.pieces.stream.more _ c.push.new.self.lines.items c.in-Err-push.stop fetch.TooLong (c.in-Err-push.ensures.states u.text u.known.parts u.known.read))
+    c.pieces.invariant.overs c.in-Ok.ensures.too_long.later
 
 pub returns-then-count-eq0-clause-read : goal.returns-then-count-eq0-clause-read
 returns-then-count-eq0-clause-read g c =

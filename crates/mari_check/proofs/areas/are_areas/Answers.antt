@@ -26,12 +26,14 @@ pub spread-labels-requires-clause-ends : goal.spread-labels-requires-clause-ends
 spread-labels-requires-clause-ends c =
     let m = c.args.market.now in
     let long : length c.in_ok-places.places.items ≡ m.zones = ap length c.in_ok-places.ensures ∙ length-range_with_len 0 m.zones in
-    rw c.as_slice-borders.ensures (All-weaker (IsValidBorder m.zones) (IsBetween (length c.in_ok-places.places.items)) (λ b v. (omega (arith, long, v.from), omega (arith, long, v.to))) m.borders c.requires.valid.borders)
+    rw c.as_slice-borders.ensures
+    (All-weaker (IsValidBorder m.zones) (IsBetween (length c.in_ok-places.places.items)) (λ b v. (omega (arith, long, v.from), omega (arith, long, v.to))) m.borders c.requires.valid.borders)
 
 pub spread-labels-requires-clause-small : goal.spread-labels-requires-clause-small
 spread-labels-requires-clause-small c =
     let m = c.args.market.now in
-    rw c.in_ok-places.ensures (All-from_get_or (λ (n : ℕ). n ≤ most_value) (range_with_len 0 m.zones) 0 (λ z l. omega (arith, place-at 0 m.zones z (omega (arith, l, length-range_with_len 0 m.zones)), c.requires.valid.zones, l, length-range_with_len 0 m.zones)))
+    rw c.in_ok-places.ensures
+    (All-from_get_or (λ (n : ℕ). n ≤ most_value) (range_with_len 0 m.zones) 0 (λ z l. omega (arith, place-at 0 m.zones z (omega (arith, l, length-range_with_len 0 m.zones)), c.requires.valid.zones, l, length-range_with_len 0 m.zones)))
 
 pub agree-requires : goal.agree-requires
 agree-requires c =

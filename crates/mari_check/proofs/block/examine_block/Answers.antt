@@ -19,14 +19,18 @@ reported_ledger-requires-clause-consistent c =
     subst (IsConsistent c.args.made.now.market c.in_ok-activation.activation) (sym c.in_ok-prices.ensures) (subst P (sym c.in_ok-activation.ensures) (none fault.Inconsistent (omega arith)))
 
 pub returns-in-Some-2 : goal.returns-in-Some-2
-returns-in-Some-2 c = found-some _ 11 c.in_ok-fault.field-0 c.in-Some-2.fault c.in-Some-2.is (c.in_ok-fault.ensures c.args.books.now c.args.run c.args.made.now _ refl (c.in_default.ensures _ c.args.budget))
+returns-in-Some-2 c =
+    found-some _ 11 c.in_ok-fault.field-0 c.in-Some-2.fault c.in-Some-2.is
+    (c.in_ok-fault.ensures c.args.books.now c.args.run c.args.made.now _ refl (c.in_default.ensures _ c.args.budget))
 
 pub returns-in-Some-3 : goal.returns-in-Some-3
 returns-in-Some-3 c =
-    with-ledger c.args.books.now c.args.run c.args.made.now _ c.args.budget c.args.block.now (found-none _ 11 c.in_ok-fault.field-0 c.in_default-2.is (c.in_ok-fault.ensures c.args.books.now c.args.run c.args.made.now _ refl (c.in_default.ensures _ c.args.budget)))
+    with-ledger c.args.books.now c.args.run c.args.made.now _ c.args.budget c.args.block.now
+    (found-none _ 11 c.in_ok-fault.field-0 c.in_default-2.is (c.in_ok-fault.ensures c.args.books.now c.args.run c.args.made.now _ refl (c.in_default.ensures _ c.args.budget)))
     _ _ c.in_ok-ledger.field-0 c.in-Some-3.ledger c.in-Some-3.is c.in_ok-ledger.ensures
 
 pub returns-in-None : goal.returns-in-None
 returns-in-None c =
-    without-ledger c.args.books.now c.args.run c.args.made.now _ c.args.budget c.args.block.now (found-none _ 11 c.in_ok-fault.field-0 c.in_default-2.is (c.in_ok-fault.ensures c.args.books.now c.args.run c.args.made.now _ refl (c.in_default.ensures _ c.args.budget)))
+    without-ledger c.args.books.now c.args.run c.args.made.now _ c.args.budget c.args.block.now
+    (found-none _ 11 c.in_ok-fault.field-0 c.in_default-2.is (c.in_ok-fault.ensures c.args.books.now c.args.run c.args.made.now _ refl (c.in_default.ensures _ c.args.budget)))
     _ _ c.in_ok-ledger.field-0 c.in-None.is c.in_ok-ledger.ensures

@@ -16,8 +16,10 @@ returns-in-Some c = λ books run made also e none. c.in-Some.ensures.finds books
 
 pub returns-in-Some-2 : goal.returns-in-Some-2
 returns-in-Some-2 c = λ books run made also e none.
-    found-some _ 9 c.in_ok-fault.field-0 c.in-Some-2.fault c.in-Some-2.is (c.in_ok-fault.ensures books run made also c.args.budget e (c.in_default.ensures.finds books run made also c.args.budget e none))
+    found-some _ 9 c.in_ok-fault.field-0 c.in-Some-2.fault c.in-Some-2.is
+    (c.in_ok-fault.ensures books run made also c.args.budget e (c.in_default.ensures.finds books run made also c.args.budget e none))
 
 pub returns : goal.returns
 returns c = λ books run made also e none.
-    c.tree_fault.ensures books run made also e (found-none _ 9 c.in_ok-fault.field-0 c.in_default-2.is (c.in_ok-fault.ensures books run made also c.args.budget e (c.in_default.ensures.finds books run made also c.args.budget e none)))
+    c.tree_fault.ensures books run made also e
+    (found-none _ 9 c.in_ok-fault.field-0 c.in_default-2.is (c.in_ok-fault.ensures books run made also c.args.budget e (c.in_default.ensures.finds books run made also c.args.budget e none)))

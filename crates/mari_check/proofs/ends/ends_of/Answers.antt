@@ -31,6 +31,7 @@ returns c =
     let along : c.along.result ≡ along_of c.args.end = c.along.ensures in
     let spread = subst (λ (w : Along). IsSpread (LeadsTo w c.args.market.now.borders c.args.activation.now.flow) c.in_ok-bounds.bounds.items c.spread-heights.result.items) along
     (rw (c.as_slice-borders.ensures, c.as_slice-flow.ensures) at c.spread-heights.ensures) in
-    end-prices c.args.market.now c.args.activation.now c.requires.valid c.requires.feasible c.in_ok-bounds.bounds.items c.spread-heights.result.items c.in_ok-prices.prices.items c.requires.some c.in_ok-bounds.ensures.one_each
+    end-prices c.args.market.now c.args.activation.now c.requires.valid c.requires.feasible c.in_ok-bounds.bounds.items c.spread-heights.result.items
+    c.in_ok-prices.prices.items c.requires.some c.in_ok-bounds.ensures.one_each
     c.args.end (rw (c.as_slice-orders.ensures, c.as_slice-mw.ensures) at c.in_ok-bounds.ensures.tightest) spread
     (subst (λ (xs : List ℕ). ArePricesOf c.args.end xs c.in_ok-prices.prices.items) c.deref.ensures.value c.in_ok-prices.ensures)

@@ -18,6 +18,8 @@ loop-i-preserved c =
     let r = subst (λ (n : ℕ). IsRaised c.args.end o q o.zone n c.raised.result) old c.raised.ensures in
     record {
       long = omega (arith, length-set c.loop-i.bounds.items o.zone c.raised.result, c.loop-i.invariant.long);
-      tightest = λ z h. tightest_more c.args.end c.args.orders.now c.args.mw.now c.loop-i.i z none (get_or c.loop-i.bounds.items z 0) _ c.loop-i-test.true (omega (arith, c.requires.lengths)) (c.loop-i.invariant.tightest z h)
+      tightest = λ z h.
+          tightest_more c.args.end c.args.orders.now c.args.mw.now c.loop-i.i z none (get_or c.loop-i.bounds.items z 0) _ c.loop-i-test.true
+          (omega (arith, c.requires.lengths)) (c.loop-i.invariant.tightest z h)
           (raised_at c.args.end o q c.loop-i.bounds.items c.raised.result there r z);
     }

@@ -17,7 +17,8 @@ loop-order-preserved c =
     let all = map line c.args.places.now in
     let i = c.loop-order.order in
     let inside : i < length c.args.places.now = omega (arith, c.loop-order-test.true, c.if-lines-places.false) in
-    pass IsSameAmountLine c.args.lines.now all i c.index-lines-order.result none _ c.is_amount_line.result c.loop-order-test.true (omega (arith, length-map c.args.places.now line, inside)) c.index-lines-order.is
+    pass IsSameAmountLine c.args.lines.now all i c.index-lines-order.result none _ c.is_amount_line.result c.loop-order-test.true
+    (omega (arith, length-map c.args.places.now line, inside)) c.index-lines-order.is
     (sym (get_or-map line c.args.places.now i 0 none inside)) c.is_amount_line.ensures c.if-not-is_amount_line.false c.loop-order.invariant
 
 pub returns : goal.returns

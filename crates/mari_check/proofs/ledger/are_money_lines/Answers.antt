@@ -24,7 +24,8 @@ loop-operator-preserved c =
     let many = along-length money_line c.args.names.now c.args.own.now c.requires.one_each in
     let inside : i < length c.args.names.now = omega (arith, c.loop-operator-test.true, c.if-lines-len.false, c.len.ensures.len) in
     pass IsSameMoneyLine c.args.lines.now all i c.index-lines-operator.result none _ c.is_money_line.result c.loop-operator-test.true (omega (arith, many, inside)) c.index-lines-operator.is
-    (along-at money_line c.args.names.now c.args.own.now i [] no_line none inside (omega (arith, inside, c.requires.one_each))) c.is_money_line.ensures c.if-not-is_money_line.false c.loop-operator.invariant
+    (along-at money_line c.args.names.now c.args.own.now i [] no_line none inside (omega (arith, inside, c.requires.one_each)))
+    c.is_money_line.ensures c.if-not-is_money_line.false c.loop-operator.invariant
 
 pub returns : goal.returns
 returns c =

@@ -28,8 +28,10 @@ loop-provider-preserved c =
     let i = c.loop-provider.provider in
     let inside : i < n = omega (arith, c.loop-provider-test.true, c.if-lines-len.false, c.len.ensures.len) in
     let own : get_or (range_with_len 0 n) i 0 ≡ i = omega (arith, get_or-range_with_len 0 n i 0 inside) in
-    pass IsSameAmountLine c.args.lines.now all i c.index-lines-provider.result none _ c.is_amount_line.result c.loop-provider-test.true (omega (arith, length-map-range_with_len line 0 n, inside)) c.index-lines-provider.is
-    (ap line (sym own) ∙ sym (get_or-map line (range_with_len 0 n) i 0 none (omega (arith, length-range_with_len 0 n, inside)))) c.is_amount_line.ensures c.if-not-is_amount_line.false c.loop-provider.invariant
+    pass IsSameAmountLine c.args.lines.now all i c.index-lines-provider.result none _ c.is_amount_line.result c.loop-provider-test.true
+    (omega (arith, length-map-range_with_len line 0 n, inside)) c.index-lines-provider.is
+    (ap line (sym own) ∙ sym (get_or-map line (range_with_len 0 n) i 0 none (omega (arith, length-range_with_len 0 n, inside))))
+    c.is_amount_line.ensures c.if-not-is_amount_line.false c.loop-provider.invariant
 
 pub returns : goal.returns
 returns c =

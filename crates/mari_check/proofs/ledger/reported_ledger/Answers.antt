@@ -19,12 +19,14 @@ states_ledger-states-requires-clause-places c =
 pub returns-then-not-states : goal.returns-then-not-states
 returns-then-not-states c =
     ledger-untold c.args.books.now c.args.made.now _ c.args.block.now c.in_ok-ledger.ledger c.args.activation.now c.args.prices.now c.requires.activation c.requires.prices
-    c.in_ok-ledger.ensures.rents c.in_ok-ledger.ensures.operators c.in_ok-ledger.ensures.providers c.deref.result.now (c.deref.ensures.value ∙ rw (c.as_slice.ensures, c.as_slice-2.ensures) at c.in_ok-places.ensures)
+    c.in_ok-ledger.ensures.rents c.in_ok-ledger.ensures.operators c.in_ok-ledger.ensures.providers c.deref.result.now
+    (c.deref.ensures.value ∙ rw (c.as_slice.ensures, c.as_slice-2.ensures) at c.in_ok-places.ensures)
     c.states_ledger-states.result c.states_ledger-states.ensures c.if-not-states.true
 
 pub returns : goal.returns
 returns c =
     ledger-reported c.args.books.now c.args.made.now _ c.args.block.now c.in_ok-ledger.ledger c.args.activation.now c.args.prices.now c.requires.activation c.requires.prices
-    c.in_ok-ledger.ensures.rents c.in_ok-ledger.ensures.operators c.in_ok-ledger.ensures.providers c.deref.result.now (c.deref.ensures.value ∙ rw (c.as_slice.ensures, c.as_slice-2.ensures) at c.in_ok-places.ensures)
+    c.in_ok-ledger.ensures.rents c.in_ok-ledger.ensures.operators c.in_ok-ledger.ensures.providers c.deref.result.now
+    (c.deref.ensures.value ∙ rw (c.as_slice.ensures, c.as_slice-2.ensures) at c.in_ok-places.ensures)
     c.states_ledger-states.result c.states_ledger-states.ensures c.if-not-states.false c.requires.made c.requires.consistent
     c.in_ok-ledger.ensures.balanced

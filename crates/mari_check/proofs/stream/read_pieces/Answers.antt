@@ -7,7 +7,8 @@ use Rattle.mari_check.proofs.stream.read_pieces.Goals as goal
 
 pub returns-in-Err-clause-reported : goal.returns-in-Err-clause-reported
 returns-in-Err-clause-reported g c = λ whole is.
-    rw c.fault_of_shelf.ensures (piece-fault c.args.books.now _ _ _ c.pieces.stream c.pieces.invariant.under c.in-Err.fault (λ e. c.in-Err.ensures.not_missing (ap (λ x. Err x) e)) (λ e. (c.in-Err.ensures.over (λ f. absurd cc) (λ f. absurd cc)).0 (ap (λ x. Err x) e)) whole is)
+    rw c.fault_of_shelf.ensures
+    (piece-fault c.args.books.now _ _ _ c.pieces.stream c.pieces.invariant.under c.in-Err.fault (λ e. c.in-Err.ensures.not_missing (ap (λ x. Err x) e)) (λ e. (c.in-Err.ensures.over (λ f. absurd cc) (λ f. absurd cc)).0 (ap (λ x. Err x) e)) whole is)
 
 pub pieces-preserved : goal.pieces-preserved
 pieces-preserved g c =
@@ -17,7 +18,9 @@ pieces-preserved g c =
     record {
       same = c.in-Ok.ensures.same ∙ c.pieces.invariant.same;
       stays = c.in-Ok.ensures.open_stays;
-      under = more-read c.args.books.now _ _ _ c.pieces.stream u _ c.in-Ok.count (all-new _ _ _ c.in-Ok.count none same c.in-Ok.ensures.ok) (omega (arith, c.in-Ok.ensures.given, c.in-Ok.ensures.limit))
+      under =
+          more-read c.args.books.now _ _ _ c.pieces.stream u _ c.in-Ok.count (all-new _ _ _ c.in-Ok.count none same c.in-Ok.ensures.ok)
+          (omega (arith, c.in-Ok.ensures.given, c.in-Ok.ensures.limit))
           (λ left is. first-of left _ _ _ c.in-Ok.count none same (c.in-Ok.ensures.reported left is)) _ (c.in-Ok-push.ensures u.text u.known.0 u.known.1) _ _ c.in-Ok.ensures.rest c.in-Ok.ensures.given;
       faults = omega (arith, c.pieces.invariant.faults, c.in-Ok.ensures.failed.later);
       misses = omega (arith, c.pieces.invariant.misses, c.in-Ok.ensures.missing.later);
@@ -29,7 +32,9 @@ returns-in-Err-push-clause-reported g c = λ whole is.
     let u = c.pieces.invariant.under in
     let none = c.clear.ensures.items in
     let same = c.as_slice.ensures.value in
-    push-fault c.args.books.now _ _ _ c.pieces.stream u _ c.in-Ok.count (all-new _ _ _ c.in-Ok.count none same c.in-Ok.ensures.ok) (omega (arith, c.in-Ok.ensures.given, c.in-Ok.ensures.limit)) (λ left e. first-of left _ _ _ c.in-Ok.count none same (c.in-Ok.ensures.reported left e)) whole is c.in-Err-push.fault
+    push-fault c.args.books.now _ _ _ c.pieces.stream u _ c.in-Ok.count (all-new _ _ _ c.in-Ok.count none same c.in-Ok.ensures.ok)
+    (omega (arith, c.in-Ok.ensures.given, c.in-Ok.ensures.limit))
+    (λ left e. first-of left _ _ _ c.in-Ok.count none same (c.in-Ok.ensures.reported left e)) whole is c.in-Err-push.fault
     (c.in-Err-push.ensures u.text u.known.0 u.known.1)
 
 pub returns-in-Err-push-clause-stops : goal.returns-in-Err-push-clause-stops
@@ -37,8 +42,11 @@ returns-in-Err-push-clause-stops g c = λ whole is.
     let u = c.pieces.invariant.under in
     let none = c.clear.ensures.items in
     let same = c.as_slice.ensures.value in
-    push-stops c.args.books.now _ _ _ c.pieces.stream u _ c.in-Ok.count (all-new _ _ _ c.in-Ok.count none same c.in-Ok.ensures.ok) (omega (arith, c.in-Ok.ensures.given, c.in-Ok.ensures.limit)) (λ left e. first-of left _ _ _ c.in-Ok.count none same (c.in-Ok.ensures.reported left e)) whole is
-    g.S.Shelf.rest g.S.Shelf.fetches c.pieces.shelf c.next_piece.new.self refl c.in-Ok.ensures.rest c.in-Ok.ensures.fetched c.in-Ok.ensures.few c.in-Err-push.fault (c.in-Err-push.ensures u.text u.known.0 u.known.1)
+    push-stops c.args.books.now _ _ _ c.pieces.stream u _ c.in-Ok.count (all-new _ _ _ c.in-Ok.count none same c.in-Ok.ensures.ok)
+    (omega (arith, c.in-Ok.ensures.given, c.in-Ok.ensures.limit))
+    (λ left e. first-of left _ _ _ c.in-Ok.count none same (c.in-Ok.ensures.reported left e)) whole is
+    g.S.Shelf.rest g.S.Shelf.fetches c.pieces.shelf c.next_piece.new.self refl c.in-Ok.ensures.rest c.in-Ok.ensures.fetched c.in-Ok.ensures.few
+    c.in-Err-push.fault (c.in-Err-push.ensures u.text u.known.0 u.known.1)
 
 pub returns-in-Err-clause-stops : goal.returns-in-Err-clause-stops
 returns-in-Err-clause-stops g c = λ whole is. rw c.fault_of_shelf.ensures (fetch-stops g.S.Shelf.rest g.S.Shelf.fetches whole c.next_piece.new.self c.in-Err.fault)
@@ -69,5 +77,7 @@ returns-then-count-eq0-clause-reported g c = λ whole is.
     let u = c.pieces.invariant.under in
     let none = c.clear.ensures.items in
     let same = c.as_slice.ensures.value in
-    last-read c.args.books.now _ _ _ c.pieces.stream u _ c.in-Ok.count (all-new _ _ _ c.in-Ok.count none same c.in-Ok.ensures.ok) (omega (arith, c.in-Ok.ensures.given, c.in-Ok.ensures.limit)) (λ left e. first-of left _ _ _ c.in-Ok.count none same (c.in-Ok.ensures.reported left e)) _
+    last-read c.args.books.now _ _ _ c.pieces.stream u _ c.in-Ok.count (all-new _ _ _ c.in-Ok.count none same c.in-Ok.ensures.ok)
+    (omega (arith, c.in-Ok.ensures.given, c.in-Ok.ensures.limit))
+    (λ left e. first-of left _ _ _ c.in-Ok.count none same (c.in-Ok.ensures.reported left e)) _
     (c.in-Ok-push.ensures u.text u.known.0 u.known.1) c.if-count-eq0.true whole is

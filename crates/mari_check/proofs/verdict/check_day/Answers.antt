@@ -28,4 +28,5 @@ returns-in-None c =
     let p = c.args.publication.now in
     let head = head-clear books p c.head_verdict-head.result c.in_default.is (c.head_verdict-head.ensures.states p refl refl) in
     let B : List Block → Type 0 = λ bs. IsChecked books bs c.all_blocks.new.self in
-    c.end-verdict.ensures p head (sym (c.all_blocks.ensures.budget ∙ c.head_verdict-head.ensures.budget)) (subst B c.as_slice.ensures (c.in_ok-verdict.ensures.none c.in-None.is)) (sym c.as_slice-operators.ensures) (sym c.as_slice-in-None.ensures)
+    c.end-verdict.ensures p head (sym (c.all_blocks.ensures.budget ∙ c.head_verdict-head.ensures.budget))
+    (subst B c.as_slice.ensures (c.in_ok-verdict.ensures.none c.in-None.is)) (sym c.as_slice-operators.ensures) (sym c.as_slice-in-None.ensures)

@@ -30,7 +30,9 @@ pub returns-in-Ok-Check-clause-reported : goal.returns-in-Ok-Check-clause-report
 returns-in-Ok-Check-clause-reported g c = λ reported e. rw (c.in-Ok-Check.ensures, c.in-Ok-Check.field-0-is, sym c.deref-in-Ok-Check.ensures) (c.checked.ensures.reported reported e)
 
 pub returns-in-Ok-Generate-clause-reported : goal.returns-in-Ok-Generate-clause-reported
-returns-in-Ok-Generate-clause-reported g c = λ reported e. OfGenerate c.in-Ok-Generate.number (c.in-Ok-Generate.ensures ∙ ap (λ (x : Command). Some (asked x)) c.in-Ok-Generate.field-0-is) c.generated.ensures
+returns-in-Ok-Generate-clause-reported g c = λ reported e.
+    OfGenerate c.in-Ok-Generate.number (c.in-Ok-Generate.ensures ∙ ap (λ (x : Command). Some (asked x)) c.in-Ok-Generate.field-0-is)
+    c.generated.ensures
 
 pub returns-in-Ok-Migrate-clause-reported : goal.returns-in-Ok-Migrate-clause-reported
 returns-in-Ok-Migrate-clause-reported g c = λ reported e. rw (c.in-Ok-Migrate.ensures, c.in-Ok-Migrate.field-0-is, sym c.deref-in-Ok-Migrate.ensures) (c.migrated.ensures.reported reported e)
@@ -63,10 +65,12 @@ pub returns-in-Ok-Migrate-clause-untouched : goal.returns-in-Ok-Migrate-clause-u
 returns-in-Ok-Migrate-clause-untouched g c = λ none. absurd (none (reads-files _ _ _ _ c.in-Ok-Migrate.ensures c.in-Ok-Migrate.field-0-is refl))
 
 pub to_clear-requires-in-Ok-Split-clause-nodes : goal.to_clear-requires-in-Ok-Split-clause-nodes
-to_clear-requires-in-Ok-Split-clause-nodes g c = (subst is_within c.in-Ok-Split.field-0-is (within (map (string_bytes {Z = Global}) c.args.words.now) (asked c.in-Ok-Split.field-0) c.in-Ok-Split.ensures)).0
+to_clear-requires-in-Ok-Split-clause-nodes g c =
+    (subst is_within c.in-Ok-Split.field-0-is (within (map (string_bytes {Z = Global}) c.args.words.now) (asked c.in-Ok-Split.field-0) c.in-Ok-Split.ensures)).0
 
 pub to_clear-requires-in-Ok-Split-clause-workers : goal.to_clear-requires-in-Ok-Split-clause-workers
-to_clear-requires-in-Ok-Split-clause-workers g c = (subst is_within c.in-Ok-Split.field-0-is (within (map (string_bytes {Z = Global}) c.args.words.now) (asked c.in-Ok-Split.field-0) c.in-Ok-Split.ensures)).1
+to_clear-requires-in-Ok-Split-clause-workers g c =
+    (subst is_within c.in-Ok-Split.field-0-is (within (map (string_bytes {Z = Global}) c.args.words.now) (asked c.in-Ok-Split.field-0) c.in-Ok-Split.ensures)).1
 
 pub returns-in-Ok-Split-clause-reported : goal.returns-in-Ok-Split-clause-reported
 returns-in-Ok-Split-clause-reported g c = λ reported e. rw (c.in-Ok-Split.ensures, c.in-Ok-Split.field-0-is, sym c.deref-in-Ok-Split.ensures) (c.to_clear-in-Ok-Split.ensures.reported reported e)
@@ -78,7 +82,9 @@ pub returns-in-Ok-Split-clause-untouched : goal.returns-in-Ok-Split-clause-untou
 returns-in-Ok-Split-clause-untouched g c = λ none. absurd (none (reads-files _ _ _ _ c.in-Ok-Split.ensures c.in-Ok-Split.field-0-is refl))
 
 pub generated-requires-after_bounds : goal.generated-requires-after_bounds
-generated-requires-after_bounds g c κs met = subst is_within c.in-Ok-Generate.field-0-is (within (map (string_bytes {Z = Global}) c.args.words.now) (asked c.in-Ok-Generate.field-0) c.in-Ok-Generate.ensures)
+generated-requires-after_bounds g c κs met =
+    subst is_within c.in-Ok-Generate.field-0-is
+    (within (map (string_bytes {Z = Global}) c.args.words.now) (asked c.in-Ok-Generate.field-0) c.in-Ok-Generate.ensures)
 
 pub valued-requires-clause-some : goal.valued-requires-clause-some
 valued-requires-clause-some g c = (subst is_within c.in-Ok-Value.field-0-is (within (map (string_bytes {Z = Global}) c.args.words.now) (asked c.in-Ok-Value.field-0) c.in-Ok-Value.ensures)).0
@@ -101,7 +107,8 @@ quarters_of folder first last nodes workers = record { folder = folder; first = 
 
 pub returns-in-Ok-Blocks-clause-reported : goal.returns-in-Ok-Blocks-clause-reported
 returns-in-Ok-Blocks-clause-reported g c = λ reported e.
-    OfBlocks (quarters_of c.in-Ok-Blocks.folder c.in-Ok-Blocks.first c.in-Ok-Blocks.last c.in-Ok-Blocks.nodes c.in-Ok-Blocks.workers) (c.in-Ok-Blocks.ensures ∙ ap (λ (x : Command). Some (asked x)) c.in-Ok-Blocks.field-0-is) refl
+    OfBlocks (quarters_of c.in-Ok-Blocks.folder c.in-Ok-Blocks.first c.in-Ok-Blocks.last c.in-Ok-Blocks.nodes c.in-Ok-Blocks.workers)
+    (c.in-Ok-Blocks.ensures ∙ ap (λ (x : Command). Some (asked x)) c.in-Ok-Blocks.field-0-is) refl
 
 pub returns-in-Ok-Blocks-clause-words : goal.returns-in-Ok-Blocks-clause-words
 returns-in-Ok-Blocks-clause-words g c = c.in-Ok-Blocks.ensures ∙ ap (λ (x : Command). Some (asked x)) c.in-Ok-Blocks.field-0-is

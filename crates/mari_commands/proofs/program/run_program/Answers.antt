@@ -13,47 +13,70 @@ use Rattle.mari_commands.proofs.program.run_program.Goals as goal
 
 pub returns-clause-answers : goal.returns-clause-answers
 returns-clause-answers g c =
-    answers-of _ _ _ _ _ c.outcome_of-outcome.ensures.same _ (λ r. omega (arith, r, c.outcome_of-outcome.ensures.failed.later)) c.outcome_of-outcome.result c.finish.result _ c.outcome_of-outcome.ensures.reported c.outcome_of-outcome.ensures.words c.outcome_of-outcome.ensures.reportable (λ h. omega (arith, c.outcome_of-outcome.ensures.failed.rose h, c.finish.ensures.read_fault.later)) c.finish.ensures.reported
+    answers-of _ _ _ _ _ c.outcome_of-outcome.ensures.same _ (λ r. omega (arith, r, c.outcome_of-outcome.ensures.failed.later))
+    c.outcome_of-outcome.result c.finish.result _ c.outcome_of-outcome.ensures.reported c.outcome_of-outcome.ensures.words
+    c.outcome_of-outcome.ensures.reportable (λ h. omega (arith, c.outcome_of-outcome.ensures.failed.rose h, c.finish.ensures.read_fault.later))
+    c.finish.ensures.reported
 
 pub returns-clause-refuses : goal.returns-clause-refuses
 returns-clause-refuses g c = λ pages refusal t h.
-    refuses-answer _ _ _ _ _ _ pages (c.outcome_of-outcome.ensures.same ∙ t) c.outcome_of-outcome.result c.outcome_of-outcome.ensures.words (c.outcome_of-outcome.ensures.reported pages t) c.finish.ensures.reported refusal h
+    refuses-answer _ _ _ _ _ _ pages (c.outcome_of-outcome.ensures.same ∙ t) c.outcome_of-outcome.result c.outcome_of-outcome.ensures.words
+    (c.outcome_of-outcome.ensures.reported pages t) c.finish.ensures.reported refusal h
 
 pub returns-clause-refuses_text : goal.returns-clause-refuses_text
 returns-clause-refuses_text g c = λ pages page f t h.
-    refuses-text-answer _ _ _ _ _ _ pages (c.outcome_of-outcome.ensures.same ∙ t) c.outcome_of-outcome.result c.outcome_of-outcome.ensures.words (c.outcome_of-outcome.ensures.reported pages t) c.finish.ensures.reported page f h
+    refuses-text-answer _ _ _ _ _ _ pages (c.outcome_of-outcome.ensures.same ∙ t) c.outcome_of-outcome.result c.outcome_of-outcome.ensures.words
+    (c.outcome_of-outcome.ensures.reported pages t) c.finish.ensures.reported page f h
 
 pub returns-clause-gaps : goal.returns-clause-gaps
 returns-clause-gaps g c = λ pages number gap t h.
-    gap-answer _ _ _ _ _ _ pages (c.outcome_of-outcome.ensures.same ∙ t) c.outcome_of-outcome.result c.outcome_of-outcome.ensures.words (c.outcome_of-outcome.ensures.reported pages t) c.finish.ensures.reported number gap h
+    gap-answer _ _ _ _ _ _ pages (c.outcome_of-outcome.ensures.same ∙ t) c.outcome_of-outcome.result c.outcome_of-outcome.ensures.words
+    (c.outcome_of-outcome.ensures.reported pages t) c.finish.ensures.reported number gap h
 
 pub returns-clause-cleared : goal.returns-clause-cleared
-returns-clause-cleared g c = λ pages t h. cleared-answer _ _ _ _ _ _ pages (c.outcome_of-outcome.ensures.same ∙ t) c.outcome_of-outcome.result c.outcome_of-outcome.ensures.words (c.outcome_of-outcome.ensures.reported pages t) c.finish.ensures.reported h
+returns-clause-cleared g c = λ pages t h.
+    cleared-answer _ _ _ _ _ _ pages (c.outcome_of-outcome.ensures.same ∙ t) c.outcome_of-outcome.result c.outcome_of-outcome.ensures.words
+    (c.outcome_of-outcome.ensures.reported pages t) c.finish.ensures.reported h
 
 pub returns-clause-complete : goal.returns-clause-complete
-returns-clause-complete g c = λ pages t h. complete-answer _ _ _ _ _ _ pages (c.outcome_of-outcome.ensures.same ∙ t) c.outcome_of-outcome.result c.outcome_of-outcome.ensures.words (c.outcome_of-outcome.ensures.reported pages t) c.finish.ensures.reported h
+returns-clause-complete g c = λ pages t h.
+    complete-answer _ _ _ _ _ _ pages (c.outcome_of-outcome.ensures.same ∙ t) c.outcome_of-outcome.result c.outcome_of-outcome.ensures.words
+    (c.outcome_of-outcome.ensures.reported pages t) c.finish.ensures.reported h
 
 pub returns-clause-split : goal.returns-clause-split
-returns-clause-split g c = λ pages t h. split-answer _ _ _ _ _ _ pages (c.outcome_of-outcome.ensures.same ∙ t) c.outcome_of-outcome.result c.outcome_of-outcome.ensures.words (c.outcome_of-outcome.ensures.reported pages t) c.finish.ensures.reported h
+returns-clause-split g c = λ pages t h.
+    split-answer _ _ _ _ _ _ pages (c.outcome_of-outcome.ensures.same ∙ t) c.outcome_of-outcome.result c.outcome_of-outcome.ensures.words
+    (c.outcome_of-outcome.ensures.reported pages t) c.finish.ensures.reported h
 
 pub returns-clause-islands : goal.returns-clause-islands
-returns-clause-islands g c = λ pages t h. islands-answer _ _ _ _ _ _ pages (c.outcome_of-outcome.ensures.same ∙ t) c.outcome_of-outcome.result c.outcome_of-outcome.ensures.words (c.outcome_of-outcome.ensures.reported pages t) c.finish.ensures.reported h
+returns-clause-islands g c = λ pages t h.
+    islands-answer _ _ _ _ _ _ pages (c.outcome_of-outcome.ensures.same ∙ t) c.outcome_of-outcome.result c.outcome_of-outcome.ensures.words
+    (c.outcome_of-outcome.ensures.reported pages t) c.finish.ensures.reported h
 
 pub returns-clause-checked : goal.returns-clause-checked
-returns-clause-checked g c = λ pages t h. checked-answer _ _ _ _ _ _ pages (c.outcome_of-outcome.ensures.same ∙ t) c.outcome_of-outcome.result c.outcome_of-outcome.ensures.words (c.outcome_of-outcome.ensures.reported pages t) c.finish.ensures.reported h
+returns-clause-checked g c = λ pages t h.
+    checked-answer _ _ _ _ _ _ pages (c.outcome_of-outcome.ensures.same ∙ t) c.outcome_of-outcome.result c.outcome_of-outcome.ensures.words
+    (c.outcome_of-outcome.ensures.reported pages t) c.finish.ensures.reported h
 
 pub returns-clause-migrated : goal.returns-clause-migrated
-returns-clause-migrated g c = λ pages t h. migrated-answer _ _ _ _ _ _ pages (c.outcome_of-outcome.ensures.same ∙ t) c.outcome_of-outcome.result c.outcome_of-outcome.ensures.words (c.outcome_of-outcome.ensures.reported pages t) c.finish.ensures.reported h
+returns-clause-migrated g c = λ pages t h.
+    migrated-answer _ _ _ _ _ _ pages (c.outcome_of-outcome.ensures.same ∙ t) c.outcome_of-outcome.result c.outcome_of-outcome.ensures.words
+    (c.outcome_of-outcome.ensures.reported pages t) c.finish.ensures.reported h
 
 pub returns-clause-values : goal.returns-clause-values
-returns-clause-values g c = λ pages end t h. values-answer _ _ _ _ _ _ pages (c.outcome_of-outcome.ensures.same ∙ t) c.outcome_of-outcome.result c.outcome_of-outcome.ensures.words (c.outcome_of-outcome.ensures.reported pages t) c.finish.ensures.reported end h
+returns-clause-values g c = λ pages end t h.
+    values-answer _ _ _ _ _ _ pages (c.outcome_of-outcome.ensures.same ∙ t) c.outcome_of-outcome.result c.outcome_of-outcome.ensures.words
+    (c.outcome_of-outcome.ensures.reported pages t) c.finish.ensures.reported end h
 
 pub returns-clause-refuses_feed : goal.returns-clause-refuses_feed
 returns-clause-refuses_feed g c = λ pages page f t h.
-    refuses-feed-answer _ _ _ _ _ _ pages (c.outcome_of-outcome.ensures.same ∙ t) c.outcome_of-outcome.result c.outcome_of-outcome.ensures.words (c.outcome_of-outcome.ensures.reported pages t) c.finish.ensures.reported page f h
+    refuses-feed-answer _ _ _ _ _ _ pages (c.outcome_of-outcome.ensures.same ∙ t) c.outcome_of-outcome.result c.outcome_of-outcome.ensures.words
+    (c.outcome_of-outcome.ensures.reported pages t) c.finish.ensures.reported page f h
 
 pub returns-clause-fed : goal.returns-clause-fed
-returns-clause-fed g c = λ pages t h. fed-answer _ _ _ _ _ _ pages (c.outcome_of-outcome.ensures.same ∙ t) c.outcome_of-outcome.result c.outcome_of-outcome.ensures.words (c.outcome_of-outcome.ensures.reported pages t) c.finish.ensures.reported h
+returns-clause-fed g c = λ pages t h.
+    fed-answer _ _ _ _ _ _ pages (c.outcome_of-outcome.ensures.same ∙ t) c.outcome_of-outcome.result c.outcome_of-outcome.ensures.words
+    (c.outcome_of-outcome.ensures.reported pages t) c.finish.ensures.reported h
 
 pub returns-clause-read_fault : goal.returns-clause-read_fault
 returns-clause-read_fault g c = failed-counts _ _ c.outcome_of-outcome.result _ _ c.finish.result c.finish.ensures.reported _ _ _ c.outcome_of-outcome.ensures.failed c.finish.ensures.read_fault
@@ -65,10 +88,14 @@ pub returns-clause-too_long : goal.returns-clause-too_long
 returns-clause-too_long g c = too-long-counts _ _ c.outcome_of-outcome.result _ _ c.finish.result c.finish.ensures.reported _ _ _ c.outcome_of-outcome.ensures.too_long c.finish.ensures.too_long
 
 pub returns-clause-blocks : goal.returns-clause-blocks
-returns-clause-blocks g c = λ pages wanted t h. decided-answer _ _ _ _ _ _ pages (c.outcome_of-outcome.ensures.same ∙ t) c.outcome_of-outcome.result (c.outcome_of-outcome.ensures.reported pages t) c.finish.ensures.reported wanted h
+returns-clause-blocks g c = λ pages wanted t h.
+    decided-answer _ _ _ _ _ _ pages (c.outcome_of-outcome.ensures.same ∙ t) c.outcome_of-outcome.result
+    (c.outcome_of-outcome.ensures.reported pages t) c.finish.ensures.reported wanted h
 
 pub returns-clause-joined : goal.returns-clause-joined
-returns-clause-joined g c = λ pages t h. joined-answer _ _ _ _ _ _ pages (c.outcome_of-outcome.ensures.same ∙ t) c.outcome_of-outcome.result (c.outcome_of-outcome.ensures.reported pages t) c.finish.ensures.reported h
+returns-clause-joined g c = λ pages t h.
+    joined-answer _ _ _ _ _ _ pages (c.outcome_of-outcome.ensures.same ∙ t) c.outcome_of-outcome.result
+    (c.outcome_of-outcome.ensures.reported pages t) c.finish.ensures.reported h
 
 -- whoever reports a feed or quarters was asked for them
 asked-for : (words : Option Asked) (o : Outcome) → IsOfWords words o → IsOwn o → AsksForFeed words ⊎ AsksForBlocks words

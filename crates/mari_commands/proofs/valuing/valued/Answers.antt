@@ -5,7 +5,8 @@ use Rattle.mari_commands.proofs.valuing.valued.Goals as goal
 
 pub returns-in-Ok-clause-reported : goal.returns-in-Ok-clause-reported
 returns-in-Ok-clause-reported g c = λ reported e.
-    OfValues c.args.folder.now c.args.more c.in-Ok.books refl (c.in-Ok.ensures.reported (Some (Value c.args.folder.now c.args.more)) reported refl e) (c.valued_books.ensures.reported reported (c.in-Ok.ensures.same ∙ e))
+    OfValues c.args.folder.now c.args.more c.in-Ok.books refl (c.in-Ok.ensures.reported (Some (Value c.args.folder.now c.args.more)) reported refl e)
+    (c.valued_books.ensures.reported reported (c.in-Ok.ensures.same ∙ e))
 
 pub returns-in-Err-clause-reported : goal.returns-in-Err-clause-reported
 returns-in-Err-clause-reported g c = λ reported e. c.in-Err.ensures.reported (Some (Value c.args.folder.now c.args.more)) reported refl e

@@ -41,4 +41,5 @@ returns-in_default-clause-not_closed c =
 
 pub returns-clause-tree : goal.returns-clause-tree
 returns-clause-tree c =
-    all_visited c.args.nodes.now _ c.deref-node-items.result.now c.loop-node.node-index c.loop-node.invariant (subst (IsPreorder c.args.nodes.now) (sym c.deref-node-items.ensures.value) c.in_ok-order.ensures) c.loop-node-test.false
+    all_visited c.args.nodes.now _ c.deref-node-items.result.now c.loop-node.node-index c.loop-node.invariant
+    (subst (IsPreorder c.args.nodes.now) (sym c.deref-node-items.ensures.value) c.in_ok-order.ensures) c.loop-node-test.false

@@ -37,7 +37,8 @@ returns-clause-reported c =
 
 pub returns-clause-published : goal.returns-clause-published
 returns-clause-published c = λ budget clears.
-    published c.args.books.now budget c.args.run c.args.made _ c.args.clearing c.in_ok-priced.priced c.in_ok-done.done.block (rw c.as_slice.ensures at c.in_ok-done.ensures.block) clears c.in_ok-priced.ensures
+    published c.args.books.now budget c.args.run c.args.made _ c.args.clearing c.in_ok-priced.priced c.in_ok-done.done.block
+    (rw c.as_slice.ensures at c.in_ok-done.ensures.block) clears c.in_ok-priced.ensures
     (as_many c.args.made.market c.args.clearing.activation c.requires.optimal.admissible.feasible ∙ c.requires.made.orders)
 
 pub returns-clause-fits : goal.returns-clause-fits

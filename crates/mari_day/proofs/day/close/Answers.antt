@@ -12,7 +12,8 @@ money_lines-requires-clause-few g c = c.requires.accepted.zones.few_operators
 pub money_lines-requires-clause-small : goal.money_lines-requires-clause-small
 money_lines-requires-clause-small g c =
     let s = c.requires.stands in
-    rw c.as_slice.ensures (have-nets _ (sums-halves c.args.books.now c.requires.accepted c.requires.dated s.1 c.args.progress.now.totals s.2.kept.totals (omega (arith, s.3, c.requires.accepted.runs.few))))
+    rw c.as_slice.ensures
+    (have-nets _ (sums-halves c.args.books.now c.requires.accepted c.requires.dated s.1 c.args.progress.now.totals s.2.kept.totals (omega (arith, s.3, c.requires.accepted.runs.few))))
 
 pub total_lines-requires-clause-one_each : goal.total_lines-requires-clause-one_each
 total_lines-requires-clause-one_each g c =
@@ -27,12 +28,14 @@ overflow_sub-unpublished g c =
 pub closing_text-requires-clause-operators : goal.closing_text-requires-clause-operators
 closing_text-requires-clause-operators g c =
     let s = c.requires.stands in
-    rw (c.deref.ensures.value, c.in_ok-operators.ensures, c.as_slice.ensures) (operators-fit c.args.books.now c.requires.accepted c.requires.dated s.1 c.args.progress.now.totals s.2.kept.totals (omega (arith, s.3, c.requires.accepted.runs.few))).1
+    rw (c.deref.ensures.value, c.in_ok-operators.ensures, c.as_slice.ensures)
+    (operators-fit c.args.books.now c.requires.accepted c.requires.dated s.1 c.args.progress.now.totals s.2.kept.totals (omega (arith, s.3, c.requires.accepted.runs.few))).1
 
 pub closing_text-requires-clause-providers : goal.closing_text-requires-clause-providers
 closing_text-requires-clause-providers g c =
     let s = c.requires.stands in
-    rw (c.deref-2.ensures.value, c.in_ok-providers.ensures, c.as_slice-2.ensures) (providers-fit c.args.books.now c.requires.accepted c.requires.dated s.1 c.args.progress.now.totals s.2.kept.totals (omega (arith, s.3, c.requires.accepted.runs.few))).1
+    rw (c.deref-2.ensures.value, c.in_ok-providers.ensures, c.as_slice-2.ensures)
+    (providers-fit c.args.books.now c.requires.accepted c.requires.dated s.1 c.args.progress.now.totals s.2.kept.totals (omega (arith, s.3, c.requires.accepted.runs.few))).1
 
 pub returns-clause-closes : goal.returns-clause-closes
 returns-clause-closes g c = λ budget blocks range progress every.

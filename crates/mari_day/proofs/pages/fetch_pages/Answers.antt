@@ -20,7 +20,8 @@ pub returns-in-Ok-fetch_page-clause-fetched : goal.returns-in-Ok-fetch_page-clau
 returns-in-Ok-fetch_page-clause-fetched g c =
     let e : (version_in (page_among c.in-Ok.seven Borders) == 2) ≡ true = search rules in
     all-eight (g.S.Shelf.pages c.args.shelf.now) c.args.folder.now c.in-Ok.seven c.in-Ok.ensures.fetched.0 c.in-Ok.ensures.reported e
-    (g.S.Shelf.fetches c.args.shelf.now) _ _ c.in-Ok-fetch_page.limits c.with_limits.result c.in-Ok.ensures.fetched.1 c.in-Ok-fetch_page.ensures.fetched c.with_limits.ensures.folder c.with_limits.ensures.memory
+    (g.S.Shelf.fetches c.args.shelf.now) _ _ c.in-Ok-fetch_page.limits c.with_limits.result c.in-Ok.ensures.fetched.1
+    c.in-Ok-fetch_page.ensures.fetched c.with_limits.ensures.folder c.with_limits.ensures.memory
 
 pub returns-in-Err-fetch_page-clause-fetched : goal.returns-in-Err-fetch_page-clause-fetched
 returns-in-Err-fetch_page-clause-fetched g c =

@@ -29,7 +29,12 @@ returns-clause-reported g c = λ reported e.
     rw c.of.ensures (whole reported c.args.folder.now c.loop-file.pages.items c.loop-file.file-index (omega arith) (c.loop-file.invariant.held reported e) (c.loop-file.invariant.no_gap reported e))
 
 pub returns-in-Err-clause-fetched : goal.returns-in-Err-clause-fetched
-returns-in-Err-clause-fetched g c = at_fault c.loop-file.file-index (g.S.Shelf.fetches c.args.shelf.now) _ _ c.in-Err.fault c.loop-file.invariant.fetched (c.loop-file-test.true) c.in-Err.ensures.fetched c.in-Err.ensures.file
+returns-in-Err-clause-fetched g c =
+    at_fault c.loop-file.file-index (g.S.Shelf.fetches c.args.shelf.now) _ _ c.in-Err.fault c.loop-file.invariant.fetched (c.loop-file-test.true)
+    c.in-Err.ensures.fetched c.in-Err.ensures.file
 
 pub returns-in-Err-push-clause-fetched : goal.returns-in-Err-push-clause-fetched
-returns-in-Err-push-clause-fetched g c = some_fetched (c.loop-file.file-index + 1) (g.S.Shelf.fetches c.args.shelf.now) _ (one_more c.loop-file.file-index (g.S.Shelf.fetches c.args.shelf.now) _ _ c.loop-file.invariant.fetched c.in-Ok.ensures.fetched) (omega (arith, c.loop-file-test.true))
+returns-in-Err-push-clause-fetched g c =
+    some_fetched (c.loop-file.file-index + 1) (g.S.Shelf.fetches c.args.shelf.now) _
+    (one_more c.loop-file.file-index (g.S.Shelf.fetches c.args.shelf.now) _ _ c.loop-file.invariant.fetched c.in-Ok.ensures.fetched)
+    (omega (arith, c.loop-file-test.true))

@@ -27,7 +27,9 @@ returns-in-Some-clause-stepped g c = λ blocks progress is.
     let settled = own books c.args.budget blocks c.in_ok-block.field-0 done (Some c.in-Some.settled) c.in-Some.is in
     record {
       block = c.in_ok-block.field-0.block;
-      progress = some-more books c.args.budget blocks c.args.progress.now progress (omega (arith, is, c.requires.last)) c.in_ok-block.field-0.block done.block c.in_ok-block.ensures.fits c.in-Some.settled settled _
+      progress =
+          some-more books c.args.budget blocks c.args.progress.now progress (omega (arith, is, c.requires.last)) c.in_ok-block.field-0.block
+          done.block c.in_ok-block.ensures.fits c.in-Some.settled settled _
           (λ b next. c.add.ensures blocks b progress.kept is next);
       taken = c.in_default.ensures.written;
     }

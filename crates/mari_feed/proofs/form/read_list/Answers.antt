@@ -23,12 +23,14 @@ loop-item-init g c = rw c.new-items.ensures.items (begun g.F.Form.InItsRange g.F
 
 pub loop-item-preserved : goal.loop-item-preserved
 loop-item-preserved g c =
-    rw c.in_ok-push.ensures.items (begun_more g.F.Form.InItsRange g.F.Form.written c.loop-item.items.items c.as_slice-values.result.now c.loop-item.item-index c.item-item.result c.in_ok-read.read c.loop-item-test.true c.item-item.is c.loop-item.invariant c.in_ok-read.ensures)
+    rw c.in_ok-push.ensures.items
+    (begun_more g.F.Form.InItsRange g.F.Form.written c.loop-item.items.items c.as_slice-values.result.now c.loop-item.item-index c.item-item.result c.in_ok-read.read c.loop-item-test.true c.item-item.is c.loop-item.invariant c.in_ok-read.ensures)
 
 pub returns-in_err-read : goal.returns-in_err-read
 returns-in_err-read g c =
     let is = ap (λ (vs : List Value). Some (items_view vs)) c.as_slice-values.ensures.value ∙ c.in-Some.ensures in
-    item_unread g.F.Form.InItsRange g.F.Form.written c.args.least c.args.greatest c.as_slice-values.result.now c.loop-item.item-index c.item-item.result (view c.args.value.now) _ c.from_residual.result
+    item_unread g.F.Form.InItsRange g.F.Form.written c.args.least c.args.greatest c.as_slice-values.result.now c.loop-item.item-index
+    c.item-item.result (view c.args.value.now) _ c.from_residual.result
     c.loop-item-test.true c.item-item.is is (err_from_is_err_and c.from_residual.result c.from_residual.ensures.1) c.in_err-read.ensures
 
 pub returns : goal.returns

@@ -30,7 +30,8 @@ parts-preserved g c = record {
 pub returns-in-Ok-None-clause-fed : goal.returns-in-Ok-None-clause-fed
 returns-in-Ok-None-clause-fed g c = λ start text parts fed.
     let s = c.parts.invariant.fed start text parts fed in
-    all_fed start text s.0 _ _ c.in-Ok-None.field-0 c.in-Ok-None.field-0-is (c.in-Ok-None.ensures.next text s.0 s.1.stands) (c.in-Ok-None.ensures.stands text s.0 s.1.stands) c.in-Ok-None.ensures.waits s.1.took
+    all_fed start text s.0 _ _ c.in-Ok-None.field-0 c.in-Ok-None.field-0-is (c.in-Ok-None.ensures.next text s.0 s.1.stands)
+    (c.in-Ok-None.ensures.stands text s.0 s.1.stands) c.in-Ok-None.ensures.waits s.1.took
 
 pub returns-in-Err-clause-fed : goal.returns-in-Err-clause-fed
 returns-in-Err-clause-fed g c = λ start text parts fed.

@@ -16,14 +16,18 @@ loop-item-preserved g c =
     record {
       text = elim c.if-later.branch [
         | then-later+in_ok-put-2 w ↦
-            more_item f c.args.items.now i c.item-item.result c.loop-item-test.true c.item-item.is c.args.text.now.items c.loop-item.text.items begun.text c.loop-item.later begun.later w.if-later.true c.if-later.text.items _
+            more_item f c.args.items.now i c.item-item.result c.loop-item-test.true c.item-item.is c.args.text.now.items c.loop-item.text.items
+            begun.text c.loop-item.later begun.later w.if-later.true c.if-later.text.items _
             (ap (λ (t : Vec ℕ). t.items) w.text-is ∙ w.in_ok-put-2.ensures.put) c.in_ok-put-3.ensures
         | else-later w ↦
-            first_item f c.args.items.now i c.item-item.result c.loop-item-test.true c.item-item.is c.args.text.now.items c.loop-item.text.items begun.text c.loop-item.later begun.later w.if-later.false _
+            first_item f c.args.items.now i c.item-item.result c.loop-item-test.true c.item-item.is c.args.text.now.items c.loop-item.text.items
+            begun.text c.loop-item.later begun.later w.if-later.false _
             (c.in_ok-put-3.ensures ∙ ap (λ (t : Vec ℕ). t.items ++ compact_text (f c.item-item.result)) w.text-is)
       ];
       later = sym (lt-ltb 0 (i + 1) (omega arith));
     }
 
 pub returns : goal.returns
-returns g c = all_items c.put-2.result g.F.Form.written c.args.items.now c.loop-item.item-index c.args.text.now.items c.loop-item.text.items c.put-2.new.text.items c.loop-item-test.false c.loop-item.invariant.text c.put-2.ensures.put
+returns g c =
+    all_items c.put-2.result g.F.Form.written c.args.items.now c.loop-item.item-index c.args.text.now.items c.loop-item.text.items
+    c.put-2.new.text.items c.loop-item-test.false c.loop-item.invariant.text c.put-2.ensures.put

@@ -10,4 +10,5 @@ pub loop-slot-2-preserved : goal.loop-slot-2-preserved
 loop-slot-2-preserved c =
     let small : IsSmallSlot (slot_at c.args.slots.now c.loop-slot-2.slot-index) = c.requires.small c.loop-slot-2.slot-index no_slot c.loop-slot-2-test.true in
     let order = c.requires.order c.loop-slot-2.slot-index no_slot c.loop-slot-2-test.true in
-    pushed_after (λ (s : Slot). neg_ℤ s.low) (lows c.args.slots.now) c.args.slots.now c.loop-slot-2.slot-index no_slot c.loop-slot-2.amounts.items _ _ c.loop-slot-2-test.true c.in_ok-push-2.ensures.items c.loop-slot-2.invariant (omega (arith, ints, small.low, small.high, order))
+    pushed_after (λ (s : Slot). neg_ℤ s.low) (lows c.args.slots.now) c.args.slots.now c.loop-slot-2.slot-index no_slot c.loop-slot-2.amounts.items _ _
+    c.loop-slot-2-test.true c.in_ok-push-2.ensures.items c.loop-slot-2.invariant (omega (arith, ints, small.low, small.high, order))

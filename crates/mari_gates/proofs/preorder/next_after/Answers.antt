@@ -14,7 +14,9 @@ pub without_last-at-requires-clause-few : goal.without_last-at-requires-clause-f
 without_last-at-requires-clause-few c = omega (arith, length_feasible c.args.market.now c.loop-at.at c.loop-at.invariant.feasible, c.requires.market.few_gates)
 
 pub may_branch_up-requires-clause-prefix : goal.may_branch_up-requires-clause-prefix
-may_branch_up-requires-clause-prefix c = parent_feasible c.args.market.now c.loop-at.at c.without_last-at.result _ c.requires.market c.loop-at.invariant.feasible c.without_last-at.ensures.word c.without_last-at.ensures.cleared
+may_branch_up-requires-clause-prefix c =
+    parent_feasible c.args.market.now c.loop-at.at c.without_last-at.result _ c.requires.market c.loop-at.invariant.feasible
+    c.without_last-at.ensures.word c.without_last-at.ensures.cleared
 
 pub may_branch_up-requires-clause-undecided : goal.may_branch_up-requires-clause-undecided
 may_branch_up-requires-clause-undecided c = omega (arith, length_feasible c.args.market.now c.loop-at.at c.loop-at.invariant.feasible, c.without_last-at.ensures.length)

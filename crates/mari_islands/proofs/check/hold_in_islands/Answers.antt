@@ -25,7 +25,9 @@ holds_in_island-requires-clause-feasible c =
     let islands = c.args.islands.now in
     let a = c.args.activation.now in
     let there : Contains islands c.index-islands-place.result = (c.loop-place.place, c.loop-place-test.true, sym c.index-islands-place.is) in
-    All-contains (λ (i : Island). IsFeasible i.market (activation_in i a)) islands c.index-islands-place.result (islands_feasible m islands c.requires.valid c.requires.islands a (lengths_of m islands c.requires.valid c.requires.islands a c.requires.feasible) c.requires.feasible) there
+    All-contains (λ (i : Island). IsFeasible i.market (activation_in i a)) islands c.index-islands-place.result
+    (islands_feasible m islands c.requires.valid c.requires.islands a (lengths_of m islands c.requires.valid c.requires.islands a c.requires.feasible) c.requires.feasible)
+    there
 
 pub holds_in_island-requires-clause-orders : goal.holds_in_island-requires-clause-orders
 holds_in_island-requires-clause-orders c =
@@ -59,7 +61,8 @@ returns-then-not-branch c =
     let read : c.deref.result.now ≡ get_or trees c.loop-place.place c.index-trees-place.result.items = tree_at c.args.trees.now c.loop-place.place c.index-trees-place.result c.deref.result.now there c.index-trees-place.is c.deref.ensures.value in
     let test : (c.in_ok-holds_in_island.field-0 ≡ true) ↔ HoldsInIsland a (get_or c.args.islands.now c.loop-place.place c.index-islands-place.result) c.deref.result.now =
     subst (λ (i : Island). (c.in_ok-holds_in_island.field-0 ≡ true) ↔ HoldsInIsland a i c.deref.result.now) c.index-islands-place.is c.in_ok-holds_in_island.ensures in
-    fails_at (HoldsInIsland a) c.args.islands.now trees c.loop-place.place c.index-islands-place.result c.index-trees-place.result.items c.deref.result.now c.in_ok-holds_in_island.field-0 c.loop-place-test.true read test c.if-not-branch.true
+    fails_at (HoldsInIsland a) c.args.islands.now trees c.loop-place.place c.index-islands-place.result c.index-trees-place.result.items
+    c.deref.result.now c.in_ok-holds_in_island.field-0 c.loop-place-test.true read test c.if-not-branch.true
 
 pub loop-place-preserved : goal.loop-place-preserved
 loop-place-preserved c =
@@ -69,4 +72,6 @@ loop-place-preserved c =
     let read : c.deref.result.now ≡ get_or trees c.loop-place.place c.index-trees-place.result.items = tree_at c.args.trees.now c.loop-place.place c.index-trees-place.result c.deref.result.now there c.index-trees-place.is c.deref.ensures.value in
     let test : (c.in_ok-holds_in_island.field-0 ≡ true) ↔ HoldsInIsland a (get_or c.args.islands.now c.loop-place.place c.index-islands-place.result) c.deref.result.now =
     subst (λ (i : Island). (c.in_ok-holds_in_island.field-0 ≡ true) ↔ HoldsInIsland a i c.deref.result.now) c.index-islands-place.is c.in_ok-holds_in_island.ensures in
-    passes_more (HoldsInIsland a) c.args.islands.now trees c.loop-place.place c.index-islands-place.result c.index-trees-place.result.items c.deref.result.now c.in_ok-holds_in_island.field-0 c.loop-place-test.true (omega (arith, length-map c.args.trees.now (λ v. v.items), there)) read test c.if-not-branch.false c.loop-place.invariant
+    passes_more (HoldsInIsland a) c.args.islands.now trees c.loop-place.place c.index-islands-place.result c.index-trees-place.result.items
+    c.deref.result.now c.in_ok-holds_in_island.field-0 c.loop-place-test.true (omega (arith, length-map c.args.trees.now (λ v. v.items), there)) read
+    test c.if-not-branch.false c.loop-place.invariant

@@ -17,7 +17,9 @@ pub overflow_cast-result : goal.overflow_cast-result
 overflow_cast-result g c = omega (arith, few_islands c.args.market.now c.args.islands.now c.requires.valid c.requires.islands, c.requires.valid.zones.1, c.loop-place-test.true)
 
 pub returns-in-Spent-clause-law : goal.returns-in-Spent-clause-law
-returns-in-Spent-clause-law g c = spent_at c.args.budget c.args.islands.now c.loop-place.clearings.items c.loop-place.place c.index-islands-place.result c.in-Spent.spent c.loop-place-test.true c.index-islands-place.is c.loop-place.invariant.cleared c.in-Spent.ensures.law
+returns-in-Spent-clause-law g c =
+    spent_at c.args.budget c.args.islands.now c.loop-place.clearings.items c.loop-place.place c.index-islands-place.result c.in-Spent.spent
+    c.loop-place-test.true c.index-islands-place.is c.loop-place.invariant.cleared c.in-Spent.ensures.law
 
 pub loop-place-preserved : goal.loop-place-preserved
 loop-place-preserved g c =
@@ -28,4 +30,6 @@ loop-place-preserved g c =
     }
 
 pub joined_of-requires-clause-firsts : goal.joined_of-requires-clause-firsts
-joined_of-requires-clause-firsts g c = all_cleared c.args.budget c.args.islands.now c.loop-place.clearings.items c.deref.result.now c.loop-place.place c.loop-place-test.false c.loop-place.invariant.cleared c.deref.ensures.value
+joined_of-requires-clause-firsts g c =
+    all_cleared c.args.budget c.args.islands.now c.loop-place.clearings.items c.deref.result.now c.loop-place.place c.loop-place-test.false
+    c.loop-place.invariant.cleared c.deref.ensures.value

@@ -26,4 +26,6 @@ loop-border-preserved c =
     ]
 
 pub returns-clause-united : goal.returns-clause-united
-returns-clause-united c = all_taken (UnitesUsable c.loop-border.firsts) c.as_slice-border-items.result.now c.args.market.now.borders c.loop-border.border-index c.loop-border-test.false c.as_slice-border-items.ensures c.loop-border.invariant.united
+returns-clause-united c =
+    all_taken (UnitesUsable c.loop-border.firsts) c.as_slice-border-items.result.now c.args.market.now.borders c.loop-border.border-index
+    c.loop-border-test.false c.as_slice-border-items.ensures c.loop-border.invariant.united

@@ -51,4 +51,6 @@ loop-order-preserved c =
     ]
 
 pub returns-clause-united : goal.returns-clause-united
-returns-clause-united c = all_taken (UnitesOwn c.args.homes.now c.loop-order.firsts) c.as_slice-order-items.result.now c.args.market.now.orders c.loop-order.order-index c.loop-order-test.false c.as_slice-order-items.ensures c.loop-order.invariant.united
+returns-clause-united c =
+    all_taken (UnitesOwn c.args.homes.now c.loop-order.firsts) c.as_slice-order-items.result.now c.args.market.now.orders c.loop-order.order-index
+    c.loop-order-test.false c.as_slice-order-items.ensures c.loop-order.invariant.united

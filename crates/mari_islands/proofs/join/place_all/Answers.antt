@@ -59,7 +59,8 @@ loop-place-preserved c =
     let place = c.loop-place.place in
     let there : place < length clearings = omega (arith, AllZip-long FitsIsland islands clearings c.requires.clearings, c.loop-place-test.true) in
     let here = subst (λ (i : Island). IsPlaced i (get_or clearings place c.index-clearings-place.result).activation c.loop-place.mw c.loop-place.flow c.place_island.new.mw c.place_island.new.flow) c.index-islands-place.is c.place_island.ensures in
-    placed_more c.args.market.now islands c.requires.valid c.requires.islands clearings place island c.index-clearings-place.result c.loop-place.mw c.loop-place.flow c.place_island.new.mw c.place_island.new.flow c.loop-place-test.true there c.loop-place.invariant here
+    placed_more c.args.market.now islands c.requires.valid c.requires.islands clearings place island c.index-clearings-place.result c.loop-place.mw
+    c.loop-place.flow c.place_island.new.mw c.place_island.new.flow c.loop-place-test.true there c.loop-place.invariant here
 
 pub returns : goal.returns
 returns c =
@@ -69,4 +70,5 @@ returns c =
     let long = AllZip-long FitsIsland islands clearings c.requires.clearings in
     let is = take_all place islands c.loop-place-test.false in
     let cs = take_all place clearings (omega (arith, long, c.loop-place-test.false)) in
-    subst (λ (xs : List Island). ArePlaced xs clearings c.loop-place.mw c.loop-place.flow) is (subst (λ (ys : List Clearing). ArePlaced (take place islands) ys c.loop-place.mw c.loop-place.flow) cs c.loop-place.invariant)
+    subst (λ (xs : List Island). ArePlaced xs clearings c.loop-place.mw c.loop-place.flow) is
+    (subst (λ (ys : List Clearing). ArePlaced (take place islands) ys c.loop-place.mw c.loop-place.flow) cs c.loop-place.invariant)

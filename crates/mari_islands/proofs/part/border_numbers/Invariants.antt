@@ -6,4 +6,6 @@ use Rattle.mari_islands.proofs.part.border_numbers.Given as goal
 
 -- with those still to come it is the whole
 abbrev pub invariant-loop-number : goal.invariant-loop-number
-invariant-loop-number l = l.numbers.items ++ places_from (is_border_in (has_first l.firsts l.first)) l.number (drop l.number l.borders) ≡ places_from (is_border_in (has_first l.firsts l.first)) 0 l.borders
+invariant-loop-number l =
+    l.numbers.items ++ places_from (is_border_in (has_first l.firsts l.first)) l.number (drop l.number l.borders) ≡ places_from
+    (is_border_in (has_first l.firsts l.first)) 0 l.borders

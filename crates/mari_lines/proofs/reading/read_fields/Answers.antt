@@ -11,8 +11,10 @@ returns-in_err-date-in-Mari c = handed_on _ _ c.args.words.now _ fields c.args.w
 
 pub returns-in_err-place-in-Demand : goal.returns-in_err-place-in-Demand
 returns-in_err-place-in-Demand c = handed_on _ _ c.args.words.now _ fields c.args.words.now _ c.from_residual-in_err-place-in-Demand.result
-    (err_from_is_err_and c.from_residual-in_err-place-in-Demand.result c.from_residual-in_err-place-in-Demand.ensures.1) c.in_err-place-in-Demand.ensures (λ l r e. demand_part l c.args.words.now r.0 (r.1 ∙ c.in-Demand.is) e)
+    (err_from_is_err_and c.from_residual-in_err-place-in-Demand.result c.from_residual-in_err-place-in-Demand.ensures.1)
+    c.in_err-place-in-Demand.ensures (λ l r e. demand_part l c.args.words.now r.0 (r.1 ∙ c.in-Demand.is) e)
 
 pub returns-in_err-published-in-Done : goal.returns-in_err-published-in-Done
 returns-in_err-published-in-Done c = handed_on _ _ c.args.words.now _ fields c.args.words.now _ c.from_residual-in_err-published-in-Done.result
-    (err_from_is_err_and c.from_residual-in_err-published-in-Done.result c.from_residual-in_err-published-in-Done.ensures.1) c.in_err-published-in-Done.ensures (λ l r e. done_part l c.args.words.now r.0 (r.1 ∙ c.in-Done.is) e)
+    (err_from_is_err_and c.from_residual-in_err-published-in-Done.result c.from_residual-in_err-published-in-Done.ensures.1)
+    c.in_err-published-in-Done.ensures (λ l r e. done_part l c.args.words.now r.0 (r.1 ∙ c.in-Done.is) e)

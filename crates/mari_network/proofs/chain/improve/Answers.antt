@@ -35,7 +35,10 @@ returns-clause-runs c =
       flows_long = omega arith;
       amounts = c.move_amount-2.ensures.within (c.move_amount.ensures.within c.requires.runs.amounts);
       flows = c.push_chain.ensures.within;
-      balance = λ z h. move_balances z (slot_at c.args.network.now.slots.now c.args.chain.now.sink).zone (slot_at c.args.network.now.slots.now c.args.chain.now.source).zone (hop_at c.args.chain.now.hops.items 0).zone (hop_at c.args.chain.now.hops.items c.args.chain.now.at).zone c.most_along-more.result _ _ _ _ _ c.requires.chain.to c.requires.chain.from
+      balance = λ z h.
+          move_balances z (slot_at c.args.network.now.slots.now c.args.chain.now.sink).zone
+          (slot_at c.args.network.now.slots.now c.args.chain.now.source).zone (hop_at c.args.chain.now.hops.items 0).zone
+          (hop_at c.args.chain.now.hops.items c.args.chain.now.at).zone c.most_along-more.result _ _ _ _ _ c.requires.chain.to c.requires.chain.from
           (rw less at c.move_amount.ensures.into z) (rw (to_z-of_z r) at c.move_amount-2.ensures.into z) (rw (c.deref.ensures.value, to_z-of_z r) at c.push_chain.ensures.carried z) (c.requires.runs.balance z h);
     }
 
@@ -68,5 +71,6 @@ returns-clause-rises c =
     let r : FitsSigned w64 c.most_along-more.result = search rules in
     let some : pos 1 ≤ℤ c.most_along-more.result = c.most_along-more.ensures.some in
     let less : to_z w64 (of_z w64 (pos 0 -ℤ to_z w64 (of_z w64 c.most_along-more.result))) ≡ neg_ℤ c.most_along-more.result = omega (arith, ints) in
-    move_rises (slot_at c.args.network.now.slots.now c.args.chain.now.source).price (slot_at c.args.network.now.slots.now c.args.chain.now.sink).price c.most_along-more.result _ _ _ c.requires.chain.dearer some
+    move_rises (slot_at c.args.network.now.slots.now c.args.chain.now.source).price (slot_at c.args.network.now.slots.now c.args.chain.now.sink).price
+    c.most_along-more.result _ _ _ c.requires.chain.dearer some
     (rw less at c.move_amount.ensures.worth) (rw (to_z-of_z r) at c.move_amount-2.ensures.worth)

@@ -24,4 +24,5 @@ loop-place-preserved c =
 pub returns-clause-room : goal.returns-clause-room
 returns-clause-room c =
     let start : c.loop-place.place ≡ 0 = omega arith in
-    c.loop-place.invariant.room (to_z w64 c.loop-place.least-bits) (omega (arith, ints)) (subst (λ (k : ℕ). HasRoom c.args.borders.now c.args.flows.now c.args.hops.now (to_z w64 c.loop-place.least-bits) k) (sym start) begins)
+    c.loop-place.invariant.room (to_z w64 c.loop-place.least-bits) (omega (arith, ints))
+    (subst (λ (k : ℕ). HasRoom c.args.borders.now c.args.flows.now c.args.hops.now (to_z w64 c.loop-place.least-bits) k) (sym start) begins)

@@ -13,7 +13,8 @@ pub quantity-mw-requires : goal.quantity-mw-requires
 quantity-mw-requires c =
     let fits : FitsSigned w64 (int_at c.args.amounts.now c.loop-i.i) = search rules in
     let can = AllZip-at (λ (o : Order) (x : ℤ). CanPut o.side x) c.args.orders.now (take (length c.args.orders.now) c.args.amounts.now) c.loop-i.i no_order (pos 0) c.loop-i-test.true c.requires.fits in
-    subst (λ (x : ℤ). CanPut (get_or c.args.orders.now c.loop-i.i no_order).side x) (get_or-take (length c.args.orders.now) c.args.amounts.now c.loop-i.i (pos 0) c.loop-i-test.true ∙ sym (to_z-of_z fits)) can
+    subst (λ (x : ℤ). CanPut (get_or c.args.orders.now c.loop-i.i no_order).side x)
+    (get_or-take (length c.args.orders.now) c.args.amounts.now c.loop-i.i (pos 0) c.loop-i-test.true ∙ sym (to_z-of_z fits)) can
 
 pub loop-i-preserved : goal.loop-i-preserved
 loop-i-preserved c =

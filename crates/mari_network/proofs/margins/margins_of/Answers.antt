@@ -15,10 +15,13 @@ loop-zone-preserved c =
         | inl e ↦ subst (λ (m : Margin). IsMarginOf c.args.network.now.slots.now c.args.amounts.now z m) (sym (ap (λ (ms : List Margin). get_or ms z no_margin) items ∙ get_or_append_left c.loop-zone.margins.items (c.margin_of.result ∷ []) no_margin z (omega (arith, c.loop-zone.invariant.long)))) (c.loop-zone.invariant.each z e)
         | inr e ↦
             let same : c.loop-zone.zone ≡ z = omega arith in
-            subst (λ (m : Margin). IsMarginOf c.args.network.now.slots.now c.args.amounts.now z m) (sym (ap (λ (ms : List Margin). get_or ms z no_margin) items ∙ get_or_push c.loop-zone.margins.items c.margin_of.result no_margin z (c.loop-zone.invariant.long ∙ same)))
+            subst (λ (m : Margin). IsMarginOf c.args.network.now.slots.now c.args.amounts.now z m)
+            (sym (ap (λ (ms : List Margin). get_or ms z no_margin) items ∙ get_or_push c.loop-zone.margins.items c.margin_of.result no_margin z (c.loop-zone.invariant.long ∙ same)))
             (subst (λ k. IsMarginOf c.args.network.now.slots.now c.args.amounts.now k c.margin_of.result) same c.margin_of.ensures)
       ];
     }
 
 pub returns : goal.returns
-returns c = margins_from c.args.network.now.slots.now c.args.amounts.now (length c.args.network.now.meeting.items) c.loop-zone.margins.items (omega arith) (λ z l. c.loop-zone.invariant.each z (omega arith))
+returns c =
+    margins_from c.args.network.now.slots.now c.args.amounts.now (length c.args.network.now.meeting.items) c.loop-zone.margins.items (omega arith)
+    (λ z l. c.loop-zone.invariant.each z (omega arith))

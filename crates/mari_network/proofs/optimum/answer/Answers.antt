@@ -14,7 +14,8 @@ solved_from-requires-clause-fits c =
 pub returns-in_ok-solved_from-in-None : goal.returns-in_ok-solved_from-in-None
 returns-in_ok-solved_from-in-None c = λ spans more e.
     let n = ap (λ (os : List Order). length os) c.as_slice.ensures in
-    answer_optimum spans c.args.market.now more c.args.network.now c.in_ok-solved_from-in-None.field-0 c.args.amounts.now c.args.flows.now c.args.prices.now e c.requires.market c.requires.network c.requires.same c.requires.runs c.requires.tight
+    answer_optimum spans c.args.market.now more c.args.network.now c.in_ok-solved_from-in-None.field-0 c.args.amounts.now c.args.flows.now
+    c.args.prices.now e c.requires.market c.requires.network c.requires.same c.requires.runs c.requires.tight
     c.in_ok-solved_from-in-None.ensures.flow c.in_ok-solved_from-in-None.ensures.puts
     c.in_ok-solved_from-in-None.ensures.potentials
     c.in_ok-solved_from-in-None.ensures.stated (λ k l h. c.in-None.ensures k (omega (arith, n, l)) h)
@@ -23,7 +24,8 @@ pub returns-in_ok-cut-in-Some : goal.returns-in_ok-cut-in-Some
 returns-in_ok-cut-in-Some c = λ spans more e.
     let n = ap (λ (os : List Order). length os) c.as_slice.ensures in
     let fits : FitsSigned w64 (int_at c.args.amounts.now c.in-Some.short) = search rules in
-    answer_cut spans c.args.market.now more c.args.network.now c.args.amounts.now c.args.flows.now c.args.prices.now c.side_of.result c.in_ok-cut-in-Some.cut c.in-Some.short e c.requires.market c.requires.network c.requires.same c.requires.runs c.requires.tight
+    answer_cut spans c.args.market.now more c.args.network.now c.args.amounts.now c.args.flows.now c.args.prices.now c.side_of.result
+    c.in_ok-cut-in-Some.cut c.in-Some.short e c.requires.market c.requires.network c.requires.same c.requires.runs c.requires.tight
     c.in_ok-cut-in-Some.ensures.side
     c.in_ok-cut-in-Some.ensures.rising c.in_ok-cut-in-Some.ensures.inside
     (omega (arith, n, c.in-Some.ensures.0)) c.in-Some.ensures.1 c.in-Some.ensures.2

@@ -13,7 +13,9 @@ use Rattle.mari_network.proofs.Marginal.{dearest_is, dearest_none, cheaper_is, n
 use Rattle.mari_network.proofs.search.chain_by_levels.Goals as goal
 
 pub loop-sink-init : goal.loop-sink-init
-loop-sink-init c = levels_none c.args.network.now.slots.now c.args.network.now.borders.now c.args.amounts.now c.args.flows.now c.args.marked.now (int_at c.args.prices.now) (sym c.requires.runs.flows_long) c.requires.fresh
+loop-sink-init c =
+    levels_none c.args.network.now.slots.now c.args.network.now.borders.now c.args.amounts.now c.args.flows.now c.args.marked.now
+    (int_at c.args.prices.now) (sym c.requires.runs.flows_long) c.requires.fresh
 
 pub dearest-requires-clause-there : goal.dearest-requires-clause-there
 dearest-requires-clause-there c = λ z i l e.
@@ -67,8 +69,10 @@ loop-sink-preserved c =
     let p : FitsSigned w64 (price_of c.args.network.now.slots.now c.in-Some.sink) = omega (arith, ints, small.cheap, small.dear) in
     let none : NoneCheaper c.args.network.now.slots.now c.args.amounts.now c.spread.new.marked (price_of c.args.network.now.slots.now c.in-Some.sink) = none_cheaper c.args.network.now.slots.now c.args.amounts.now (length c.args.network.now.meeting.items) c.args.margins.now c.spread.new.marked (price_of c.args.network.now.slots.now c.in-Some.sink) zoned mar
     (λ z i l m e. rw (to_z-of_z p) at (c.in_default-cheapest.ensures.none refl z i (omega (arith, mar.long)) m e)) in
-    levels_more c.args.network.now.slots.now c.args.network.now.borders.now c.args.amounts.now c.args.flows.now c.loop-sink.marked c.spread.new.marked (int_at c.loop-sink.prices) (int_at c.level.new.prices) c.in-Some.sink c.loop-sink.invariant d small.cheap
-    (record { keep = c.level.ensures.keep; level = λ z m l. c.level.ensures.level z m l ∙ to_z-of_z p }) c.in_ok-hops.ensures.spread.keeps c.in_ok-hops.ensures.spread.long c.in_ok-hops.ensures.closed none
+    levels_more c.args.network.now.slots.now c.args.network.now.borders.now c.args.amounts.now c.args.flows.now c.loop-sink.marked c.spread.new.marked
+    (int_at c.loop-sink.prices) (int_at c.level.new.prices) c.in-Some.sink c.loop-sink.invariant d small.cheap
+    (record { keep = c.level.ensures.keep; level = λ z m l. c.level.ensures.level z m l ∙ to_z-of_z p }) c.in_ok-hops.ensures.spread.keeps
+    c.in_ok-hops.ensures.spread.long c.in_ok-hops.ensures.closed none
 
 pub returns : goal.returns
 returns c =
@@ -79,7 +83,9 @@ returns c =
     record {
       one_each = omega arith;
       least = λ z l. low_at c.loop-sink.marked (int_at c.loop-sink.prices) (int_at c.level-2.new.prices) _ (record { keep = c.level-2.ensures.keep; level = λ z m l. c.level-2.ensures.level z m l }) c.loop-sink.invariant.floored z (omega arith);
-      tight = levels_tight c.args.network.now.slots.now c.args.network.now.borders.now c.args.amounts.now c.args.flows.now c.loop-sink.marked (int_at c.loop-sink.prices) (int_at c.level-2.new.prices) c.loop-sink.invariant
+      tight =
+          levels_tight c.args.network.now.slots.now c.args.network.now.borders.now c.args.amounts.now c.args.flows.now c.loop-sink.marked
+          (int_at c.loop-sink.prices) (int_at c.level-2.new.prices) c.loop-sink.invariant
           (record { keep = c.level-2.ensures.keep; level = λ z m l. c.level-2.ensures.level z m l }) none
           (λ k h. subst (λ (n : ℕ). zone_of c.args.network.now.slots.now k < n) (sym marks) (zoned k h))
           (λ k h. (c.requires.network.small k no_slot h).cheap)

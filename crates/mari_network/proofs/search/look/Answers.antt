@@ -13,7 +13,9 @@ use Rattle.mari_network.proofs.search.look.Goals as goal
 
 -- where energy can come over a hop's border, the hop's zone is marked
 abbrev Leads : List Border → List ℤ → List Hop → List Bool → Hop → Type 0
-Leads bs fs hops marked h = pos 0 <ℤ room_of h.forth (border_at bs h.border) (int_at fs h.border) → head_of h.forth (border_at bs h.border) ≡ (hop_at hops h.before).zone → is_marked marked h.zone ≡ true
+Leads bs fs hops marked h =
+    pos 0 <ℤ room_of h.forth (border_at bs h.border) (int_at fs h.border) → head_of h.forth (border_at bs h.border) ≡ (hop_at hops h.before).zone
+    → is_marked marked h.zone ≡ true
 
 pub hop_over-requires : goal.hop_over-requires
 hop_over-requires c = c.meeting_at-places.ensures.there c.loop-border.border-index 0 c.loop-border-test.true
@@ -25,7 +27,9 @@ pub hop_over-requires-in-loop-border : goal.hop_over-requires-in-loop-border
 hop_over-requires-in-loop-border c = c.meeting_at-places.ensures.there c.loop-border.border-index 0 c.loop-border-test.true
 
 pub reach_over-requires-in-loop-border-clause-border : goal.reach_over-requires-in-loop-border-clause-border
-reach_over-requires-in-loop-border-clause-border c = omega (arith, ap (λ (h : Hop). h.border) c.hop_over-in-loop-border.ensures, c.meeting_at-places.ensures.there c.loop-border.border-index 0 c.loop-border-test.true)
+reach_over-requires-in-loop-border-clause-border c =
+    omega
+    (arith, ap (λ (h : Hop). h.border) c.hop_over-in-loop-border.ensures, c.meeting_at-places.ensures.there c.loop-border.border-index 0 c.loop-border-test.true)
 
 pub loop-border-preserved : goal.loop-border-preserved
 loop-border-preserved c =
@@ -44,7 +48,10 @@ loop-border-preserved c =
       keeps = λ z e. on z (c.loop-border.invariant.keeps z e);
       stay = λ k l. c.reach_over-in-loop-border.ensures.stay k (omega (arith, c.loop-border.invariant.more, c.reach_over.ensures.more)) ∙ c.reach_over.ensures.stay k (omega (arith, c.loop-border.invariant.more)) ∙ c.loop-border.invariant.stay k l;
       more = omega (arith, c.loop-border.invariant.more, c.reach_over.ensures.more, c.reach_over-in-loop-border.ensures.more);
-      into = subst (λ (places : List ℕ). All (λ k. MarkedInto c.reach_over-in-loop-border.new.marked (hop_at c.args.hops.now.items c.args.at).zone (border_at c.args.network.now.borders.now k) (int_at c.args.flows.now k)) places) (sym (take_more c.meeting_at-places.result.now c.loop-border.border-index 0 c.loop-border-test.true))
+      into =
+          subst
+          (λ (places : List ℕ). All (λ k. MarkedInto c.reach_over-in-loop-border.new.marked (hop_at c.args.hops.now.items c.args.at).zone (border_at c.args.network.now.borders.now k) (int_at c.args.flows.now k)) places)
+          (sym (take_more c.meeting_at-places.result.now c.loop-border.border-index 0 c.loop-border-test.true))
           (All-push (λ k. MarkedInto c.reach_over-in-loop-border.new.marked (hop_at c.args.hops.now.items c.args.at).zone (border_at c.args.network.now.borders.now k) (int_at c.args.flows.now k)) (take c.loop-border.border-index c.meeting_at-places.result.now) (get_or c.meeting_at-places.result.now c.loop-border.border-index 0)
           (λ k d l way r e. on _ (c.loop-border.invariant.into k d l way r e))
           (by_ways (λ w. pos 0 <ℤ room_of w (border_at c.args.network.now.borders.now (get_or c.meeting_at-places.result.now c.loop-border.border-index 0)) (int_at c.args.flows.now (get_or c.meeting_at-places.result.now c.loop-border.border-index 0)) → head_of w (border_at c.args.network.now.borders.now (get_or c.meeting_at-places.result.now c.loop-border.border-index 0)) ≡ (hop_at c.args.hops.now.items c.args.at).zone → is_marked c.reach_over-in-loop-border.new.marked (tail_of w (border_at c.args.network.now.borders.now (get_or c.meeting_at-places.result.now c.loop-border.border-index 0))) ≡ true)

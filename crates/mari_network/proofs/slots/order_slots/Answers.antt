@@ -18,7 +18,9 @@ loop-order-preserved c =
     let same = c.states_at-states.ensures.bounds (get_or c.as_slice-orders.result.now c.loop-order.order-index no_order) valid.gate in
     let lo = c.span-least.ensures.least ∙ ap (λ (s : Span). s.lo) same in
     let hi = c.span-least.ensures.greatest ∙ ap (λ (s : Span). s.hi) same in
-    pushed_map (λ (o : Order). slot_of (bounds_at c.args.market.now c.args.prefix.now o) o) c.as_slice-orders.result.now c.loop-order.order-index no_order c.loop-order.slots.items c.push.new.self.items c.slot_from.result c.loop-order-test.true c.in_ok-push.ensures.items c.loop-order.invariant
+    pushed_map (λ (o : Order). slot_of (bounds_at c.args.market.now c.args.prefix.now o) o) c.as_slice-orders.result.now c.loop-order.order-index
+    no_order c.loop-order.slots.items c.push.new.self.items c.slot_from.result c.loop-order-test.true c.in_ok-push.ensures.items
+    c.loop-order.invariant
     (c.slot_from.ensures (bounds_at c.args.market.now c.args.prefix.now (get_or c.as_slice-orders.result.now c.loop-order.order-index no_order)) (sym lo) (sym hi))
 
 pub returns-clause-fine : goal.returns-clause-fine

@@ -8,10 +8,14 @@ use Rattle.mari_node.proofs.Running.{feasible_by, none_partial, run_together_of}
 use Rattle.mari_node.proofs.gates.keeps_gates.Goals as goal
 
 pub running-requires-clause-lengths : goal.running-requires-clause-lengths
-running-requires-clause-lengths c = ap length c.as_slice-mw.ensures ∙ AllZip-long _ c.args.market.now.orders c.args.activation.now.mw c.requires.bounded.orders ∙ sym (ap length c.as_slice-orders.ensures)
+running-requires-clause-lengths c =
+    ap length c.as_slice-mw.ensures ∙ AllZip-long _ c.args.market.now.orders c.args.activation.now.mw c.requires.bounded.orders ∙ sym
+    (ap length c.as_slice-orders.ensures)
 
 pub run_together-requires-clause-lengths : goal.run_together-requires-clause-lengths
-run_together-requires-clause-lengths c = ap length c.as_slice-mw.ensures ∙ AllZip-long _ c.args.market.now.orders c.args.activation.now.mw c.requires.bounded.orders ∙ sym (ap length c.as_slice-orders.ensures)
+run_together-requires-clause-lengths c =
+    ap length c.as_slice-mw.ensures ∙ AllZip-long _ c.args.market.now.orders c.args.activation.now.mw c.requires.bounded.orders ∙ sym
+    (ap length c.as_slice-orders.ensures)
 
 pub returns-in-None : goal.returns-in-None
 returns-in-None c =

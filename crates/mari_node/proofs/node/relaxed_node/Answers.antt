@@ -6,16 +6,22 @@ use Rattle.mari_node.proofs.Running.{bounded}
 use Rattle.mari_node.proofs.node.relaxed_node.Goals as goal
 
 pub last_node-requires-clause-feasible : goal.last_node-requires-clause-feasible
-last_node-requires-clause-feasible c = last_feasible c.args.market.now (word_of c.args.prefix.now) c.args.solved c.requires.valid (last_at c.args.market.now c.args.prefix.now c.args.solved c.as_slice.result.now c.as_slice.ensures c.if-prefix-as_slice.true c.requires.prefix c.requires.optimum)
+last_node-requires-clause-feasible c =
+    last_feasible c.args.market.now (word_of c.args.prefix.now) c.args.solved c.requires.valid
+    (last_at c.args.market.now c.args.prefix.now c.args.solved c.as_slice.result.now c.as_slice.ensures c.if-prefix-as_slice.true c.requires.prefix c.requires.optimum)
 
 pub inner_node-requires-clause-bounded : goal.inner_node-requires-clause-bounded
 inner_node-requires-clause-bounded c = bounded c.args.market.now (word_of c.args.prefix.now) c.args.solved.activation c.requires.optimum.within
 
 pub returns-then-prefix-as_slice-clause-finding : goal.returns-then-prefix-as_slice-clause-finding
-returns-then-prefix-as_slice-clause-finding c = c.last_node.ensures.finding (word_of c.args.prefix.now) (last_at c.args.market.now c.args.prefix.now c.args.solved c.as_slice.result.now c.as_slice.ensures c.if-prefix-as_slice.true c.requires.prefix c.requires.optimum)
+returns-then-prefix-as_slice-clause-finding c =
+    c.last_node.ensures.finding (word_of c.args.prefix.now)
+    (last_at c.args.market.now c.args.prefix.now c.args.solved c.as_slice.result.now c.as_slice.ensures c.if-prefix-as_slice.true c.requires.prefix c.requires.optimum)
 
 pub returns-else-prefix-as_slice-clause-finding : goal.returns-else-prefix-as_slice-clause-finding
-returns-else-prefix-as_slice-clause-finding c = c.inner_node.ensures.finding (word_of c.args.prefix.now) (inner_at c.args.market.now c.args.prefix.now c.args.solved c.as_slice.result.now c.as_slice.ensures c.if-prefix-as_slice.false c.requires.prefix c.requires.optimum)
+returns-else-prefix-as_slice-clause-finding c =
+    c.inner_node.ensures.finding (word_of c.args.prefix.now)
+    (inner_at c.args.market.now c.args.prefix.now c.args.solved c.as_slice.result.now c.as_slice.ensures c.if-prefix-as_slice.false c.requires.prefix c.requires.optimum)
 
 pub returns-then-prefix-as_slice-clause-best : goal.returns-then-prefix-as_slice-clause-best
 returns-then-prefix-as_slice-clause-best c =

@@ -24,6 +24,9 @@ loop-slot-preserved c =
     ap (λ (x : ℤ). to_z w64 (of_z w64 (to_z w64 c.loop-slot.total-bits +ℤ x))) (to_z-of_z one) ∙ to_z-of_z both in
     record {
       near = subst (λ (x : ℤ). IsNear (1099511627776 * (c.loop-slot.slot-index + 1)) x) (sym new) near;
-      total = subst (λ (p : ℤ). to_z w64 (of_z w64 (to_z w64 c.loop-slot.total-bits +ℤ to_z w64 (of_z w64 c.amount_at_price-total.result))) ≡ int_sum (run_at p) (take (c.loop-slot.slot-index + 1) c.args.slots.now)) (sym (to_z-of_z all))
+      total =
+          subst
+          (λ (p : ℤ). to_z w64 (of_z w64 (to_z w64 c.loop-slot.total-bits +ℤ to_z w64 (of_z w64 c.amount_at_price-total.result))) ≡ int_sum (run_at p) (take (c.loop-slot.slot-index + 1) c.args.slots.now))
+          (sym (to_z-of_z all))
           (sum_step (run_at c.args.price) c.args.slots.now c.loop-slot.slot-index no_slot (to_z w64 c.loop-slot.total-bits) c.amount_at_price-total.result _ c.loop-slot-test.true (rw (to_z-of_z all) at c.loop-slot.invariant.total) more new);
     }

@@ -44,9 +44,11 @@ pub solve_slots-requires-clause-long : goal.solve_slots-requires-clause-long
 solve_slots-requires-clause-long c =
     let xs : c.deref_mut.result.now ≡ c.in_ok-amounts.amounts.items ++ c.deref-5.result.now = c.deref_mut.ensures.value ∙ c.in_ok-add_stand_ins.ensures.amounts in
     let within : AllZip IsWithinSlot c.args.reals.items c.in_ok-amounts.amounts.items = subst (λ (ss : List Slot). AllZip IsWithinSlot ss c.in_ok-amounts.amounts.items) c.deref.ensures.value c.in_ok-amounts.ensures.amounts in
-    omega (arith, ap (λ (ys : List ℤ). length ys) xs, length-append c.in_ok-amounts.amounts.items c.deref-5.result.now, zip_long IsWithinSlot c.args.reals.items c.in_ok-amounts.amounts.items within, c.requires.reals.long)
+    omega
+    (arith, ap (λ (ys : List ℤ). length ys) xs, length-append c.in_ok-amounts.amounts.items c.deref-5.result.now, zip_long IsWithinSlot c.args.reals.items c.in_ok-amounts.amounts.items within, c.requires.reals.long)
 
 pub returns : goal.returns
 returns c = λ spans e.
     let all : c.deref-6.result.now ≡ c.args.reals.items ++ stand_ins 0 c.deref-5.result.now = c.deref-6.ensures.value ∙ c.in_ok-add_stand_ins.ensures.slots in
-    c.solve_slots.ensures spans (stand_ins 0 c.deref-5.result.now) (record { made = all ∙ ap (λ (ss : List Slot). ss ++ stand_ins 0 c.deref-5.result.now) e; others = stand_ins_are 0 c.deref-5.result.now })
+    c.solve_slots.ensures spans (stand_ins 0 c.deref-5.result.now)
+    (record { made = all ∙ ap (λ (ss : List Slot). ss ++ stand_ins 0 c.deref-5.result.now) e; others = stand_ins_are 0 c.deref-5.result.now })

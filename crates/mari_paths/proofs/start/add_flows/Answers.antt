@@ -25,7 +25,10 @@ loop-i-preserved c =
     let long : c.loop-i.i < length c.args.flows.now = omega (arith, zip_long IsWithinLimits c.args.borders.now c.args.flows.now c.requires.within, c.loop-i-test.true) in
     record {
       long = omega (arith, c.carry_out.ensures.long, c.loop-i.invariant.long);
-      near = λ z. near_more (500000000 + 400000 * c.loop-i.i) 400000 (500000000 + 400000 * (c.loop-i.i + 1)) (int_at c.loop-i.short z) (carried_out z (border_at c.args.borders.now c.loop-i.i) (int_at c.args.flows.now c.loop-i.i)) (int_at c.carry_out.new.short z) (c.loop-i.invariant.near z)
+      near = λ z.
+          near_more (500000000 + 400000 * c.loop-i.i) 400000 (500000000 + 400000 * (c.loop-i.i + 1)) (int_at c.loop-i.short z)
+          (carried_out z (border_at c.args.borders.now c.loop-i.i) (int_at c.args.flows.now c.loop-i.i)) (int_at c.carry_out.new.short z)
+          (c.loop-i.invariant.near z)
           (carried_near z (border_at c.args.borders.now c.loop-i.i) (int_at c.args.flows.now c.loop-i.i) (small_flow c.args.borders.now c.args.flows.now c.loop-i.i c.requires.limits c.requires.within c.loop-i-test.true)) (more z) (omega arith);
       each = λ z. omega (arith, ints, more z, c.loop-i.invariant.each z, sum_along_more (carried_out z) c.args.borders.now c.args.flows.now c.loop-i.i no_border (pos 0) c.loop-i-test.true long);
     }
@@ -35,4 +38,6 @@ returns-clause-each c = λ z.
     let long = zip_long IsWithinLimits c.args.borders.now c.args.flows.now c.requires.within in
     let borders : take c.loop-i.i c.args.borders.now ≡ c.args.borders.now = take_all c.loop-i.i c.args.borders.now c.loop-i-test.false in
     let flows : take c.loop-i.i c.args.flows.now ≡ c.args.flows.now = take_all c.loop-i.i c.args.flows.now (omega (arith, long, c.loop-i-test.false)) in
-    c.loop-i.invariant.each z ∙ ap (λ (bs : List Border). int_at c.args.short.now z +ℤ sum_along (carried_out z) bs (take c.loop-i.i c.args.flows.now)) borders ∙ ap (λ (fs : List ℤ). int_at c.args.short.now z +ℤ sum_along (carried_out z) c.args.borders.now fs) flows
+    c.loop-i.invariant.each z ∙ ap
+    (λ (bs : List Border). int_at c.args.short.now z +ℤ sum_along (carried_out z) bs (take c.loop-i.i c.args.flows.now)) borders ∙ ap
+    (λ (fs : List ℤ). int_at c.args.short.now z +ℤ sum_along (carried_out z) c.args.borders.now fs) flows

@@ -15,7 +15,9 @@ loop-zone-preserved c =
     let long : length (take c.loop-zone.zone c.args.short.now) ≡ c.loop-zone.zone = length-take-le c.loop-zone.zone c.args.short.now (omega (arith, c.loop-zone-test.true)) in
     let place : 0 + length (take c.loop-zone.zone c.args.short.now) ≡ c.loop-zone.zone = omega (arith, long) in
     record {
-      slots = c.in_ok-push.ensures.items ∙ ap (λ (ss : List Slot). ss ++ c.stand_in.result ∷ []) c.loop-zone.invariant.slots ∙ append_assoc c.args.slots.now.items (stand_ins 0 (take c.loop-zone.zone c.args.short.now)) (c.stand_in.result ∷ [])
+      slots =
+          c.in_ok-push.ensures.items ∙ ap (λ (ss : List Slot). ss ++ c.stand_in.result ∷ []) c.loop-zone.invariant.slots ∙ append_assoc
+          c.args.slots.now.items (stand_ins 0 (take c.loop-zone.zone c.args.short.now)) (c.stand_in.result ∷ [])
           ∙ ap (λ (s : Slot). c.args.slots.now.items ++ (stand_ins 0 (take c.loop-zone.zone c.args.short.now) ++ s ∷ [])) made
           ∙ ap (λ (k : ℕ). c.args.slots.now.items ++ (stand_ins 0 (take c.loop-zone.zone c.args.short.now) ++ stand_in_of k (int_at c.args.short.now c.loop-zone.zone) ∷ [])) (sym place)
           ∙ ap (λ (ss : List Slot). c.args.slots.now.items ++ ss) (sym (stand_ins_push 0 (take c.loop-zone.zone c.args.short.now) (int_at c.args.short.now c.loop-zone.zone)))

@@ -9,8 +9,11 @@ pub take_at-requires-clause-before : goal.take_at-requires-clause-before
 take_at-requires-clause-before c =
     let fits : FitsSigned w64 c.args.flow = search rules in
     let z = c.args.border.now.to in
-    near_more 700000000 200000 700200000 (int_at c.args.short.now c.args.border.now.to) (at_zone c.args.border.now.to c.args.border.now.from c.args.flow) (int_at c.add_at.new.short c.args.border.now.to) (c.requires.near c.args.border.now.to) (near_zone 200000 c.args.border.now.to c.args.border.now.from c.args.flow c.requires.flow)
-    (ap (λ (xs : List ℤ). int_at xs c.args.border.now.to) (rw (to_z-of_z fits) at c.add_at.ensures) ∙ more_at c.args.short.now c.args.border.now.from c.args.border.now.to c.args.flow c.requires.ends.0) (omega arith)
+    near_more 700000000 200000 700200000 (int_at c.args.short.now c.args.border.now.to)
+    (at_zone c.args.border.now.to c.args.border.now.from c.args.flow) (int_at c.add_at.new.short c.args.border.now.to)
+    (c.requires.near c.args.border.now.to) (near_zone 200000 c.args.border.now.to c.args.border.now.from c.args.flow c.requires.flow)
+    (ap (λ (xs : List ℤ). int_at xs c.args.border.now.to) (rw (to_z-of_z fits) at c.add_at.ensures) ∙ more_at c.args.short.now c.args.border.now.from c.args.border.now.to c.args.flow c.requires.ends.0)
+    (omega arith)
 
 pub returns-clause-each : goal.returns-clause-each
 returns-clause-each c = λ z.

@@ -7,4 +7,5 @@ use Rattle.mari_paths.proofs.start.flows_near.Goals as goal
 pub loop-i-preserved : goal.loop-i-preserved
 loop-i-preserved c =
     let fits : FitsSigned w64 c.flow_near.result = search rules in
-    zip_step IsWithinLimits c.args.borders.now c.loop-i.flows.items c.push.new.self.items c.loop-i.i no_border _ c.loop-i-test.true c.in_ok-push.ensures.items c.loop-i.invariant (rw (to_z-of_z fits) c.flow_near.ensures)
+    zip_step IsWithinLimits c.args.borders.now c.loop-i.flows.items c.push.new.self.items c.loop-i.i no_border _ c.loop-i-test.true
+    c.in_ok-push.ensures.items c.loop-i.invariant (rw (to_z-of_z fits) c.flow_near.ensures)

@@ -15,7 +15,8 @@ bounds-amounts-i c = omega (arith, zip_long IsWithinSlot c.args.slots.now c.args
 pub take_at-requires-clause-less : goal.take_at-requires-clause-less
 take_at-requires-clause-less c =
     let fits : FitsSigned w64 (int_at c.args.amounts.now c.loop-i.i) = search rules in
-    rw (to_z-of_z fits) (near_wider 99999 200000 (int_at c.args.amounts.now c.loop-i.i) (small_amount (length c.args.short.now) c.args.slots.now c.args.amounts.now c.loop-i.i c.requires.slots c.requires.within c.loop-i-test.true) (omega arith))
+    rw (to_z-of_z fits)
+    (near_wider 99999 200000 (int_at c.args.amounts.now c.loop-i.i) (small_amount (length c.args.short.now) c.args.slots.now c.args.amounts.now c.loop-i.i c.requires.slots c.requires.within c.loop-i-test.true) (omega arith))
 
 pub loop-i-preserved : goal.loop-i-preserved
 loop-i-preserved c =
@@ -27,7 +28,10 @@ loop-i-preserved c =
     let long : c.loop-i.i < length c.args.amounts.now = omega (arith, zip_long IsWithinSlot c.args.slots.now c.args.amounts.now c.requires.within, c.loop-i-test.true) in
     record {
       long = omega (arith, c.take_at.auto.short, c.loop-i.invariant.long);
-      near = λ z. near_less (99999 * c.loop-i.i) 99999 (99999 * (c.loop-i.i + 1)) (int_at c.loop-i.short z) (at_zone z (zone_of c.args.slots.now c.loop-i.i) (int_at c.args.amounts.now c.loop-i.i)) (int_at c.take_at.new.short z) (c.loop-i.invariant.near z)
+      near = λ z.
+          near_less (99999 * c.loop-i.i) 99999 (99999 * (c.loop-i.i + 1)) (int_at c.loop-i.short z)
+          (at_zone z (zone_of c.args.slots.now c.loop-i.i) (int_at c.args.amounts.now c.loop-i.i)) (int_at c.take_at.new.short z)
+          (c.loop-i.invariant.near z)
           (near_zone 99999 z (zone_of c.args.slots.now c.loop-i.i) (int_at c.args.amounts.now c.loop-i.i) (small_amount (length c.args.short.now) c.args.slots.now c.args.amounts.now c.loop-i.i c.requires.slots c.requires.within c.loop-i-test.true)) (less z) (omega arith);
       each = λ z. omega (arith, ints, less z, c.loop-i.invariant.each z, sum_along_more (slot_into z) c.args.slots.now c.args.amounts.now c.loop-i.i no_slot (pos 0) c.loop-i-test.true long);
     }
@@ -37,4 +41,5 @@ returns-clause-each c = λ z.
     let long = zip_long IsWithinSlot c.args.slots.now c.args.amounts.now c.requires.within in
     let slots : take c.loop-i.i c.args.slots.now ≡ c.args.slots.now = take_all c.loop-i.i c.args.slots.now c.loop-i-test.false in
     let amounts : take c.loop-i.i c.args.amounts.now ≡ c.args.amounts.now = take_all c.loop-i.i c.args.amounts.now (omega (arith, long, c.loop-i-test.false)) in
-    c.loop-i.invariant.each z ∙ ap (λ (ss : List Slot). neg_ℤ (sum_along (slot_into z) ss (take c.loop-i.i c.args.amounts.now))) slots ∙ ap (λ (xs : List ℤ). neg_ℤ (sum_along (slot_into z) c.args.slots.now xs)) amounts
+    c.loop-i.invariant.each z ∙ ap (λ (ss : List Slot). neg_ℤ (sum_along (slot_into z) ss (take c.loop-i.i c.args.amounts.now))) slots ∙ ap
+    (λ (xs : List ℤ). neg_ℤ (sum_along (slot_into z) c.args.slots.now xs)) amounts

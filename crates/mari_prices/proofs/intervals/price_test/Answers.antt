@@ -19,20 +19,28 @@ fits_lists : (xs xs' : List (Option SettledZone)) (us us' : List ℤ) → xs' �
 fits_lists xs xs' us us' e f h = subst (λ (vs : List ℤ). AreUncontradicted (length xs) xs vs) f (subst (λ (ys : List (Option SettledZone)). AreUncontradicted (length ys) ys us') e h)
 
 pub contradicted-requires-clause-priced : goal.contradicted-requires-clause-priced
-contradicted-requires-clause-priced c = subst ArePriced (sym c.deref.ensures.value) (priced Least c.args.market.now c.args.activation.now c.in_ok-least.least.bounds.items c.in_ok-least.least.settled.items c.requires.valid c.in_ok-least.ensures)
+contradicted-requires-clause-priced c =
+    subst ArePriced (sym c.deref.ensures.value)
+    (priced Least c.args.market.now c.args.activation.now c.in_ok-least.least.bounds.items c.in_ok-least.least.settled.items c.requires.valid c.in_ok-least.ensures)
 
 pub contradicted-requires-clause-uppers : goal.contradicted-requires-clause-uppers
-contradicted-requires-clause-uppers c = subst (All IsPrice) (sym c.deref-2.ensures.value) (bounds_priced Greatest c.args.market.now c.args.activation.now c.in_ok-greatest.greatest.bounds.items c.in_ok-greatest.greatest.settled.items c.requires.valid c.in_ok-greatest.ensures)
+contradicted-requires-clause-uppers c =
+    subst (All IsPrice) (sym c.deref-2.ensures.value)
+    (bounds_priced Greatest c.args.market.now c.args.activation.now c.in_ok-greatest.greatest.bounds.items c.in_ok-greatest.greatest.settled.items c.requires.valid c.in_ok-greatest.ensures)
 
 pub chain_to-requires-clause-trails : goal.chain_to-requires-clause-trails
 chain_to-requires-clause-trails c =
     let e : IsEnd Least c.args.market.now c.args.activation.now c.in_ok-least.least.bounds.items c.in_ok-least.least.settled.items = c.in_ok-least.ensures in
-    subst AreTrails (sym c.deref-in-Some.ensures.value) (trails (LeadsTo Rising c.args.market.now.borders c.args.activation.now.flow) (int_at c.in_ok-least.least.bounds.items) c.in_ok-least.least.settled.items e.spread.spreading e.spread.settled)
+    subst AreTrails (sym c.deref-in-Some.ensures.value)
+    (trails (LeadsTo Rising c.args.market.now.borders c.args.activation.now.flow) (int_at c.in_ok-least.least.bounds.items) c.in_ok-least.least.settled.items e.spread.spreading e.spread.settled)
 
 pub returns-in-Some-clause-none : goal.returns-in-Some-clause-none
 returns-in-Some-clause-none c = λ ps h.
-    contradicted_none c.args.market.now c.args.activation.now c.in_ok-least.least.bounds.items c.in_ok-greatest.greatest.bounds.items c.in_ok-least.least.settled.items c.in_ok-greatest.greatest.settled.items c.in-Some.zone ps c.requires.valid c.requires.feasible c.in_ok-least.ensures c.in_ok-greatest.ensures
-    (at_lists c.in_ok-least.least.settled.items c.deref.result.now c.in_ok-greatest.greatest.bounds.items c.deref-2.result.now c.in-Some.zone c.deref.ensures.value c.deref-2.ensures.value c.in-Some.ensures) h
+    contradicted_none c.args.market.now c.args.activation.now c.in_ok-least.least.bounds.items c.in_ok-greatest.greatest.bounds.items
+    c.in_ok-least.least.settled.items c.in_ok-greatest.greatest.settled.items c.in-Some.zone ps c.requires.valid c.requires.feasible
+    c.in_ok-least.ensures c.in_ok-greatest.ensures
+    (at_lists c.in_ok-least.least.settled.items c.deref.result.now c.in_ok-greatest.greatest.bounds.items c.deref-2.result.now c.in-Some.zone c.deref.ensures.value c.deref-2.ensures.value c.in-Some.ensures)
+    h
 
 pub returns-in-Some-clause-chain : goal.returns-in-Some-clause-chain
 returns-in-Some-clause-chain c =
@@ -49,10 +57,14 @@ returns-in-Some-clause-zones c =
     subst (All (λ (z : ℕ). z < c.args.market.now.zones)) (sym c.of.ensures) shows.zones
 
 pub prices_of_settled-requires : goal.prices_of_settled-requires
-prices_of_settled-requires c = subst ArePriced (sym c.deref-3.ensures.value) (priced Least c.args.market.now c.args.activation.now c.in_ok-least.least.bounds.items c.in_ok-least.least.settled.items c.requires.valid c.in_ok-least.ensures)
+prices_of_settled-requires c =
+    subst ArePriced (sym c.deref-3.ensures.value)
+    (priced Least c.args.market.now c.args.activation.now c.in_ok-least.least.bounds.items c.in_ok-least.least.settled.items c.requires.valid c.in_ok-least.ensures)
 
 pub prices_of_settled-requires-2 : goal.prices_of_settled-requires-2
-prices_of_settled-requires-2 c = subst ArePriced (sym c.deref-4.ensures.value) (priced Greatest c.args.market.now c.args.activation.now c.in_ok-greatest.greatest.bounds.items c.in_ok-greatest.greatest.settled.items c.requires.valid c.in_ok-greatest.ensures)
+prices_of_settled-requires-2 c =
+    subst ArePriced (sym c.deref-4.ensures.value)
+    (priced Greatest c.args.market.now c.args.activation.now c.in_ok-greatest.greatest.bounds.items c.in_ok-greatest.greatest.settled.items c.requires.valid c.in_ok-greatest.ensures)
 
 pub returns-clause-some : goal.returns-clause-some
 returns-clause-some c =
@@ -66,7 +78,8 @@ returns-clause-least c =
     let fit = fits_lists c.in_ok-least.least.settled.items c.deref.result.now c.in_ok-greatest.greatest.bounds.items c.deref-2.result.now c.deref.ensures.value c.deref-2.ensures.value c.in_default.ensures in
     let p = subst (λ (xs : List (Option SettledZone)). ArePricesOf Least xs c.in_ok-prices_of_settled.field-0.cents) c.deref-3.ensures.value c.in_ok-prices_of_settled.ensures in
     let k = least_keeps c.args.market.now c.args.activation.now c.in_ok-least.least.bounds.items c.in_ok-greatest.greatest.bounds.items c.in_ok-least.least.settled.items c.in_ok-greatest.greatest.settled.items c.in_ok-prices_of_settled.field-0.cents c.requires.valid c.requires.feasible c.in_ok-least.ensures c.in_ok-greatest.ensures fit p in
-    are_least c.args.market.now c.args.activation.now c.in_ok-least.least.bounds.items c.in_ok-least.least.settled.items c.in_ok-prices_of_settled.field-0.cents c.requires.valid c.requires.feasible c.in_ok-least.ensures k p
+    are_least c.args.market.now c.args.activation.now c.in_ok-least.least.bounds.items c.in_ok-least.least.settled.items
+    c.in_ok-prices_of_settled.field-0.cents c.requires.valid c.requires.feasible c.in_ok-least.ensures k p
 
 pub returns-clause-greatest : goal.returns-clause-greatest
 returns-clause-greatest c =
@@ -75,4 +88,5 @@ returns-clause-greatest c =
     let k = least_keeps c.args.market.now c.args.activation.now c.in_ok-least.least.bounds.items c.in_ok-greatest.greatest.bounds.items c.in_ok-least.least.settled.items c.in_ok-greatest.greatest.settled.items c.in_ok-prices_of_settled.field-0.cents c.requires.valid c.requires.feasible c.in_ok-least.ensures c.in_ok-greatest.ensures fit p in
     let q = subst (λ (xs : List (Option SettledZone)). ArePricesOf Greatest xs c.in_ok-prices_of_settled-2.field-0.cents) c.deref-4.ensures.value c.in_ok-prices_of_settled-2.ensures in
     let l = greatest_keeps c.args.market.now c.args.activation.now c.in_ok-greatest.greatest.bounds.items c.in_ok-greatest.greatest.settled.items c.in_ok-prices_of_settled.field-0.cents c.in_ok-prices_of_settled-2.field-0.cents c.requires.valid c.requires.feasible c.in_ok-greatest.ensures k q in
-    are_greatest c.args.market.now c.args.activation.now c.in_ok-greatest.greatest.bounds.items c.in_ok-greatest.greatest.settled.items c.in_ok-prices_of_settled-2.field-0.cents c.requires.valid c.requires.feasible c.in_ok-greatest.ensures l q
+    are_greatest c.args.market.now c.args.activation.now c.in_ok-greatest.greatest.bounds.items c.in_ok-greatest.greatest.settled.items
+    c.in_ok-prices_of_settled-2.field-0.cents c.requires.valid c.requires.feasible c.in_ok-greatest.ensures l q

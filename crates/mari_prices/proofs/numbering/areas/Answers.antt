@@ -29,7 +29,8 @@ pub number-requires-clause-firsts : goal.number-requires-clause-firsts
 number-requires-clause-firsts c =
     let s = spread_read c.args.market.now c.args.activation.now c.as_slice-borders.result.now c.as_slice-flow.result.now c.deref.result.now c.in_ok-places.places.items c.in_ok-settled.settled.items c.as_slice-borders.ensures c.as_slice-flow.ensures c.deref.ensures.value
     c.in_ok-places.ensures.one_each c.in_ok-places.ensures.places c.in_ok-settled.ensures.one_each c.in_ok-settled.ensures.spread in
-    subst (λ (xs : List (Option SettledZone)). AreFirsts (length xs) (first_at xs)) (sym c.deref-2.ensures.value) (firsts c.args.market.now c.args.activation.now c.in_ok-places.places.items c.in_ok-settled.settled.items c.requires.valid s)
+    subst (λ (xs : List (Option SettledZone)). AreFirsts (length xs) (first_at xs)) (sym c.deref-2.ensures.value)
+    (firsts c.args.market.now c.args.activation.now c.in_ok-places.places.items c.in_ok-settled.settled.items c.requires.valid s)
 
 pub returns : goal.returns
 returns c =

@@ -6,8 +6,12 @@ use Rattle.mari_progress.proofs.providers.providers_of.Goals as goal
 
 -- one number on
 step : (bids : List Bid) (numbers places : List ℕ) (i : ℕ) → i < length numbers
-    → fold with_number (with_number places (bid_numbered bids (get_or numbers i 0)).provider) (map (λ k. (bid_numbered bids k).provider) (drop (i + 1) numbers)) ≡ fold with_number places (map (λ k. (bid_numbered bids k).provider) (drop i numbers))
+    → fold with_number (with_number places (bid_numbered bids (get_or numbers i 0)).provider)
+    (map (λ k. (bid_numbered bids k).provider) (drop (i + 1) numbers)) ≡ fold with_number places
+    (map (λ k. (bid_numbered bids k).provider) (drop i numbers))
 step bids numbers places i l = rw (add-one, drop-cons numbers i 0) refl
 
 pub loop-number-preserved : goal.loop-number-preserved
-loop-number-preserved c = rw (c.in_ok-list_once.ensures, c.bid_of.ensures) (step c.args.bids.now c.args.numbers.now c.loop-number.places.items c.loop-number.number-index c.loop-number-test.true ∙ c.loop-number.invariant)
+loop-number-preserved c =
+    rw (c.in_ok-list_once.ensures, c.bid_of.ensures)
+    (step c.args.bids.now c.args.numbers.now c.loop-number.places.items c.loop-number.number-index c.loop-number-test.true ∙ c.loop-number.invariant)

@@ -9,11 +9,14 @@ use Rattle.mari_proofs.proofs.conflicts.has_gate_word.Goals as goal
 
 pub run_as_decided-requires-clause-lengths : goal.run_as_decided-requires-clause-lengths
 run_as_decided-requires-clause-lengths c =
-    lengths_read (λ (o : Order) q. IsWithin (own_bounds c.args.market.now c.args.activation.now o) q) c.args.market.now.orders _ c.args.activation.now.mw _ c.requires.activation.orders c.as_slice-then-prefix-as_slice.ensures c.as_slice-then-prefix-as_slice-2.ensures
+    lengths_read (λ (o : Order) q. IsWithin (own_bounds c.args.market.now c.args.activation.now o) q) c.args.market.now.orders _
+    c.args.activation.now.mw _ c.requires.activation.orders c.as_slice-then-prefix-as_slice.ensures c.as_slice-then-prefix-as_slice-2.ensures
 
 pub returns-then-prefix-as_slice : goal.returns-then-prefix-as_slice
 returns-then-prefix-as_slice c =
-    word_test c.args.market.now c.args.prefix.now c.args.activation.now _ _ _ c.requires.market c.requires.activation (c.if-prefix-as_slice.true ∙ ap length c.as_slice.ensures) c.as_slice-then-prefix-as_slice.ensures c.as_slice-then-prefix-as_slice-2.ensures c.run_as_decided.ensures
+    word_test c.args.market.now c.args.prefix.now c.args.activation.now _ _ _ c.requires.market c.requires.activation
+    (c.if-prefix-as_slice.true ∙ ap length c.as_slice.ensures) c.as_slice-then-prefix-as_slice.ensures c.as_slice-then-prefix-as_slice-2.ensures
+    c.run_as_decided.ensures
 
 pub returns-else-prefix-as_slice : goal.returns-else-prefix-as_slice
 returns-else-prefix-as_slice c =

@@ -14,4 +14,6 @@ returns-then-not-has_tight_potentials c = (
 
 pub returns : goal.returns
 returns c =
-    conflict_test c.args.market.now c.args.prefix.now c.args.conflict.now _ _ c.is_contradictory_chain.result c.as_slice-potentials.ensures c.as_slice.ensures (c.is_of_word.ensures.0 c.if-not-is_of_word.false) (c.has_tight_potentials.ensures.0 c.if-not-has_tight_potentials.false) c.is_contradictory_chain.ensures
+    conflict_test c.args.market.now c.args.prefix.now c.args.conflict.now _ _ c.is_contradictory_chain.result c.as_slice-potentials.ensures
+    c.as_slice.ensures (c.is_of_word.ensures.0 c.if-not-is_of_word.false) (c.has_tight_potentials.ensures.0 c.if-not-has_tight_potentials.false)
+    c.is_contradictory_chain.ensures

@@ -20,4 +20,5 @@ loop-i-preserved c =
     let none : Border = record { from = 0; to = 0; limit = 0; back = 0 } in
     let fits : FitsSigned w64 (get_or c.args.flow.now c.loop-i.i (pos 0)) = search rules in
     let test = rw (to_z-of_z fits) at c.leads.ensures in
-    nowhere_more (LeadsOver Rising c.args.first c.args.second) c.args.borders.now c.args.flow.now c.loop-i.i none (pos 0) c.loop-i-test.true (omega arith) c.loop-i.invariant (λ p. absurd (both_ways c.leads.result c.if-leads.false (test.1 p)))
+    nowhere_more (LeadsOver Rising c.args.first c.args.second) c.args.borders.now c.args.flow.now c.loop-i.i none (pos 0) c.loop-i-test.true
+    (omega arith) c.loop-i.invariant (λ p. absurd (both_ways c.leads.result c.if-leads.false (test.1 p)))

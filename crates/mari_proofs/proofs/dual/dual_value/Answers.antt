@@ -16,13 +16,17 @@ value_is : (c : goal.After-total_value) → to_z w128 (of_z w128 c.total_value.r
 value_is c =
     let fits : FitsSigned w128 c.total_value.result = search rules in
     to_z-of_z fits
-    ∙ same_value (span_in (state_in c.states_at-states.result)) (bounds_at c.args.market.now c.args.prefix.now) c.args.market.now c.as_slice.result.now c.args.potentials.now.cents c.total_value.result c.requires.market c.total_value.ensures c.as_slice.ensures c.states_at-states.ensures.bounds
+    ∙ same_value (span_in (state_in c.states_at-states.result)) (bounds_at c.args.market.now c.args.prefix.now) c.args.market.now
+    c.as_slice.result.now c.args.potentials.now.cents c.total_value.result c.requires.market c.total_value.ensures c.as_slice.ensures
+    c.states_at-states.ensures.bounds
 
 pub returns-clause-value : goal.returns-clause-value
 returns-clause-value c = value_is c
 
 pub returns-clause-weak_duality : goal.returns-clause-weak_duality
-returns-clause-weak_duality c = λ a w. subst (λ (v : ℤ). welfare_of c.args.market.now a ≤ℤ v) (sym (value_is c)) (weak_duality (bounds_at c.args.market.now c.args.prefix.now) c.args.market.now a c.args.potentials.now.cents c.requires.market w)
+returns-clause-weak_duality c = λ a w.
+    subst (λ (v : ℤ). welfare_of c.args.market.now a ≤ℤ v) (sym (value_is c))
+    (weak_duality (bounds_at c.args.market.now c.args.prefix.now) c.args.market.now a c.args.potentials.now.cents c.requires.market w)
 
 pub returns-clause-equal_where_tight : goal.returns-clause-equal_where_tight
 returns-clause-equal_where_tight c = λ a w t. tight_is_equal (bounds_at c.args.market.now c.args.prefix.now) c.args.market.now a c.args.potentials.now.cents c.requires.market w t ∙ sym (value_is c)

@@ -14,7 +14,9 @@ pub returns-clause-optimal : goal.returns-clause-optimal
 returns-clause-optimal c = λ holds a adm e. optimal_for c.args.market.now c.args.cutoff.0 (word_of c.args.word.now) c.args.tree.now a c.requires.market ((returns-clause-holds c).0 holds) adm e
 
 pub returns-clause-earlier : goal.returns-clause-earlier
-returns-clause-earlier c = λ holds a adm before. earlier_for c.args.market.now c.args.cutoff.0 c.args.word.now c.args.tree.now a c.requires.market c.requires.full ((returns-clause-holds c).0 holds) adm before
+returns-clause-earlier c = λ holds a adm before.
+    earlier_for c.args.market.now c.args.cutoff.0 c.args.word.now c.args.tree.now a c.requires.market c.requires.full
+    ((returns-clause-holds c).0 holds) adm before
 
 pub returns-clause-first : goal.returns-clause-first
 returns-clause-first c = λ holds a adm e g. first_for c.args.market.now c.args.cutoff.0 (word_of c.args.word.now) c.args.tree.now a c.requires.market ((returns-clause-holds c).0 holds) adm e g

@@ -8,4 +8,6 @@ returns-in-Branch c = full_branch c.args.market.now c.args.prefix.now c.args.ite
 
 pub returns-in-Branch-2 : goal.returns-in-Branch-2
 returns-in-Branch-2 c =
-    branch_fits c.args.market.now (LeafHoldsFor c.args.market.now c.args.cutoff.0 (word_of c.args.word.now)) c.args.prefix.now c.child_of.result c.args.item.now _ c.in-Branch-2.is c.as_slice.ensures c.if-prefix-as_slice.false c.requires.prefix c.child_of.ensures.word c.child_of.ensures.cleared
+    branch_fits c.args.market.now (LeafHoldsFor c.args.market.now c.args.cutoff.0 (word_of c.args.word.now)) c.args.prefix.now c.child_of.result
+    c.args.item.now _ c.in-Branch-2.is c.as_slice.ensures c.if-prefix-as_slice.false c.requires.prefix c.child_of.ensures.word
+    c.child_of.ensures.cleared

@@ -19,7 +19,11 @@ loop-place-preserved c =
     }
 
 pub returns-in-None : goal.returns-in-None
-returns-in-None c = walk_ends c.args.market.now (LeafHoldsFor c.args.market.now c.args.cutoff.0 (word_of c.args.word.now)) c.args.tree.now c.loop-place.place c.loop-place.next c.loop-place-test.false c.in-None.is c.loop-place.invariant.before
+returns-in-None c =
+    walk_ends c.args.market.now (LeafHoldsFor c.args.market.now c.args.cutoff.0 (word_of c.args.word.now)) c.args.tree.now c.loop-place.place
+    c.loop-place.next c.loop-place-test.false c.in-None.is c.loop-place.invariant.before
 
 pub returns-in-Some-next : goal.returns-in-Some-next
-returns-in-Some-next c = ends_too_early c.args.market.now (LeafHoldsFor c.args.market.now c.args.cutoff.0 (word_of c.args.word.now)) c.args.tree.now c.loop-place.place c.in-Some-next.field-0 c.loop-place.next c.loop-place-test.false c.in-Some-next.is c.loop-place.invariant.before
+returns-in-Some-next c =
+    ends_too_early c.args.market.now (LeafHoldsFor c.args.market.now c.args.cutoff.0 (word_of c.args.word.now)) c.args.tree.now c.loop-place.place
+    c.in-Some-next.field-0 c.loop-place.next c.loop-place-test.false c.in-Some-next.is c.loop-place.invariant.before

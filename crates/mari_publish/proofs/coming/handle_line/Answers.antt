@@ -48,7 +48,8 @@ refused c r here following take_fault.Memory begins t = same_come c r t
 pub returns-in-Err-clause-handles : goal.returns-in-Err-clause-handles
 returns-in-Err-clause-handles c =
     let is = from_place c.args.coming.now.bytes.items c.deref.result.now c.args.coming.now.handled _ c.deref.ensures.value c.in-Some.ensures.1 in
-    rw c.at.ensures (refused c.args.coming.now c.take_line.new.kept c.in-Some.here.now c.in-Some._after.now c.in-Err.fault (record { all = c.in-Kept.is; is = is; whole = c.in-Some.ensures.0 }) c.in-Err.ensures)
+    rw c.at.ensures
+    (refused c.args.coming.now c.take_line.new.kept c.in-Some.here.now c.in-Some._after.now c.in-Err.fault (record { all = c.in-Kept.is; is = is; whole = c.in-Some.ensures.0 }) c.in-Err.ensures)
 
 pub returns-in-Ended-clause-handles : goal.returns-in-Ended-clause-handles
 returns-in-Ended-clause-handles c = (inl c.in-Ended.is, refl, refl)

@@ -36,7 +36,8 @@ pub returns-in_default-line : goal.returns-in_default-line
 returns-in_default-line c =
     let k = c.args.kept.now in
     let g = c.in-Growing.growing in
-    in_held k _ (held.Growing g) c.args.line _ c.in-Growing.is (c.no_part-in_default-line.ensures k (after_growing g g.pending c.args.line) (held.Growing g) (held.Growing c.grow.new.growing) c.grow.ensures)
+    in_held k _ (held.Growing g) c.args.line _ c.in-Growing.is
+    (c.no_part-in_default-line.ensures k (after_growing g g.pending c.args.line) (held.Growing g) (held.Growing c.grow.new.growing) c.grow.ensures)
 
 pub returns-in_default-line-2 : goal.returns-in_default-line-2
 returns-in_default-line-2 c =

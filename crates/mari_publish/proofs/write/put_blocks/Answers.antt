@@ -14,7 +14,9 @@ put_block-requires c = at_place BlockFits c.args.blocks.now c.loop-block.block-i
 
 pub loop-block-preserved : goal.loop-block-preserved
 loop-block-preserved c =
-    one_put (λ (xs : List Block). flat_map block_lines xs) (λ x. text_of_lines (block_lines x)) (λ x xs. flat_map-append line_text (block_lines x) (flat_map block_lines xs)) c.args.blocks.now c.loop-block.block-index c.block-item.result c.loop-block.out.items
+    one_put (λ (xs : List Block). flat_map block_lines xs) (λ x. text_of_lines (block_lines x))
+    (λ x xs. flat_map-append line_text (block_lines x) (flat_map block_lines xs)) c.args.blocks.now c.loop-block.block-index c.block-item.result
+    c.loop-block.out.items
     c.put_block.new.out.items _ c.loop-block-test.true c.block-item.is c.in_ok-put_block.ensures c.loop-block.invariant
 
 pub returns : goal.returns

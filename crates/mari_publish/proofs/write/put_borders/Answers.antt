@@ -11,7 +11,8 @@ put_border-requires c = at_place (λ b. IsMoney b.rent) c.args.borders.now c.loo
 
 pub loop-border-preserved : goal.loop-border-preserved
 loop-border-preserved c =
-    one_put (λ (xs : List BorderLine). map line.Border xs) (λ x. line_text (line.Border x)) (λ _ _. refl) c.args.borders.now c.loop-border.border-index c.border-item.result c.loop-border.out.items c.put_border.new.out.items _
+    one_put (λ (xs : List BorderLine). map line.Border xs) (λ x. line_text (line.Border x)) (λ _ _. refl) c.args.borders.now
+    c.loop-border.border-index c.border-item.result c.loop-border.out.items c.put_border.new.out.items _
     c.loop-border-test.true c.border-item.is c.in_ok-put_border.ensures c.loop-border.invariant
 
 pub returns : goal.returns

@@ -11,8 +11,11 @@ put_operator-requires c = at_place IsMoneyLine c.args.operators.now c.loop-opera
 
 pub loop-operator-preserved : goal.loop-operator-preserved
 loop-operator-preserved c =
-    one_put (λ (xs : List MoneyLine). map line.Operator xs) (λ x. line_text (line.Operator x)) (λ _ _. refl) c.args.operators.now c.loop-operator.operator-index c.operator-item.result c.loop-operator.out.items c.put_operator.new.out.items _
+    one_put (λ (xs : List MoneyLine). map line.Operator xs) (λ x. line_text (line.Operator x)) (λ _ _. refl) c.args.operators.now
+    c.loop-operator.operator-index c.operator-item.result c.loop-operator.out.items c.put_operator.new.out.items _
     c.loop-operator-test.true c.operator-item.is c.in_ok-put_operator.ensures c.loop-operator.invariant
 
 pub returns : goal.returns
-returns c = all_put (λ (xs : List MoneyLine). map line.Operator xs) refl c.args.operators.now c.loop-operator.operator-index c.loop-operator.out.items _ c.loop-operator-test.false c.loop-operator.invariant
+returns c =
+    all_put (λ (xs : List MoneyLine). map line.Operator xs) refl c.args.operators.now c.loop-operator.operator-index c.loop-operator.out.items _
+    c.loop-operator-test.false c.loop-operator.invariant

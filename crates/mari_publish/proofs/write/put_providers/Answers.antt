@@ -11,8 +11,11 @@ put_provider-requires c = at_place IsAmountLine c.args.providers.now c.loop-prov
 
 pub loop-provider-preserved : goal.loop-provider-preserved
 loop-provider-preserved c =
-    one_put (λ (xs : List AmountLine). map line.Provider xs) (λ x. line_text (line.Provider x)) (λ _ _. refl) c.args.providers.now c.loop-provider.provider-index c.provider-item.result c.loop-provider.out.items c.put_provider.new.out.items _
+    one_put (λ (xs : List AmountLine). map line.Provider xs) (λ x. line_text (line.Provider x)) (λ _ _. refl) c.args.providers.now
+    c.loop-provider.provider-index c.provider-item.result c.loop-provider.out.items c.put_provider.new.out.items _
     c.loop-provider-test.true c.provider-item.is c.in_ok-put_provider.ensures c.loop-provider.invariant
 
 pub returns : goal.returns
-returns c = all_put (λ (xs : List AmountLine). map line.Provider xs) refl c.args.providers.now c.loop-provider.provider-index c.loop-provider.out.items _ c.loop-provider-test.false c.loop-provider.invariant
+returns c =
+    all_put (λ (xs : List AmountLine). map line.Provider xs) refl c.args.providers.now c.loop-provider.provider-index c.loop-provider.out.items _
+    c.loop-provider-test.false c.loop-provider.invariant

@@ -8,7 +8,9 @@ use Rattle.mari_settle.proofs.Flows.{no_border, flow_within}
 use Rattle.mari_settle.proofs.operators.operator_rent.Goals as goal
 
 pub share_of_border-total-requires-clause-flow : goal.share_of_border-total-requires-clause-flow
-share_of_border-total-requires-clause-flow c = flow_within c.args.market.now.borders _ c.args.activation.now.flow _ c.loop-i.i c.as_slice-border-items.ensures c.as_slice-flow.ensures c.loop-i-test.true c.requires.flows.within (search rules)
+share_of_border-total-requires-clause-flow c =
+    flow_within c.args.market.now.borders _ c.args.activation.now.flow _ c.loop-i.i c.as_slice-border-items.ensures c.as_slice-flow.ensures
+    c.loop-i-test.true c.requires.flows.within (search rules)
 
 pub loop-i-preserved : goal.loop-i-preserved
 loop-i-preserved c =

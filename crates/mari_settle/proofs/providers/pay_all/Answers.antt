@@ -16,7 +16,9 @@ loop-i-preserved c =
     let there : number < length c.args.bids.now.bids = named_there c.args.bids.now (length c.args.prices.now) number (c.requires.numbers c.loop-i.i 0 c.loop-i-test.true) in
     let bid = get_or c.args.bids.now.bids number no_bid in
     record {
-      paid = λ k. sum_along_step (λ number q. bid_amount c.args.prices.now c.args.scheduled.now k (slice_get c.args.bids.now.bids number) q) c.args.numbers.now c.args.mw.now c.loop-i.i 0 0 _ _ _ c.loop-i-test.true (omega arith)
+      paid = λ k.
+          sum_along_step (λ number q. bid_amount c.args.prices.now c.args.scheduled.now k (slice_get c.args.bids.now.bids number) q)
+          c.args.numbers.now c.args.mw.now c.loop-i.i 0 0 _ _ _ c.loop-i-test.true (omega arith)
           (c.loop-i.invariant.paid k)
           (amount_here c.args.prices.now c.args.scheduled.now c.args.bids.now.bids number (get_or c.args.mw.now c.loop-i.i 0) k c.earned.result there (rw bs at c.earned.ensures.value))
           (rw (to_z-of_z fits, bs) at (c.pay.ensures.paid k));
@@ -24,4 +26,7 @@ loop-i-preserved c =
     }
 
 pub returns-clause-paid : goal.returns-clause-paid
-returns-clause-paid c k = c.loop-i.invariant.paid k ∙ sum_along-cut (λ number q. bid_amount c.args.prices.now c.args.scheduled.now k (slice_get c.args.bids.now.bids number) q) c.args.numbers.now c.args.mw.now c.loop-i.i c.loop-i-test.false
+returns-clause-paid c k =
+    c.loop-i.invariant.paid k ∙ sum_along-cut
+    (λ number q. bid_amount c.args.prices.now c.args.scheduled.now k (slice_get c.args.bids.now.bids number) q) c.args.numbers.now c.args.mw.now
+    c.loop-i.i c.loop-i-test.false

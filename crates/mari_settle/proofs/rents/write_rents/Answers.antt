@@ -11,7 +11,9 @@ use Rattle.mari_settle.proofs.Lists.{written_along_more, small_more}
 use Rattle.mari_settle.proofs.rents.write_rents.Goals as goal
 
 pub rent_of-requires-clause-flow : goal.rent_of-requires-clause-flow
-rent_of-requires-clause-flow c = flow_within c.args.market.now.borders _ c.args.activation.now.flow _ c.loop-i.i c.as_slice-border-items.ensures c.as_slice-flow.ensures c.loop-i-test.true c.requires.flows.within (search rules)
+rent_of-requires-clause-flow c =
+    flow_within c.args.market.now.borders _ c.args.activation.now.flow _ c.loop-i.i c.as_slice-border-items.ensures c.as_slice-flow.ensures
+    c.loop-i-test.true c.requires.flows.within (search rules)
 
 pub loop-i-preserved : goal.loop-i-preserved
 loop-i-preserved c =

@@ -34,7 +34,9 @@ pub write_amounts-requires-clause-few : goal.write_amounts-requires-clause-few
 write_amounts-requires-clause-few c = omega (arith, c.requires.market.few_orders, few_numbers c.args.bids.now.bids c.args.numbers.now c.args.market.now.orders c.requires.numbers)
 
 pub write_amounts-requires-clause-one_each : goal.write_amounts-requires-clause-one_each
-write_amounts-requires-clause-one_each c = omega (arith, AllZip-long _ c.args.market.now.orders c.args.activation.now.mw c.requires.feasible.orders, few_numbers c.args.bids.now.bids c.args.numbers.now c.args.market.now.orders c.requires.numbers)
+write_amounts-requires-clause-one_each c =
+    omega
+    (arith, AllZip-long _ c.args.market.now.orders c.args.activation.now.mw c.requires.feasible.orders, few_numbers c.args.bids.now.bids c.args.numbers.now c.args.market.now.orders c.requires.numbers)
 
 pub write_amounts-requires-clause-mw : goal.write_amounts-requires-clause-mw
 write_amounts-requires-clause-mw c = few_mw c.args.market.now c.args.activation.now c.requires.market c.requires.feasible

@@ -14,7 +14,8 @@ pub overflow_add-result : goal.overflow_add-result
 overflow_add-result g c =
     let islands = c.in_ok-islands.islands.items in
     let law = rw c.deref.ensures.value at c.in-Spent.ensures.law in
-    omega (arith, spent_below islands c.args.budget c.in-Spent.island c.in-Spent.spent law, few_islands c.in_ok-made.made.market islands c.in_ok-made.ensures.of_books.valid c.in_ok-islands.ensures.islands)
+    omega
+    (arith, spent_below islands c.args.budget c.in-Spent.island c.in-Spent.spent law, few_islands c.in_ok-made.made.market islands c.in_ok-made.ensures.of_books.valid c.in_ok-islands.ensures.islands)
 
 pub returns-in_ok-done-in-Published-clause-fits : goal.returns-in_ok-done-in-Published-clause-fits
 returns-in_ok-done-in-Published-clause-fits g c =

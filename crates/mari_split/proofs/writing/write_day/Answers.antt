@@ -8,9 +8,11 @@ close-requires-clause-stands g c = let w = c.in_ok-progress.ensures.written in (
 pub returns-clause-stopped : goal.returns-clause-stopped
 returns-clause-stopped g c =
     let w = c.in_ok-progress.ensures.written in
-    close_stops c.args.books.now c.args.budget (length c.args.books.now.runs.runs) c.in_ok-progress.progress _ _ w refl _ _ (c.in-Err.ensures.closes c.args.budget w.blocks c.in_ok-progress.progress w.progress refl w.counted)
+    close_stops c.args.books.now c.args.budget (length c.args.books.now.runs.runs) c.in_ok-progress.progress _ _ w refl _ _
+    (c.in-Err.ensures.closes c.args.budget w.blocks c.in_ok-progress.progress w.progress refl w.counted)
 
 pub returns-in-Ok-clause-written : goal.returns-in-Ok-clause-written
 returns-in-Ok-clause-written g c =
     let w = c.in_ok-progress.ensures.written in
-    day_written c.args.books.now c.args.budget (length c.args.books.now.runs.runs) c.in_ok-progress.progress _ _ w refl _ tt (c.in-Ok.ensures.closes c.args.budget w.blocks c.in_ok-progress.progress w.progress refl w.counted)
+    day_written c.args.books.now c.args.budget (length c.args.books.now.runs.runs) c.in_ok-progress.progress _ _ w refl _ tt
+    (c.in-Ok.ensures.closes c.args.budget w.blocks c.in_ok-progress.progress w.progress refl w.counted)

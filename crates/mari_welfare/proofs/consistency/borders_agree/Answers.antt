@@ -8,10 +8,12 @@ pub loop-i-preserved : goal.loop-i-preserved
 loop-i-preserved c =
     let none : Border = record { from = 0; to = 0; limit = 0; back = 0 } in
     let fits : FitsSigned w64 (get_or c.args.flow.now c.loop-i.i (pos 0)) = search rules in
-    passes_more (IsConsistentBorder c.args.prices.now) c.args.borders.now c.args.flow.now c.loop-i.i none (pos 0) _ _ c.loop-i-test.true (omega arith) (to_z-of_z fits) c.is_consistent_border.ensures c.if-not-is_consistent_border.false c.loop-i.invariant
+    passes_more (IsConsistentBorder c.args.prices.now) c.args.borders.now c.args.flow.now c.loop-i.i none (pos 0) _ _ c.loop-i-test.true (omega arith)
+    (to_z-of_z fits) c.is_consistent_border.ensures c.if-not-is_consistent_border.false c.loop-i.invariant
 
 pub returns-then-not-is_consistent_border : goal.returns-then-not-is_consistent_border
 returns-then-not-is_consistent_border c =
     let none : Border = record { from = 0; to = 0; limit = 0; back = 0 } in
     let fits : FitsSigned w64 (get_or c.args.flow.now c.loop-i.i (pos 0)) = search rules in
-    fails_at (IsConsistentBorder c.args.prices.now) c.args.borders.now c.args.flow.now c.loop-i.i none (pos 0) _ _ c.loop-i-test.true (to_z-of_z fits) c.is_consistent_border.ensures c.if-not-is_consistent_border.true
+    fails_at (IsConsistentBorder c.args.prices.now) c.args.borders.now c.args.flow.now c.loop-i.i none (pos 0) _ _ c.loop-i-test.true (to_z-of_z fits)
+    c.is_consistent_border.ensures c.if-not-is_consistent_border.true

@@ -8,7 +8,8 @@ pub loop-i-preserved : goal.loop-i-preserved
 loop-i-preserved c =
     let none : Border = record { from = 0; to = 0; limit = 0; back = 0 } in
     let fits : FitsSigned w64 (get_or c.args.flow.now c.loop-i.i (pos 0)) = search rules in
-    passes_more IsWithinLimits c.args.borders.now c.args.flow.now c.loop-i.i none (pos 0) _ _ c.loop-i-test.true (omega arith) (to_z-of_z fits) c.is_within_limits.ensures c.if-not-is_within_limits.false c.loop-i.invariant
+    passes_more IsWithinLimits c.args.borders.now c.args.flow.now c.loop-i.i none (pos 0) _ _ c.loop-i-test.true (omega arith) (to_z-of_z fits)
+    c.is_within_limits.ensures c.if-not-is_within_limits.false c.loop-i.invariant
 
 pub returns-then-not-is_within_limits : goal.returns-then-not-is_within_limits
 returns-then-not-is_within_limits c =

@@ -29,7 +29,10 @@ loop-queue-preserved c =
     let there = node_there c.args.search.now.tree.nodes c.len.result c.prefix_of.result c.prefix_of.ensures.word (sym c.is_some.ensures ∙ c.loop-queue-test.true) in
     let one : length c.add.new.self.keys ≡ length c.loop-queue.queue.keys + 1 = length_more c.args.key 1 c.loop-queue.queue c.add.new.self c.add.ensures in
     record {
-      more = more_one c.args.key (length c.loop-queue.queue.keys - length c.args.queue.now.keys) (length c.add.new.self.keys - length c.args.queue.now.keys) c.args.queue.now c.loop-queue.queue c.add.new.self c.loop-queue.invariant.more c.add.ensures
+      more =
+          more_one c.args.key (length c.loop-queue.queue.keys - length c.args.queue.now.keys)
+          (length c.add.new.self.keys - length c.args.queue.now.keys) c.args.queue.now c.loop-queue.queue c.add.new.self c.loop-queue.invariant.more
+          c.add.ensures
           (omega (arith, one, c.loop-queue.invariant.longer));
       longer = omega (arith, one, c.loop-queue.invariant.longer);
       made = omega (arith, one, there, c.len.ensures.len);

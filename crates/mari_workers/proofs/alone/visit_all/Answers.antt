@@ -27,28 +27,35 @@ admit-requires c =
 
 pub loop-node-smaller : goal.loop-node-smaller
 loop-node-smaller c =
-    fewer_left c.args.market.now c.args.search.now.tree.budget c.loop-node.search c.visit.new.search c.in-Some.node (word_of c.in-Some-prefix_of.prefix) c.in_ok-key.key c.loop-node.queue c.take_first.new.self c.admit.new.queue
+    fewer_left c.args.market.now c.args.search.now.tree.budget c.loop-node.search c.visit.new.search c.in-Some.node
+    (word_of c.in-Some-prefix_of.prefix) c.in_ok-key.key c.loop-node.queue c.take_first.new.self c.admit.new.queue
     c.loop-node.invariant c.in-Some.ensures c.in_ok-key.ensures.visited c.visit.ensures.facts (not_marked c.is_full.ensures.full c.if-is_full.false) c.admit.ensures
 
 pub loop-node-preserved : goal.loop-node-preserved
 loop-node-preserved c =
-    still_next c.args.market.now c.args.search.now.tree.budget c.loop-node.search c.visit.new.search c.in-Some.node (word_of c.in-Some-prefix_of.prefix) c.in_ok-key.key c.loop-node.queue c.take_first.new.self c.admit.new.queue
+    still_next c.args.market.now c.args.search.now.tree.budget c.loop-node.search c.visit.new.search c.in-Some.node
+    (word_of c.in-Some-prefix_of.prefix) c.in_ok-key.key c.loop-node.queue c.take_first.new.self c.admit.new.queue
     c.loop-node.invariant c.in-Some.ensures c.in_ok-key.ensures.visited c.visit.ensures.facts (not_marked c.is_full.ensures.full c.if-is_full.false) c.admit.ensures
 
 -- where the root branched, its optimum is rounded: the tree stays
 pub loop-node-smaller-then-len-gt1 : goal.loop-node-smaller-then-len-gt1
 loop-node-smaller-then-len-gt1 c =
     let fewer =
-    fewer_left c.args.market.now c.args.search.now.tree.budget c.loop-node.search c.visit.new.search c.in-Some.node (word_of c.in-Some-prefix_of.prefix) c.in_ok-key.key c.loop-node.queue c.take_first.new.self c.admit.new.queue
+    fewer_left c.args.market.now c.args.search.now.tree.budget c.loop-node.search c.visit.new.search c.in-Some.node
+    (word_of c.in-Some-prefix_of.prefix) c.in_ok-key.key c.loop-node.queue c.take_first.new.self c.admit.new.queue
     c.loop-node.invariant c.in-Some.ensures c.in_ok-key.ensures.visited c.visit.ensures.facts (not_marked c.is_full.ensures.full c.if-is_full.false) c.admit.ensures in
-    subst (λ (left : ℕ). left < still_left c.args.search.now.tree.budget c.loop-node.search c.loop-node.queue) (sym (as_far c.args.search.now.tree.budget c.visit.new.search c.offer_rounded.new.search c.admit.new.queue c.in_ok-offer_rounded.ensures.tree)) fewer
+    subst (λ (left : ℕ). left < still_left c.args.search.now.tree.budget c.loop-node.search c.loop-node.queue)
+    (sym (as_far c.args.search.now.tree.budget c.visit.new.search c.offer_rounded.new.search c.admit.new.queue c.in_ok-offer_rounded.ensures.tree))
+    fewer
 
 pub loop-node-preserved-then-len-gt1 : goal.loop-node-preserved-then-len-gt1
 loop-node-preserved-then-len-gt1 c =
     let still =
-    still_next c.args.market.now c.args.search.now.tree.budget c.loop-node.search c.visit.new.search c.in-Some.node (word_of c.in-Some-prefix_of.prefix) c.in_ok-key.key c.loop-node.queue c.take_first.new.self c.admit.new.queue
+    still_next c.args.market.now c.args.search.now.tree.budget c.loop-node.search c.visit.new.search c.in-Some.node
+    (word_of c.in-Some-prefix_of.prefix) c.in_ok-key.key c.loop-node.queue c.take_first.new.self c.admit.new.queue
     c.loop-node.invariant c.in-Some.ensures c.in_ok-key.ensures.visited c.visit.ensures.facts (not_marked c.is_full.ensures.full c.if-is_full.false) c.admit.ensures in
-    still_after c.args.market.now c.args.search.now.tree.budget c.visit.new.search c.offer_rounded.new.search c.admit.new.queue still c.in_ok-offer_rounded.ensures.tree c.in_ok-offer_rounded.ensures.first c.offer_rounded.ensures.facts
+    still_after c.args.market.now c.args.search.now.tree.budget c.visit.new.search c.offer_rounded.new.search c.admit.new.queue still
+    c.in_ok-offer_rounded.ensures.tree c.in_ok-offer_rounded.ensures.first c.offer_rounded.ensures.facts
 
 pub returns : goal.returns
 returns c = record {

@@ -4,7 +4,9 @@ use Rattle.mari_workers.proofs.Closed.{closed_found, closed_has_best, closed_is_
 use Rattle.mari_workers.proofs.first.first_of.Goals as goal
 
 pub unreachable-requires : goal.unreachable-requires
-unreachable-requires c = closed_is_relaxed c.args.market.now (word_of c.closed_prefix.result) c.in_ok-relaxed.field-0 c.requires c.closed_prefix.ensures.word c.in_ok-relaxed.ensures.finding c.in_default.not-Relaxed
+unreachable-requires c =
+    closed_is_relaxed c.args.market.now (word_of c.closed_prefix.result) c.in_ok-relaxed.field-0 c.requires c.closed_prefix.ensures.word
+    c.in_ok-relaxed.ensures.finding c.in_default.not-Relaxed
 
 pub unreachable-requires-in-None : goal.unreachable-requires-in-None
 unreachable-requires-in-None c =

@@ -7,7 +7,8 @@ use Rattle.mari_workers.proofs.refining.refined_from.Goals as goal
 
 pub walked-requires-clause-walk : goal.walked-requires-clause-walk
 walked-requires-clause-walk c =
-    walk_started c.args.market.now (record { word = c.gate_word.result; welfare = c.args.found.welfare; budget = c.args.budget }) c.args.budget c.args.found c.start-walk.result.done.items c.start-walk.result.left.items c.start-walk.result.next
+    walk_started c.args.market.now (record { word = c.gate_word.result; welfare = c.args.found.welfare; budget = c.args.budget }) c.args.budget
+    c.args.found c.start-walk.result.done.items c.start-walk.result.left.items c.start-walk.result.next
     c.requires.found refl refl c.start-walk.ensures.done c.start-walk.ensures.left c.start-walk.ensures.next
 
 pub returns-in-Ok-clause-law : goal.returns-in-Ok-clause-law

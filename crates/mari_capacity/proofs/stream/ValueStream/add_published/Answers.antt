@@ -60,5 +60,6 @@ put_run-requires-clause-printable c =
 pub returns-clause-lines : goal.returns-clause-lines
 returns-clause-lines c = λ blocks checked lines none.
     let run = after-is c.args.books.now c.requires.accepted blocks c.args.self.now.day checked c.next_run-run.result c.next_run-run.ensures in
-    published-lines c.args.books.now c.args.self.now.day.budget blocks c.args.block.now c.args.full.now c.requires.is c.args.self.now.more c.in_ok-made.made c.args.self.now.lines.items c.put_run.new.text.items c.in_ok-worths-in-None.worths.items
+    published-lines c.args.books.now c.args.self.now.day.budget blocks c.args.block.now c.args.full.now c.requires.is c.args.self.now.more
+    c.in_ok-made.made c.args.self.now.lines.items c.put_run.new.text.items c.in_ok-worths-in-None.worths.items
     (c.in_ok-made.ensures.market blocks checked.progress run) lines c.in_ok-worths-in-None.ensures (rw c.deref.ensures.value at c.in_ok-put_run-in-None.ensures)

@@ -10,4 +10,5 @@ take_parts-requires-clause-read c =
 pub returns-in-Ok-clause-states : goal.returns-in-Ok-clause-states
 returns-in-Ok-clause-states c = λ text parts read.
     let t = read.taken in
-    c.take_parts.ensures.states (text ++ c.args.piece.now) parts (record { stands = c.in-Ok.ensures.pushed text parts read.stands; taken = record { found = t.found; ended = t.ended; states = t.states; more_is = t.more_is } })
+    c.take_parts.ensures.states (text ++ c.args.piece.now) parts
+    (record { stands = c.in-Ok.ensures.pushed text parts read.stands; taken = record { found = t.found; ended = t.ended; states = t.states; more_is = t.more_is } })

@@ -58,9 +58,11 @@ returns-in-Err-take-clause-states c = λ text parts read.
     let x = c.in-Ok-Some.part in
     let there = next-part text s.0 c.in-Ok-Some.field-0 x c.in-Ok-Some.field-0-is (c.in-Ok-Some.ensures.next text s.0 s.1.stands) in
     let stops = c.in-Err-take.ensures.stops s.0 (record { found = t.found; ended = t.ended; states = t.states; more_is = t.more_is }) (comes text s.0 x there) in
-    subst (λ (n : ℕ). StopsInText c.args.books.now n text c.take.new.self.lines.items c.in-Err-take.stop) c.parts.invariant.same (part-stops c.args.books.now c.parts.self.more text s.0 x c.take.new.self.lines.items c.in-Err-take.stop there stops)
+    subst (λ (n : ℕ). StopsInText c.args.books.now n text c.take.new.self.lines.items c.in-Err-take.stop) c.parts.invariant.same
+    (part-stops c.args.books.now c.parts.self.more text s.0 x c.take.new.self.lines.items c.in-Err-take.stop there stops)
 
 pub returns-in-Err-clause-states : goal.returns-in-Err-clause-states
 returns-in-Err-clause-states c = λ text parts read.
     let s = c.parts.invariant.read text parts read in
-    rw c.stop_of_reader.ensures (subst (λ (n : ℕ). StopsInText c.args.books.now n text c.parts.self.lines.items (stop_of_text c.in-Err.fault)) c.parts.invariant.same (line-stops c.args.books.now c.parts.self.more text s.0 c.parts.self c.in-Err.fault s.1 (c.in-Err.ensures.next text s.0 s.1.stands)))
+    rw c.stop_of_reader.ensures
+    (subst (λ (n : ℕ). StopsInText c.args.books.now n text c.parts.self.lines.items (stop_of_text c.in-Err.fault)) c.parts.invariant.same (line-stops c.args.books.now c.parts.self.more text s.0 c.parts.self c.in-Err.fault s.1 (c.in-Err.ensures.next text s.0 s.1.stands)))

@@ -8,7 +8,8 @@ overflow_add-self c = let s = c.requires.stands in omega (arith, few-runs c.args
 
 pub returns-then-self-runs : goal.returns-then-self-runs
 returns-then-self-runs c = λ p head budget checked first second.
-    is-missing c.args.books.now p head c.args.self.now budget checked c.next_run.result c.number.result (omega (arith, c.if-self-runs.true, c.run_count-runs.ensures)) c.next_run.ensures c.number.ensures
+    is-missing c.args.books.now p head c.args.self.now budget checked c.next_run.result c.number.result
+    (omega (arith, c.if-self-runs.true, c.run_count-runs.ensures)) c.next_run.ensures c.number.ensures
 
 pub returns-then-not-has_totals : goal.returns-then-not-has_totals
 returns-then-not-has_totals c = λ p head budget checked first second.

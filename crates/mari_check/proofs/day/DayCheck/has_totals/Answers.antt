@@ -8,5 +8,6 @@ are_total_lines-requires c = let s = c.requires.stands in record { one_each = rw
 
 pub returns : goal.returns
 returns c = λ p checked first second.
-    both-totals c.args.books.now p.blocks c.args.self.now.progress.totals checked.progress.totals p refl c.args.operators.now c.args.providers.now first second c.are_money_lines.result (rw c.as_slice.ensures at c.are_money_lines.ensures) c.if-not-are_money_lines.false
+    both-totals c.args.books.now p.blocks c.args.self.now.progress.totals checked.progress.totals p refl c.args.operators.now c.args.providers.now
+    first second c.are_money_lines.result (rw c.as_slice.ensures at c.are_money_lines.ensures) c.if-not-are_money_lines.false
     c.are_total_lines.result (rw c.as_slice-2.ensures at c.are_total_lines.ensures)

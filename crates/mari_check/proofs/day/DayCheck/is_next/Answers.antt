@@ -7,9 +7,11 @@ next_run-run-requires c = let s = c.requires.stands in few-runs c.args.books.now
 
 pub returns-then-run-run_count : goal.returns-then-run-run_count
 returns-then-run-run_count c = λ blocks checked.
-    none-next c.args.books.now c.requires.accepted blocks c.args.self.now checked c.next_run-run.result c.next_run-run.ensures c.args.reported (omega (arith, c.if-run-run_count.true, c.run_count.ensures))
+    none-next c.args.books.now c.requires.accepted blocks c.args.self.now checked c.next_run-run.result c.next_run-run.ensures c.args.reported
+    (omega (arith, c.if-run-run_count.true, c.run_count.ensures))
 
 pub returns : goal.returns
 returns c = λ blocks checked.
-    next-is c.args.books.now c.requires.accepted blocks c.args.self.now checked c.next_run-run.result c.next_run-run.ensures c.args.reported c.is_same_heading.result (omega (arith, c.if-run-run_count.false, c.run_count.ensures))
+    next-is c.args.books.now c.requires.accepted blocks c.args.self.now checked c.next_run-run.result c.next_run-run.ensures c.args.reported
+    c.is_same_heading.result (omega (arith, c.if-run-run_count.false, c.run_count.ensures))
     (λ t. c.is_same_heading.ensures.0 t ∙ c.heading.ensures, λ e. c.is_same_heading.ensures.1 (e ∙ sym c.heading.ensures))

@@ -36,7 +36,8 @@ parts-preserved c = λ text parts read.
 pub returns-in-Ok-None : goal.returns-in-Ok-None
 returns-in-Ok-None c = λ text parts read.
     let s = c.parts.invariant text parts read in
-    all-read c.args.books.now text s.0 _ c.in-Ok-None.field-0 c.in-Ok-None.field-0-is (c.in-Ok-None.ensures.next text s.0 s.1.stands) (c.in-Ok-None.ensures.stands text s.0 s.1.stands) c.in-Ok-None.ensures.waits s.1.found
+    all-read c.args.books.now text s.0 _ c.in-Ok-None.field-0 c.in-Ok-None.field-0-is (c.in-Ok-None.ensures.next text s.0 s.1.stands)
+    (c.in-Ok-None.ensures.stands text s.0 s.1.stands) c.in-Ok-None.ensures.waits s.1.found
 
 pub returns-in-Err : goal.returns-in-Err
 returns-in-Err c = λ text parts read.

@@ -16,4 +16,5 @@ returns-then-node-len-clause-feasible c =
 pub returns-else-node-len-clause-word : goal.returns-else-node-len-clause-word
 returns-else-node-len-clause-word c =
     let nodes = ap (λ (g : Grown). length g.nodes) c.self.view_is in
-    sym (slice_get_past (words_of c.args.self.now.nodes) c.args.node (omega (arith, nodes, c.if-node-len.false, c.len.ensures, c.self.inside.nodes.ok.0, length-map c.args.self.now.nodes (λ (n : TreeNode). n.word))))
+    sym
+    (slice_get_past (words_of c.args.self.now.nodes) c.args.node (omega (arith, nodes, c.if-node-len.false, c.len.ensures, c.self.inside.nodes.ok.0, length-map c.args.self.now.nodes (λ (n : TreeNode). n.word))))

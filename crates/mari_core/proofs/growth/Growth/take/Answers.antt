@@ -13,7 +13,8 @@ next_untaken-self-inside-requires-clause-within c =
 
 pub next_untaken-self-inside-requires-clause-few : goal.next_untaken-self-inside-requires-clause-few
 next_untaken-self-inside-requires-clause-few c =
-    omega (arith, c.self.invariant.0.within_budget, c.self.invariant.0.budget_is, length-with_state (Taken c.args.actor) c.self.inside.nodes.items c.args.node, ap length c.set_state.ensures.nodes, ap length c.deref.ensures.value)
+    omega
+    (arith, c.self.invariant.0.within_budget, c.self.invariant.0.budget_is, length-with_state (Taken c.args.actor) c.self.inside.nodes.items c.args.node, ap length c.set_state.ensures.nodes, ap length c.deref.ensures.value)
 
 pub next_untaken-self-inside-requires-clause-none_before : goal.next_untaken-self-inside-requires-clause-none_before
 next_untaken-self-inside-requires-clause-none_before c =

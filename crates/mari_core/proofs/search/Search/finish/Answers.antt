@@ -9,7 +9,9 @@ use Rattle.mari_core.proofs.search.Search.finish.Goals as goal
 
 pub returns-clause-clearing : goal.returns-clause-clearing
 returns-clause-clearing c =
-    subst (λ (s : Machine). IsOptimalClearing s.tree.market s.tree.budget (record { activation = c.best_of-best.result.activation; welfare = c.self.inside.incumbent; tree = c.of.result })) c.self.view_is
+    subst
+    (λ (s : Machine). IsOptimalClearing s.tree.market s.tree.budget (record { activation = c.best_of-best.result.activation; welfare = c.self.inside.incumbent; tree = c.of.result }))
+    c.self.view_is
     (clearing_by (record { tree = c.self.inside.tree; incumbent = c.self.inside.incumbent; actors = c.self.inside.actors.items; first = c.self.inside.first }) _ c.self.invariant
     (ap (λ (a : Attained). a.activation) c.best_of-best.ensures) refl
     (subst (λ (items : List TreeItem). TreeHolds c.self.inside.tree.market (pos c.self.inside.incumbent) items) (sym c.of.ensures) (c.in_ok-tree.ensures.holds c.self.inside.incumbent c.self.invariant.cutoffs))

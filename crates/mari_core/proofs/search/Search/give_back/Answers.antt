@@ -7,10 +7,14 @@ use Rattle.mari_core.proofs.Machines.{entry_step_kept, answer_there, answer_by_r
 use Rattle.mari_core.proofs.search.Search.give_back.Goals as goal
 
 pub invariant_of-self : goal.invariant_of-self
-invariant_of-self c = entry_step_kept _ (GiveBack c.args.actor c.args.node) c.give_back.new.self c.give_back.result c.self.invariant c.give_back.ensures.facts tt c.give_back.ensures.change c.give_back.ensures.same
+invariant_of-self c =
+    entry_step_kept _ (GiveBack c.args.actor c.args.node) c.give_back.new.self c.give_back.result c.self.invariant c.give_back.ensures.facts tt
+    c.give_back.ensures.change c.give_back.ensures.same
 
 pub returns-clause-facts : goal.returns-clause-facts
-returns-clause-facts c = entry_step_kept _ (GiveBack c.args.actor c.args.node) c.give_back.new.self c.give_back.result c.self.invariant c.give_back.ensures.facts tt c.give_back.ensures.change c.give_back.ensures.same
+returns-clause-facts c =
+    entry_step_kept _ (GiveBack c.args.actor c.args.node) c.give_back.new.self c.give_back.result c.self.invariant c.give_back.ensures.facts tt
+    c.give_back.ensures.change c.give_back.ensures.same
 
 pub returns-clause-answer : goal.returns-clause-answer
 returns-clause-answer c =

@@ -32,7 +32,9 @@ returns-clause-change c =
     ap (λ (a : Actor). set c.self.inside.actors.items c.args.actor a) (c.offer.ensures ∙ ap (offering c.max-self-inside.result c.args.attained) c.index_mut-by.ensures.value)
     ∙ set_is_changed (offering c.max-self-inside.result c.args.attained) c.self.inside.actors.items c.args.actor c.index_mut-by.result.now l in
     ap (λ (others : List Actor). record { tree = c.self.inside.tree; incumbent = c.max-self-inside.result; actors = others; first = c.self.inside.first }) is
-    ∙ ap (λ (w : ℕ). offered_to (record { tree = c.self.inside.tree; incumbent = c.self.inside.incumbent; actors = c.self.inside.actors.items; first = c.self.inside.first }) c.args.actor c.args.attained w) c.max-self-inside.ensures
+    ∙ ap
+    (λ (w : ℕ). offered_to (record { tree = c.self.inside.tree; incumbent = c.self.inside.incumbent; actors = c.self.inside.actors.items; first = c.self.inside.first }) c.args.actor c.args.attained w)
+    c.max-self-inside.ensures
     ∙ ap (λ (s : Machine). offered_to s c.args.actor c.args.attained (max s.incumbent c.args.attained.welfare)) c.self.view_is
 
 pub returns-clause-answer : goal.returns-clause-answer

@@ -14,7 +14,10 @@ settle-requires-clause-cutoff c =
 pub settle-requires-clause-finding : goal.settle-requires-clause-finding
 settle-requires-clause-finding c =
     let there : slice_get c.self.inside.actors.items c.args.actor ≡ Some c.index.result.now = actor_there_by c.self.inside.actors.items c.args.actor c.index.result.now (omega (arith, c.requires.there, ap (λ (s : Machine). length s.actors) c.self.view_is)) c.index.ensures in
-    may_settle_by (record { tree = c.self.inside.tree; incumbent = c.self.inside.incumbent; actors = c.self.inside.actors.items; first = c.self.inside.first }) c.args.actor c.args.node c.index.result.now c.args.finding there (subst (λ (s : Machine). IsProper s (Settle c.args.actor c.args.node c.args.finding)) (sym c.self.view_is) c.requires.proper)
+    may_settle_by
+    (record { tree = c.self.inside.tree; incumbent = c.self.inside.incumbent; actors = c.self.inside.actors.items; first = c.self.inside.first })
+    c.args.actor c.args.node c.index.result.now c.args.finding there
+    (subst (λ (s : Machine). IsProper s (Settle c.args.actor c.args.node c.args.finding)) (sym c.self.view_is) c.requires.proper)
 
 pub invariant_of-self-2 : goal.invariant_of-self-2
 invariant_of-self-2 c =

@@ -11,4 +11,6 @@ returns c =
     let step3 = further c.args.text.now.items c.put_next.new.text.items c.put_next-2.new.text.items (codes "area") (natural c.args.zone.now.area) ((codes "greatest", price_value c.args.zone.now.greatest) ∷ []) (codes "least") (price_value c.args.zone.now.least) step2 c.in_ok-put_next-2.ensures in
     let step4 = further c.args.text.now.items c.put_next-2.new.text.items c.put_next-3.new.text.items (codes "area") (natural c.args.zone.now.area) ((codes "greatest", price_value c.args.zone.now.greatest) ∷ (codes "least", price_value c.args.zone.now.least) ∷ []) (codes "name") (string c.args.zone.now.name) step3 c.in_ok-put_next-3.ensures in
     let step5 = further c.args.text.now.items c.put_next-3.new.text.items c.put_next-4.new.text.items (codes "area") (natural c.args.zone.now.area) ((codes "greatest", price_value c.args.zone.now.greatest) ∷ (codes "least", price_value c.args.zone.now.least) ∷ (codes "name", string c.args.zone.now.name) ∷ []) (codes "price") (price_value c.args.zone.now.price) step4 c.in_ok-put_next-4.ensures in
-    closed c.put_end.result c.args.text.now.items c.put_next-4.new.text.items c.put_end.new.text.items (codes "area") (natural c.args.zone.now.area) ((codes "greatest", price_value c.args.zone.now.greatest) ∷ (codes "least", price_value c.args.zone.now.least) ∷ (codes "name", string c.args.zone.now.name) ∷ (codes "price", price_value c.args.zone.now.price) ∷ []) step5 c.put_end.ensures
+    closed c.put_end.result c.args.text.now.items c.put_next-4.new.text.items c.put_end.new.text.items (codes "area") (natural c.args.zone.now.area)
+    ((codes "greatest", price_value c.args.zone.now.greatest) ∷ (codes "least", price_value c.args.zone.now.least) ∷ (codes "name", string c.args.zone.now.name) ∷ (codes "price", price_value c.args.zone.now.price) ∷ [])
+    step5 c.put_end.ensures

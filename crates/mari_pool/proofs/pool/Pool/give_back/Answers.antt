@@ -49,7 +49,10 @@ invariant_of-self g c =
     let first : slice_get c.self.inside.returned.items c.args.ticket.worker ≡ Some false = not_returned c.self.inside.returned.items c.args.ticket.worker c.index.result.now (omega (arith, c.args.ticket.numbered, c.self.invariant.0.returned_are)) c.index.ensures c.if-index.false in
     let paid = unreturned_set c.self.inside.returned.items c.args.ticket.worker first in
     let change : c.give_back.new.self ≡ grown c.self.inside.tree e = c.in-Ok.ensures.change in (
-      pool_same g.N.SearchName.market g.N.SearchName.budget g.N.SearchName.workers g.N.SearchName.incumbent (grown c.self.inside.tree e) c.give_back.new.self c.self.inside.queue.keys c.put_back.new.self.keys (c.self.inside.journal.items ++ in_journal e ∷ []) c.push_reserved.new.self.items (vec_capacity c.self.inside.journal) (vec_capacity c.push_reserved.new.self) c.self.inside.turns.items (set c.self.inside.returned.items c.args.ticket.worker true) c.self.inside.seat c.self.inside.seat
+      pool_same g.N.SearchName.market g.N.SearchName.budget g.N.SearchName.workers g.N.SearchName.incumbent (grown c.self.inside.tree e)
+          c.give_back.new.self c.self.inside.queue.keys c.put_back.new.self.keys (c.self.inside.journal.items ++ in_journal e ∷ [])
+          c.push_reserved.new.self.items (vec_capacity c.self.inside.journal) (vec_capacity c.push_reserved.new.self) c.self.inside.turns.items
+          (set c.self.inside.returned.items c.args.ticket.worker true) c.self.inside.seat c.self.inside.seat
           change c.put_back.ensures.keys c.push_reserved.ensures.items c.push_reserved.ensures.capacity refl
           (entry_keeps g.N.SearchName.market g.N.SearchName.budget g.N.SearchName.workers g.N.SearchName.incumbent p e c.self.inside.queue.keys c.self.inside.turns.items (set c.self.inside.returned.items c.args.ticket.worker true) c.self.invariant.0 may paid tt (c.self.invariant.0.keys_are ∙ sym (length-with_state Untaken c.self.inside.tree.nodes c.args.ticket.node)) refl (length-set c.self.inside.returned.items c.args.ticket.worker true)
           (turns_back c.self.inside.tree c.args.ticket.worker c.args.ticket.node c.self.inside.turns.items c.self.inside.journal.items c.self.invariant.0.turns_report)),
@@ -60,4 +63,5 @@ invariant_of-self g c =
 
 pub returns-clause-again : goal.returns-clause-again
 returns-clause-again g c = λ again.
-    absurd (not_again c.self.inside.returned.items c.args.ticket.worker c.index.result.now c.index.ensures c.if-index.false (ap (λ (q : Pooled). slice_get q.returned c.args.ticket.worker) c.self.view_is ∙ again))
+    absurd
+    (not_again c.self.inside.returned.items c.args.ticket.worker c.index.result.now c.index.ensures c.if-index.false (ap (λ (q : Pooled). slice_get q.returned c.args.ticket.worker) c.self.view_is ∙ again))

@@ -33,7 +33,10 @@ invariant_of-self g c =
     let may : IsAllowed c.self.inside.tree e = ap (λ (q : Pooled). state_at q.tree.nodes c.args.node) c.self.view_is ∙ c.requires.taken in
     let room = subst (λ (q : Pooled). length q.journal + owed q.tree q.returned + 2 ≤ q.room) (sym c.self.view_is) c.requires.room in
     let change : c.give_back.new.self ≡ grown c.self.inside.tree e = c.in-Ok.ensures.change in (
-      pool_same g.N.SearchName.market g.N.SearchName.budget g.N.SearchName.workers g.N.SearchName.incumbent (grown c.self.inside.tree e) c.give_back.new.self c.self.inside.queue.keys c.put_back.new.self.keys (c.self.inside.journal.items ++ in_journal e ∷ []) c.push_reserved.new.self.items (vec_capacity c.self.inside.journal) (vec_capacity c.push_reserved.new.self) c.self.inside.turns.items c.self.inside.returned.items c.self.inside.seat c.self.inside.seat
+      pool_same g.N.SearchName.market g.N.SearchName.budget g.N.SearchName.workers g.N.SearchName.incumbent (grown c.self.inside.tree e)
+          c.give_back.new.self c.self.inside.queue.keys c.put_back.new.self.keys (c.self.inside.journal.items ++ in_journal e ∷ [])
+          c.push_reserved.new.self.items (vec_capacity c.self.inside.journal) (vec_capacity c.push_reserved.new.self) c.self.inside.turns.items
+          c.self.inside.returned.items c.self.inside.seat c.self.inside.seat
           change c.put_back.ensures.keys c.push_reserved.ensures.items c.push_reserved.ensures.capacity refl
           (entry_keeps_by g.N.SearchName.market g.N.SearchName.budget g.N.SearchName.workers g.N.SearchName.incumbent p e c.self.inside.queue.keys c.self.inside.turns.items c.self.inside.returned.items c.self.invariant.0 may (omega (arith, back_owed c.self.inside.tree c.args.worker c.args.node c.self.inside.returned.items c.self.invariant.0.grows may, room)) tt (c.self.invariant.0.keys_are ∙ sym (length-with_state Untaken c.self.inside.tree.nodes c.args.node)) refl refl
           (turns_back c.self.inside.tree c.args.worker c.args.node c.self.inside.turns.items c.self.inside.journal.items c.self.invariant.0.turns_report)),

@@ -88,7 +88,10 @@ invariant_of-self g c =
     let seat : c.meet.new.into ≡ seat_view c.self.inside.seat.incumbent (max c.self.inside.seat.seen seen) c.self.inside.seat.offered c.self.inside.seat.parts =
     c.meet.ensures.into ∙ ap (λ (n : ℕ). seat_view c.args.incumbent.now n c.self.inside.seat.offered c.self.inside.seat.parts) c.meet.ensures.greater
     ∙ ap (λ (w : IncumbentId). seat_view w (max c.self.inside.seat.seen seen) c.self.inside.seat.offered c.self.inside.seat.parts) (c.requires.incumbent.0 ∙ sym c.self.invariant.0.fresh.0) in (
-      pool_same g.N.SearchName.market g.N.SearchName.budget g.N.SearchName.workers g.N.SearchName.incumbent (grown c.self.inside.tree e) c.settle.new.self (keys_after c.self.inside.tree e q.keys (child_key c.args.finding)) r.keys (c.self.inside.journal.items ++ in_journal e ∷ []) c.push_reserved.new.self.items (vec_capacity c.self.inside.journal) (vec_capacity c.push_reserved.new.self) c.self.inside.turns.items c.self.inside.returned.items _ c.meet.new.into
+      pool_same g.N.SearchName.market g.N.SearchName.budget g.N.SearchName.workers g.N.SearchName.incumbent (grown c.self.inside.tree e)
+          c.settle.new.self (keys_after c.self.inside.tree e q.keys (child_key c.args.finding)) r.keys (c.self.inside.journal.items ++ in_journal e ∷ [])
+          c.push_reserved.new.self.items (vec_capacity c.self.inside.journal) (vec_capacity c.push_reserved.new.self) c.self.inside.turns.items
+          c.self.inside.returned.items _ c.meet.new.into
           change followed.keys (c.push_reserved.ensures.items ∙ ap (λ (j : JournalEntry). c.self.inside.journal.items ++ j ∷ []) entry) c.push_reserved.ensures.capacity seat
           (settle_keeps g.N.SearchName.market g.N.SearchName.budget g.N.SearchName.workers g.N.SearchName.incumbent p c.args.ticket.worker c.args.ticket.node seen c.args.finding c.self.invariant.0 may),
       omega (arith, ap (λ (t : Grown). taken_among t.nodes) change, taken_after c.self.inside.tree e may, settling_comes c.self.inside.tree c.args.ticket.worker c.args.ticket.node seen (closing_leaf seen c.args.finding), c.self.invariant.1),
@@ -117,7 +120,9 @@ returns-clause-settled g c = λ _.
     let seat : c.meet.new.into ≡ seat_view c.self.inside.seat.incumbent (max c.self.inside.seat.seen seen) c.self.inside.seat.offered c.self.inside.seat.parts =
     c.meet.ensures.into ∙ ap (λ (n : ℕ). seat_view c.args.incumbent.now n c.self.inside.seat.offered c.self.inside.seat.parts) c.meet.ensures.greater
     ∙ ap (λ (w : IncumbentId). seat_view w (max c.self.inside.seat.seen seen) c.self.inside.seat.offered c.self.inside.seat.parts) (c.requires.incumbent.0 ∙ sym c.self.invariant.0.fresh.0) in
-    pool_parts (grown c.self.inside.tree e) c.settle.new.self (keys_after c.self.inside.tree e q.keys (child_key c.args.finding)) r.keys (c.self.inside.journal.items ++ in_journal e ∷ []) c.push_reserved.new.self.items (vec_capacity c.self.inside.journal) (vec_capacity c.push_reserved.new.self) c.self.inside.turns.items c.self.inside.returned.items _ c.meet.new.into
+    pool_parts (grown c.self.inside.tree e) c.settle.new.self (keys_after c.self.inside.tree e q.keys (child_key c.args.finding)) r.keys
+    (c.self.inside.journal.items ++ in_journal e ∷ []) c.push_reserved.new.self.items (vec_capacity c.self.inside.journal)
+    (vec_capacity c.push_reserved.new.self) c.self.inside.turns.items c.self.inside.returned.items _ c.meet.new.into
     change followed.keys (c.push_reserved.ensures.items ∙ ap (λ (j : JournalEntry). c.self.inside.journal.items ++ j ∷ []) entry) c.push_reserved.ensures.capacity seat
     ∙ ap (λ (k : Pooled). settled_with k c.args.ticket.worker c.args.ticket.node seen c.args.finding) c.self.view_is
 

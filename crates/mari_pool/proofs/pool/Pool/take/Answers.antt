@@ -28,7 +28,8 @@ push_reserved-requires g c =
 
 pub index_mut-requires : goal.index_mut-requires
 index_mut-requires g c =
-    omega (arith, within_nodes c.self.inside.tree.nodes c.in-Some.node Untaken (first_waits c.self.inside.tree.nodes c.self.inside.queue c.take_first.new.self c.in-Some.node c.self.invariant.2 c.in-Some.ensures), c.self.invariant.0.grows.within_budget, c.self.invariant.0.budget_is, c.self.invariant.0.turns_are, c.self.inside.turns.ok.0)
+    omega
+    (arith, within_nodes c.self.inside.tree.nodes c.in-Some.node Untaken (first_waits c.self.inside.tree.nodes c.self.inside.queue c.take_first.new.self c.in-Some.node c.self.invariant.2 c.in-Some.ensures), c.self.invariant.0.grows.within_budget, c.self.invariant.0.budget_is, c.self.invariant.0.turns_are, c.self.inside.turns.ok.0)
 
 pub overflow_add-self : goal.overflow_add-self
 overflow_add-self g c =
@@ -43,7 +44,10 @@ invariant_of-self-2 g c =
     let within : c.in-Some.node < length c.self.inside.turns.items = omega (arith, within_nodes c.self.inside.tree.nodes c.in-Some.node Untaken may, c.self.invariant.0.grows.within_budget, c.self.invariant.0.budget_is, c.self.invariant.0.turns_are) in
     let turn : c.len-turn.result ≡ length c.self.inside.journal.items = omega (arith, c.len-turn.ensures, c.self.inside.journal.ok.0) in
     let change : c.take.new.self ≡ grown c.self.inside.tree e = c.in-Ok.ensures.change in (
-      pool_same g.N.SearchName.market g.N.SearchName.budget g.N.SearchName.workers g.N.SearchName.incumbent (grown c.self.inside.tree e) c.take.new.self c.self.inside.queue.keys c.take_first.new.self.keys (c.self.inside.journal.items ++ in_journal e ∷ []) c.push_reserved.new.self.items (vec_capacity c.self.inside.journal) (vec_capacity c.push_reserved.new.self) (set c.self.inside.turns.items c.in-Some.node c.len-turn.result) c.self.inside.returned.items c.self.inside.seat c.self.inside.seat
+      pool_same g.N.SearchName.market g.N.SearchName.budget g.N.SearchName.workers g.N.SearchName.incumbent (grown c.self.inside.tree e)
+          c.take.new.self c.self.inside.queue.keys c.take_first.new.self.keys (c.self.inside.journal.items ++ in_journal e ∷ [])
+          c.push_reserved.new.self.items (vec_capacity c.self.inside.journal) (vec_capacity c.push_reserved.new.self)
+          (set c.self.inside.turns.items c.in-Some.node c.len-turn.result) c.self.inside.returned.items c.self.inside.seat c.self.inside.seat
           change c.in-Some.ensures.keys c.push_reserved.ensures.items c.push_reserved.ensures.capacity refl
           (entry_keeps g.N.SearchName.market g.N.SearchName.budget g.N.SearchName.workers g.N.SearchName.incumbent p e c.self.inside.queue.keys (set c.self.inside.turns.items c.in-Some.node c.len-turn.result) c.self.inside.returned.items c.self.invariant.0 may (not_full, refl) tt (c.self.invariant.0.keys_are ∙ sym (length-with_state (Taken c.args.worker) c.self.inside.tree.nodes c.in-Some.node)) (length-set c.self.inside.turns.items c.in-Some.node c.len-turn.result) refl
           (turns_take c.self.inside.tree c.args.worker c.in-Some.node c.len-turn.result c.self.inside.turns.items c.self.inside.journal.items within turn c.self.invariant.0.turns_report)),
@@ -59,7 +63,9 @@ invariant_of-self g c =
 
 pub unreachable-requires : goal.unreachable-requires
 unreachable-requires g c =
-    has_word c.self.inside.tree.nodes c.in-Some.node Untaken (first_waits c.self.inside.tree.nodes c.self.inside.queue c.take_first.new.self c.in-Some.node c.self.invariant.2 c.in-Some.ensures) (sym c.in_default-prefix_of.ensures.word)
+    has_word c.self.inside.tree.nodes c.in-Some.node Untaken
+    (first_waits c.self.inside.tree.nodes c.self.inside.queue c.take_first.new.self c.in-Some.node c.self.invariant.2 c.in-Some.ensures)
+    (sym c.in_default-prefix_of.ensures.word)
 
 pub unreachable-requires-in_default-take : goal.unreachable-requires-in_default-take
 unreachable-requires-in_default-take g c =
@@ -83,7 +89,8 @@ returns g c =
     let turn : c.len-turn.result ≡ length c.self.inside.journal.items = omega (arith, c.len-turn.ensures, c.self.inside.journal.ok.0) in
     let there : slice_get (words_of t.nodes) node ≡ Some (word_of c.in-Some-prefix_of.prefix) = sym c.in-Some-prefix_of.ensures.word in
     let change : new ≡ taking p c.args.worker x.node =
-    pool_parts (grown t e) c.take.new.self q.keys r.keys journal c.push_reserved.new.self.items (vec_capacity c.self.inside.journal) (vec_capacity c.push_reserved.new.self) turns c.self.inside.returned.items c.self.inside.seat c.self.inside.seat
+    pool_parts (grown t e) c.take.new.self q.keys r.keys journal c.push_reserved.new.self.items (vec_capacity c.self.inside.journal)
+    (vec_capacity c.push_reserved.new.self) turns c.self.inside.returned.items c.self.inside.seat c.self.inside.seat
     c.in-Ok.ensures.change c.in-Some.ensures.keys c.push_reserved.ensures.items c.push_reserved.ensures.capacity refl
     ∙ ap (λ (n : ℕ). pool_of (grown t e) q.keys journal (vec_capacity c.self.inside.journal) (set c.self.inside.turns.items node n) c.self.inside.returned.items c.self.inside.seat) turn
     ∙ ap (λ (n : ℕ). taking p c.args.worker n) (sym c.new.ensures.node) in

@@ -25,4 +25,5 @@ returns c =
     let new = heap_items c.push.new.self in
     let w : Waiting = (c.index-key.result.now, record { 0 = c.args.node }) in
     let joins : IsPermutation (c.args.node ∷ map number_in old) (map number_in new) = IsPermutation-map number_in (w ∷ old) new c.in-Ok.ensures.permutation in
-    subst (λ (q : Queued). IsBack q (record { keys = c.self.inside.keys.items; waiting = map number_in new; room = c.self.inside.room }) c.args.node) c.self.view_is (record { joins = joins; keys = refl; room = refl })
+    subst (λ (q : Queued). IsBack q (record { keys = c.self.inside.keys.items; waiting = map number_in new; room = c.self.inside.room }) c.args.node)
+    c.self.view_is (record { joins = joins; keys = refl; room = refl })

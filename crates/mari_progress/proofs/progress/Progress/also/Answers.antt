@@ -17,7 +17,10 @@ pub returns-clause-after : goal.returns-clause-after
 returns-clause-after c = λ blocks progress is.
     let books = c.args.books.now in
     let kept = c.args.self.now.scheduled in
-    c.kept_for.ensures ∙ ap (λ (entry : Run). if entry.direct then kept_for entry.quarter kept else None) c.run_entry.ensures ∙ also-is books blocks kept progress.scheduled c.args.run is c.requires.last
+    c.kept_for.ensures ∙ ap (λ (entry : Run). if entry.direct then kept_for entry.quarter kept else None) c.run_entry.ensures ∙ also-is books blocks
+    kept progress.scheduled c.args.run is c.requires.last
 
 pub returns-clause-prices : goal.returns-clause-prices
-returns-clause-prices c = λ blocks progress. priced-some _ _ c.kept_for.result (given-prices c.args.books.now blocks c.args.self.now.scheduled progress.scheduled _ c.kept_for.result _ _ c.kept_for.ensures)
+returns-clause-prices c = λ blocks progress.
+    priced-some _ _ c.kept_for.result
+    (given-prices c.args.books.now blocks c.args.self.now.scheduled progress.scheduled _ c.kept_for.result _ _ c.kept_for.ensures)

@@ -14,7 +14,9 @@ returns-then-whole-clause-end c = λ text parts s.
 
 pub returns-then-whole-clause-truncated : goal.returns-then-whole-clause-truncated
 returns-then-whole-clause-truncated c = λ text parts n s t.
-    end_cut_off text parts n (Ok (tt {0})) (whole_end (tt {0}) (come_of c.self.inside.coming) text parts (subst (λ (r : ReaderState). ComesFrom r.come text parts) (sym c.self.view_is) s) (c.is_whole-whole.ensures.whole c.if-whole.true)) t
+    end_cut_off text parts n (Ok (tt {0}))
+    (whole_end (tt {0}) (come_of c.self.inside.coming) text parts (subst (λ (r : ReaderState). ComesFrom r.come text parts) (sym c.self.view_is) s) (c.is_whole-whole.ensures.whole c.if-whole.true))
+    t
 
 pub returns-else-whole-clause-end : goal.returns-else-whole-clause-end
 returns-else-whole-clause-end c = λ text parts s.

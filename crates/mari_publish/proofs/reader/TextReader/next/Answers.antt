@@ -21,7 +21,8 @@ pub returns-in_err-part-clause-one : goal.returns-in_err-part-clause-one
 returns-in_err-part-clause-one c = λ text parts answer s a.
     let x = err_from_is_err_and c.from_residual.result c.from_residual.ensures.1 in
     let is : c.from_residual.result ≡ wrong c.in_err-part.field-0.0 = x.1 ∙ ap wrong x.2 in
-    one_next text parts answer c.from_residual.result a (subst (λ r. IsNext text parts r) (sym is) (c.in_err-part.ensures.next text parts (subst (λ (r : ReaderState). ComesFrom r.come text parts) (sym c.self.view_is) s)))
+    one_next text parts answer c.from_residual.result a
+    (subst (λ r. IsNext text parts r) (sym is) (c.in_err-part.ensures.next text parts (subst (λ (r : ReaderState). ComesFrom r.come text parts) (sym c.self.view_is) s)))
 
 pub invariant_of-self-then-is_none : goal.invariant_of-self-then-is_none
 invariant_of-self-then-is_none c =
@@ -45,7 +46,9 @@ returns-clause-stands c = λ text parts s.
     ]
 
 pub returns-clause-one : goal.returns-clause-one
-returns-clause-one c = λ text parts answer s a. one_next text parts answer (Ok c.in_ok-part.part) a (c.in_ok-part.ensures.next text parts (subst (λ (r : ReaderState). ComesFrom r.come text parts) (sym c.self.view_is) s))
+returns-clause-one c = λ text parts answer s a.
+    one_next text parts answer (Ok c.in_ok-part.part) a
+    (c.in_ok-part.ensures.next text parts (subst (λ (r : ReaderState). ComesFrom r.come text parts) (sym c.self.view_is) s))
 
 pub returns-in_err-part-clause-part : goal.returns-in_err-part-clause-part
 returns-in_err-part-clause-part c = λ text more parts x h. part_stays text more parts x h

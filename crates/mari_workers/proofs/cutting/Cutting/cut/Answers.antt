@@ -10,7 +10,9 @@ pub child_of-requires-clause-room : goal.child_of-requires-clause-room
 child_of-requires-clause-room c = room_at c.args.market.now c.args.prefix.now c.requires.market c.requires.walk.after.0
 
 pub drop_below-requires-clause-below : goal.drop_below-requires-clause-below
-drop_below-requires-clause-below c = below_branch c.args.market.now c.args.welfare c.args.prefix.now c.child_of.result c.args.self.now.done.items c.args.self.now.left.items c.requires.walk c.child_of.ensures.word c.child_of.ensures.cleared
+drop_below-requires-clause-below c =
+    below_branch c.args.market.now c.args.welfare c.args.prefix.now c.child_of.result c.args.self.now.done.items c.args.self.now.left.items
+    c.requires.walk c.child_of.ensures.word c.child_of.ensures.cleared
 
 pub returns : goal.returns
 returns c =

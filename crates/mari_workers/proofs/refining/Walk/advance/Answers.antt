@@ -14,7 +14,8 @@ descend-requires-clause-room c =
 
 pub returns-in_ok-descend-in-Some-Branch : goal.returns-in_ok-descend-in-Some-Branch
 returns-in_ok-descend-in-Some-Branch c =
-    turned_branch c.args.market.now c.args.aim.now c.args.prefix.now c.args.self.now.done.items c.pop.new.self.items c.descend.new.self.done.items c.descend.new.self.left.items c.args.self.now.left.items c.descend.new.self.next c.requires.walk
+    turned_branch c.args.market.now c.args.aim.now c.args.prefix.now c.args.self.now.done.items c.pop.new.self.items c.descend.new.self.done.items
+    c.descend.new.self.left.items c.args.self.now.left.items c.descend.new.self.next c.requires.walk
     (c.in-Some-Branch.ensures.items ∙ ap (λ (item : TreeItem). c.pop.new.self.items ++ item ∷ []) c.in-Some-Branch.field-0-is)
     c.in_ok-descend-in-Some-Branch.ensures.done
     (ap (λ (v : Vec TreeItem Global). v.items) c.in_ok-descend-in-Some-Branch.ensures.left)

@@ -26,7 +26,8 @@ returns-then-len-more c =
       | then-may_open w ↦ w.more-is ∙ sym (ap (λ (b : Bool). if b then 2 else 1) w.if-may_open.true)
       | else-may_open w ↦ w.more-is ∙ sym (ap (λ (b : Bool). if b then 2 else 1) w.if-may_open.false)
     ] in
-    leaf_crowded m c.args.aim.now c.args.prefix.now c.args.leaf c.args.leaf may c.args.self.now.done.items c.args.self.now.left.items c.push.new.self.items c.requires.market c.requires.aim c.requires.walk c.requires.branch
+    leaf_crowded m c.args.aim.now c.args.prefix.now c.args.leaf c.args.leaf may c.args.self.now.done.items c.args.self.now.left.items
+    c.push.new.self.items c.requires.market c.requires.aim c.requires.walk c.requires.branch
     c.may_branch_up-may_open.ensures.may_close c.may_branch_up-may_open.ensures.may_open.0 c.may_branch_up-may_open.ensures.children c.in_ok-push.ensures.items
     (omega (arith, more, c.len.ensures, c.len-2.ensures, c.if-len-more.true))
 
@@ -41,7 +42,8 @@ returns c =
       | then-may_open w ↦ w.more-is ∙ sym (ap (λ (b : Bool). if b then 2 else 1) w.if-may_open.true)
       | else-may_open w ↦ w.more-is ∙ sym (ap (λ (b : Bool). if b then 2 else 1) w.if-may_open.false)
     ] in
-    turned_branched m c.args.aim.now c.args.prefix.now c.args.leaf c.args.leaf may c.args.self.now.done.items c.args.self.now.left.items c.descend.new.self.done.items c.descend.new.self.left.items c.descend.new.self.next
+    turned_branched m c.args.aim.now c.args.prefix.now c.args.leaf c.args.leaf may c.args.self.now.done.items c.args.self.now.left.items
+    c.descend.new.self.done.items c.descend.new.self.left.items c.descend.new.self.next
     c.requires.market c.requires.aim c.requires.walk c.requires.branch c.may_branch_up-may_open.ensures.may_close c.may_branch_up-may_open.ensures.may_open.0 c.may_branch_up-may_open.ensures.children
     (omega (arith, more, c.len.ensures, c.len-2.ensures, c.if-len-more.false))
     (c.in_ok-descend.ensures.done ∙ ap (λ (v : Vec TreeItem Global). v.items ++ Branch ∷ []) c.in_ok-give.ensures.done)

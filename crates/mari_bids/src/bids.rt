@@ -7,7 +7,7 @@ ghost use Rattle.mari_rows.specs.Names.{is_among};
 ghost use Rattle.mari_rows.specs.declared.rows.Row.{Row as Line};
 ghost use Rattle.mari_zones.specs.declared.zones.ZoneBook.{ZoneBook};
 ghost use Rattle.mari_bids.specs.BidChecks.{bid_check_name, bid_check_number};
-ghost use Rattle.mari_bids.specs.Bids.{bid_at, bid_checks, bid_columns, bid_grammar, has_bad_field as has_bad_field_in, id_of, IsBidBook, is_both as is_both_in, is_up as is_up_in, provider_of};
+ghost use Rattle.mari_bids.specs.Bids.{bid_at, bid_checks, bid_grammar, has_bad_field as has_bad_field_in, id_of, IsBidBook, is_both as is_both_in, is_up as is_up_in, provider_of};
 
 use mari_rows::{
     BookFault, BookSoFar, FileCheck, LineFault, NameIndex, Row, cents_of, count_one, is_first_of,

@@ -1,6 +1,6 @@
 -- What is computed of a joint market has one entry for each zone, border and order; and what each quarter brings has its
 -- own place there.
-use Rattle.std.proofs.Common.{◌≡◌, ◌∙◌, ◌+◌, ◌-◌, ◌*◌, ◌<◌, ◌≤◌, ◌==◌, ◌++◌, ℕ, Bool, false, List, Ok, ap, arith, filter, length, length-append, map, refl, sym, subst}
+use Rattle.std.proofs.Common.{◌≡◌, ◌∙◌, ◌+◌, ◌-◌, ◌*◌, ◌<◌, ◌≤◌, ◌==◌, ℕ, Bool, false, List, ap, arith, filter, length, length-append, map, refl, sym, subst}
 use Rattle.std.specs.Prelude.{not}
 use Rattle.std.specs.List.{All, flat_map, range_with_len}
 use Rattle.std.specs.Option.{option_map_or}
@@ -19,7 +19,7 @@ use Rattle.mari_remain.proofs.Validity.{few}
 use Rattle.mari_progress.proofs.Lists.{along-length}
 use Rattle.mari_blocks.specs.Blocks.{IsBlockBook, block_at, quarter_at}
 use Rattle.mari_blocks.specs.Cutting.{HasShapes, IsPriced, piece}
-use Rattle.mari_blocks.specs.Joint.{bids_brought, borders_brought, demands_brought, is_left_out, joint_demands, joint_gates, joint_order, offered, quarters_of, run_of_quarter, shifted_order, zones_before}
+use Rattle.mari_blocks.specs.Joint.{bids_brought, borders_brought, demands_brought, is_left_out, joint_gates, joint_order, offered, quarters_of, run_of_quarter, shifted_order, zones_before}
 use Rattle.mari_blocks.specs.Printed.{bids_of, demand_count}
 use Rattle.mari_blocks.specs.declared.blocks.BlockBook.{BlockBook}
 use Rattle.mari_blocks.specs.declared.joint.Joint.{Joint}

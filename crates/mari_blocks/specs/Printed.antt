@@ -2,7 +2,6 @@
 -- how much of its search was made.
 use Rattle.std.specs.Prelude.{◌≡◌, ◌==◌, ℕ, Bool, true, false, List, ◌++◌, Result, Ok, Err, ⊤, filter, length, map}
 use Rattle.std.specs.List.{All, flat_map}
-use Rattle.mari_units.specs.declared.faults.Refusal.{Refusal}
 use Rattle.mari_units.specs.declared.numbers.Cents.{Cents}
 use Rattle.mari_units.specs.declared.numbers.Quarters.{Quarters}
 use Rattle.mari_rows.specs.Names.{name_at}

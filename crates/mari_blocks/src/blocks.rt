@@ -1,6 +1,5 @@
 //! The book of blocks.
 ghost use Rattle.std.specs.Prelude.{◌≡◌, ◌≤◌, ◌<◌, ◌||◌, ℕ, List, [], false, get_or, is_some, length, true, IfOk, OnOk};
-ghost use Rattle.mari_bids.specs.Bids.{bid_numbered};
 ghost use Rattle.mari_links.specs.Links.{IsLinkBook};
 ghost use Rattle.mari_remain.specs.Lists.{parent_at};
 ghost use Rattle.mari_rows.specs.Books.{book_in, first_failing, GivesBook};
@@ -8,7 +7,7 @@ ghost use Rattle.mari_rows.specs.Checks.{IsRead};
 ghost use Rattle.mari_rows.specs.declared.rows.Row.{Row as Line};
 ghost use Rattle.mari_units.specs.Names.{is_name};
 ghost use Rattle.mari_blocks.specs.BlockChecks.{block_check_name, block_check_number};
-ghost use Rattle.mari_blocks.specs.Blocks.{IsBlockBook, bid_at, block_columns, block_grammar, block_name, is_linked as is_linked_in, is_parent, is_within as is_within_of, line_checks};
+ghost use Rattle.mari_blocks.specs.Blocks.{IsBlockBook, bid_at, block_grammar, block_name, is_linked as is_linked_in, is_parent, is_within as is_within_of, line_checks};
 
 use mari_bids::BidBook;
 use mari_links::{BidLinks, LinkBook};

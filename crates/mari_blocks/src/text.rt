@@ -1,6 +1,5 @@
 //! The text of the blocks command.
-ghost use Rattle.std.specs.Prelude.{◌≡◌, ◌∷◌, ◌++◌, ◌≤◌, [], IfOk, OnOk, length};
-ghost use Rattle.std.specs.Fmt.{decimal};
+ghost use Rattle.std.specs.Prelude.{◌≡◌, ◌++◌, ◌≤◌, IfOk, OnOk, length};
 ghost use Rattle.std.specs.List.{All, flat_map};
 ghost use Rattle.mari_blocks.specs.Text.{JointFits, QuarterFits, count_text, ending_text, heading_text, joint_text_of, opening_text, quarter_text, unpublished_text_of};
 

@@ -1,6 +1,6 @@
 //! The quarter hours between two midnights.
 
-ghost use Rattle.std.specs.Prelude.{◌≡◌, ◌≤◌, ◌-ℤ◌, ◌≤ℤ◌, neg_ℤ, pos, IfOk};
+ghost use Rattle.std.specs.Prelude.{◌≡◌, ◌≤◌, ◌≤ℤ◌, neg_ℤ, pos, IfOk};
 ghost use Rattle.jiff_core.specs.Date.{epoch_day};
 ghost use Rattle.jiff_tz.specs.PosixText.{tz_view};
 ghost use Rattle.mari_units.specs.declared.limits.TheConstants.{MOST_QUARTERS};

@@ -1,6 +1,5 @@
 -- The first fault of the check in a text.
-use Rattle.std.proofs.Common.{◌≡◌, ◌∙◌, ℕ, ◌<◌, ◌≤◌, List, [], ◌∷◌, ◌++◌, map, length, take, Some, ◌⊎◌, inl, inr, refl, sym, ap, subst, arith, append_assoc}
-use Rattle.std.specs.Prelude.{slice_get}
+use Rattle.std.proofs.Common.{◌≡◌, ◌∙◌, ℕ, List, [], ◌∷◌, ◌++◌, map, length, take, ◌⊎◌, inl, inr, refl, sym, ap, subst, arith, append_assoc}
 use Rattle.std.proofs.Math.Seq.{take-append_seam}
 use Rattle.std.proofs.lemmas.Bool.{cases_lt}
 use Rattle.std.proofs.lemmas.List.{append-nil}
@@ -9,7 +8,7 @@ use Rattle.mari_lines.specs.declared.line.AmountLine.{AmountLine}
 use Rattle.mari_lines.specs.declared.line.MoneyLine.{MoneyLine}
 use Rattle.mari_io.specs.Outside.{most_given}
 use Rattle.mari_publish.specs.Faults.{IsText}
-use Rattle.mari_publish.specs.Pieces.{HasPart, HoldsParts, NoPart, parts_of}
+use Rattle.mari_publish.specs.Pieces.{HoldsParts, NoPart, parts_of}
 use Rattle.mari_publish.specs.declared.publication.Block.{Block}
 use Rattle.mari_publish.specs.declared.publication.Part.{Part}
 use Rattle.mari_publish.specs.declared.publication.Part.TheVariants as part

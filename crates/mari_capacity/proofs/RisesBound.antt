@@ -1,16 +1,11 @@
 -- What the blocks of a day show of limits, none of which has a fault.
-use Rattle.std.proofs.Common.{◌≡◌, Bool, true, false, ℕ, zero, suc, ◌+◌, ◌<◌, ◌≤◌, ℤ, pos, ◌+ℤ◌, ◌≤ℤ◌, List, [], ◌∷◌, length, take, get_or, Some, refl, arith, sym}
+use Rattle.std.proofs.Common.{◌≡◌, Bool, true, false, ℕ, zero, suc, ◌<◌, ◌≤◌, pos, List, [], ◌∷◌, length, take, get_or, Some, refl, arith}
 use Rattle.std.specs.Prelude.{slice_get}
 use Rattle.std.proofs.lemmas.Int.{ints}
 use Rattle.std.proofs.lemmas.List.{length-take}
 use Rattle.std.proofs.lemmas.Option.{slice_get_within}
 use Rattle.mari_market.specs.declared.activation.Activation.{Activation}
 use Rattle.mari_market.specs.declared.market.Market.{Market}
-use Rattle.mari_market.specs.Activation.{gate_word_of, welfare_of}
-use Rattle.mari_market.specs.Market.{IsValid}
-use Rattle.mari_market.specs.Optimal.{IsConsistent, IsFeasible}
-use Rattle.mari_market.specs.Prefix.{bounds_of_word}
-use Rattle.mari_market.specs.Relaxation.{IsWithinBounds}
 use Rattle.mari_units.specs.declared.numbers.Cents.{Cents}
 use Rattle.mari_network.specs.Network.{border_at}
 use Rattle.mari_publish.specs.declared.publication.Block.{Block}
@@ -27,7 +22,6 @@ use Rattle.mari_check.specs.declared.fault.Fault.TheVariants as fault
 use Rattle.mari_check.proofs.Made.{made-is}
 use Rattle.mari_check.proofs.Progressing.{sound-block}
 use Rattle.mari_capacity.specs.declared.worth.BorderWorth.{BorderWorth}
-use Rattle.mari_capacity.specs.Raised.{raised_market}
 use Rattle.mari_capacity.specs.Rise.{rise_of}
 use Rattle.mari_capacity.specs.Worth.{AreWorths, IsBorderWorth, RisesBound, no_worth, worth_on}
 use Rattle.mari_capacity.proofs.Bounding.{at-most-rise}

@@ -1,5 +1,5 @@
 -- A publication whose limits are valued as it is read in pieces: what is said of its page, by how that ends.
-use Rattle.std.specs.Prelude.{◌≡◌, ◌⊎◌, ℕ, List, [], ◌∷◌, ◌++◌, take, Option, Some, None, Result, Ok, Err}
+use Rattle.std.specs.Prelude.{◌≡◌, ◌⊎◌, ℕ, List, [], ◌++◌, take, Option, Some, None, Result, Ok, Err}
 use Rattle.mari_io.specs.Outside.{most_given}
 use Rattle.mari_io.specs.declared.shelf.Fetch.{Fetch}
 use Rattle.mari_io.specs.declared.shelf.Fetch.TheVariants as fetch
@@ -15,7 +15,7 @@ use Rattle.mari_check.specs.Verdicts.{IsVerdict}
 use Rattle.mari_capacity.specs.declared.ending.ValueEnd.{ValueEnd}
 use Rattle.mari_capacity.specs.declared.ending.ValueEnd.TheVariants.{Valid, Invalid, Text as OfText, Fetch as OfFetch}
 use Rattle.mari_capacity.specs.declared.ending.Valued.{Valued}
-use Rattle.mari_capacity.specs.Ends.{AreChecked, HasEndFault, HasFault, IsEndOf, IsValidPage, blocks_in}
+use Rattle.mari_capacity.specs.Ends.{AreChecked, HasEndFault, HasFault, IsValidPage, blocks_in}
 use Rattle.mari_capacity.specs.Lines.{closing_line}
 use Rattle.mari_capacity.specs.Values.{IsValueText}
 

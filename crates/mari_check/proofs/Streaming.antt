@@ -1,21 +1,17 @@
 -- The parts of a publication, one after the other, and what they settle.
-use Rattle.std.proofs.Common.{◌≡◌, ◌∙◌, ◌+◌, ◌<◌, ◌≤◌, ◌-◌, ℕ, true, List, [], ◌∷◌, ◌++◌, map, length, take, get_or, Option, Some, None, refl, sym, ap, subst, arith, append_assoc, length-append}
+use Rattle.std.proofs.Common.{◌≡◌, ◌∙◌, ◌+◌, ◌-◌, ℕ, true, List, [], ◌∷◌, ◌++◌, map, length, take, get_or, Option, Some, None, refl, sym, ap, subst, arith, append_assoc, length-append}
 use Rattle.std.specs.Prelude.{is_some, Result as Res, Ok, Err, IfOk, ⊤}
 use Rattle.std.proofs.Math.Seq.{take-append_seam}
-use Rattle.std.proofs.lemmas.List.{append-nil, length-map, map_push}
+use Rattle.std.proofs.lemmas.List.{append-nil, map_push}
 use Rattle.mari_publish.specs.declared.held.Held.{Held}
 use Rattle.mari_publish.specs.declared.held.Held.TheVariants as held
-use Rattle.mari_publish.specs.declared.held.Kept.{Kept}
 use Rattle.mari_lines.specs.declared.line.AmountLine.{AmountLine}
 use Rattle.mari_publish.specs.declared.publication.Block.{Block}
 use Rattle.mari_lines.specs.declared.line.MoneyLine.{MoneyLine}
 use Rattle.mari_publish.specs.declared.publication.Part.{Part}
 use Rattle.mari_publish.specs.declared.publication.Part.TheVariants as part
 use Rattle.mari_publish.specs.declared.publication.Publication.{Publication}
-use Rattle.mari_publish.specs.Pieces.{ComeState, Gives, HasPart, ComesFrom, front_parts, parts_of, parts_so_far}
-use Rattle.mari_publish.proofs.Counts.{both_kinds}
-use Rattle.mari_publish.proofs.Pieces.{counts_of}
-use Rattle.mari_lines.specs.declared.line.Line.{Line}
+use Rattle.mari_publish.specs.Pieces.{HasPart, parts_of, parts_so_far}
 use Rattle.mari_remain.specs.declared.books.Books.{Books}
 use Rattle.mari_progress.specs.Totals.{HasHead}
 use Rattle.mari_check.specs.declared.day.DayCheck.{DayCheck}

@@ -1,6 +1,6 @@
 //! The names of a block's lines.
 
-ghost use Rattle.std.specs.Prelude.{◌≡◌, ◌≤◌, ℕ, List, IsTrue, ◌↔◌, length};
+ghost use Rattle.std.specs.Prelude.{◌≡◌, IsTrue, ◌↔◌};
 ghost use Rattle.std.specs.List.{AllZip};
 ghost use Rattle.mari_progress.specs.Reported.{NamesMarket};
 ghost use Rattle.mari_check.specs.Lines.{NamesBid, NamesEnds, NamesZone};

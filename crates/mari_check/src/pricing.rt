@@ -1,6 +1,6 @@
 //! The intervals and the prices of a block.
 
-ghost use Rattle.std.specs.Prelude.{◌≡◌, ◌≤ℤ◌, List, IfOk, IsTrue, ◌↔◌};
+ghost use Rattle.std.specs.Prelude.{◌≡◌, List, IfOk, IsTrue, ◌↔◌};
 ghost use Rattle.std.specs.List.{All, AllZip};
 ghost use Rattle.mari_units.specs.declared.numbers.Cents.{Cents as TheCents};
 ghost use Rattle.mari_market.specs.Interval.{ArePublishedPrices, IsNearest};

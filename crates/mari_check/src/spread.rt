@@ -1,6 +1,6 @@
 //! Values that spread from zone to zone along borders, until no border raises any of them.
 
-ghost use Rattle.std.specs.Prelude.{◌≡◌, ◌<◌, ◌≤◌, IsTrue, ◌↔◌, true, false, length};
+ghost use Rattle.std.specs.Prelude.{◌≡◌, ◌<◌, true, false, length};
 ghost use Rattle.std.specs.List.{All};
 ghost use Rattle.mari_check.specs.Spread.{AreSmall, IsClosed, IsClosedOver, IsRaise, IsRaiseIf, IsSpread, Spreads, room_of};
 ghost use Rattle.mari_market.specs.Market.{IsBetween};

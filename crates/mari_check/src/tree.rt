@@ -1,6 +1,6 @@
 //! The shape of a certificate tree.
 
-ghost use Rattle.std.specs.Prelude.{◌≡◌, IfSome, IsTrue, ◌↔◌};
+ghost use Rattle.std.specs.Prelude.{IfSome, IsTrue, ◌↔◌};
 ghost use Rattle.mari_market.specs.Market.{IsValid};
 ghost use Rattle.mari_market.specs.Prefix.{IsFeasiblePrefix};
 ghost use Rattle.mari_proofs.specs.Steps.{FitsItem, IsFullBranch};

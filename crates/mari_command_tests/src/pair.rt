@@ -1,7 +1,7 @@
 //! A turnstile that holds a worker until another has come, and marks each worker's findings.
 
-ghost use Rattle.std.specs.Prelude.{◌≡◌, ◌<◌, ◌∷◌, [], pos, IfOk, Some};
-ghost use Rattle.mari_market.specs.Finding.{IsFinding, IsRelaxedFinding};
+ghost use Rattle.std.specs.Prelude.{◌≡◌, ◌<◌, IfOk, Some};
+ghost use Rattle.mari_market.specs.Finding.{IsRelaxedFinding};
 ghost use Rattle.mari_market.specs.Market.{IsValid};
 ghost use Rattle.mari_market.specs.Prefix.{word_of, IsFeasiblePrefix};
 ghost use Rattle.mari_market.specs.Price.{ArePrices};

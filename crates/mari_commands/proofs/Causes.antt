@@ -1,5 +1,5 @@
 -- A status that says why a page can't be had is that of such an outcome.
-use Rattle.std.proofs.Common.{◌≡◌, ◌⊎◌, ◌∙◌, ◌≤◌, ◌==◌, inl, inr, Bool, true, false, ℕ, List, Option, if◌then◌else◌, arith, refl, sym}
+use Rattle.std.proofs.Common.{◌≡◌, ◌⊎◌, ◌∙◌, ◌==◌, inl, inr, Bool, true, false, ℕ, List, Option, if◌then◌else◌, arith, refl, sym}
 use Rattle.mari_io.specs.declared.shelf.Fetch.TheVariants as fetch
 use Rattle.mari_io.specs.Outside.{Counts, Pages}
 use Rattle.mari_publish.specs.declared.fault.TextFault.TheVariants as text_fault

@@ -1,6 +1,6 @@
 -- What the pages of quarters decide is what the answer is, unless a fetch or a write failed or there was no memory.
-use Rattle.std.proofs.Common.{◌≡◌, ◌∙◌, ◌⊎◌, inl, inr, ℕ, Bool, true, false, List, Option, Some, None, Result, Ok, Err, if◌then◌else◌, ap, arith, refl, subst, sym}
-use Rattle.std.specs.Prelude.{◌≤◌, ⊤, string_bytes}
+use Rattle.std.proofs.Common.{◌≡◌, ◌∙◌, ◌⊎◌, inl, inr, ℕ, Bool, true, List, Option, Some, Result, Ok, Err, if◌then◌else◌, ap, arith, refl, subst, sym}
+use Rattle.std.specs.Prelude.{◌≤◌, ⊤}
 use lib.Chars.{codes}
 use Rattle.mari_units.specs.declared.faults.Refusal.{Refusal}
 use Rattle.mari_io.specs.Outside.{Pages}

@@ -1,14 +1,11 @@
 -- What each answer says where the words ask for the values of limits.
-use Rattle.std.proofs.Common.{◌≡◌, ◌∙◌, ◌⊎◌, inl, inr, ℕ, List, ◌++◌, Option, Some, None, ap, append-nil, refl, subst, sym}
-use lib.Chars.{codes}
-use Rattle.mari_units.specs.declared.faults.Refusal.{Refusal}
+use Rattle.std.proofs.Common.{◌≡◌, ◌∙◌, inl, inr, ℕ, List, ◌++◌, Option, ap, append-nil, refl, subst, sym}
 use Rattle.mari_io.specs.Outside.{Pages}
-use Rattle.mari_io.specs.Taken.{TookPart, then_took}
+use Rattle.mari_io.specs.Taken.{then_took}
 use Rattle.mari_io.specs.declared.shelf.Fetch.TheVariants as fetch
 use Rattle.mari_io.proofs.Taken.{took_more}
 use Rattle.mari_publish.specs.declared.fault.TextFault.{TextFault}
 use Rattle.mari_publish.specs.declared.fault.TextFault.TheVariants as text_fault
-use Rattle.mari_day.specs.Files.{Gap}
 use Rattle.mari_day.specs.Files.Gap.{NotHeld, OverLimit}
 use Rattle.mari_day.specs.declared.files.TheConstants.{PUBLICATION}
 use Rattle.mari_capacity.specs.declared.ending.ValueEnd.{ValueEnd}
@@ -19,15 +16,15 @@ use Rattle.mari_feed.specs.Streams.{TookAll}
 use Rattle.mari_words.specs.Asked.{Asked}
 use Rattle.mari_commands.specs.declared.status.Status.{Status}
 use Rattle.mari_commands.specs.declared.status.Status.TheVariants as status
-use Rattle.mari_commands.specs.Commands.{AsksForFiles, AsksForValues, EndsValues, StatesValues, fetch_of, text_refusal}
+use Rattle.mari_commands.specs.Commands.{AsksForFiles, AsksForValues, EndsValues, StatesValues, text_refusal}
 use Rattle.mari_commands.specs.Commands.IsInvalid.{OfValues as invalid-values}
 use Rattle.mari_commands.specs.Commands.IsRefused.{OfValues as refused-values}
 use Rattle.mari_commands.specs.Commands.LacksPage.{OfValues as lacks-values}
 use Rattle.mari_commands.specs.Commands.Prints.{Valued as prints-values}
-use Rattle.mari_commands.specs.Outcome.{MayWant, Reports, ReportsValues}
+use Rattle.mari_commands.specs.Outcome.{MayWant, ReportsValues}
 use Rattle.mari_commands.specs.Outcome.Reports.{Printed, CutOff, Starved}
-use Rattle.mari_commands.specs.Printing.{file_line, invalid_line, refused_line}
-use Rattle.mari_commands.specs.Program.{Answers, IsFailedEnd, IsGapEnd, IsInvalidEnd, IsRefusedEnd, TookFirstPart, TookLine, TookSummary, TookVerdict, WhereReported, gap_status, gap_word}
+use Rattle.mari_commands.specs.Printing.{refused_line}
+use Rattle.mari_commands.specs.Program.{Answers, IsFailedEnd, IsGapEnd, IsInvalidEnd, IsRefusedEnd, TookFirstPart, TookLine, TookSummary, TookVerdict, WhereReported}
 use Rattle.mari_commands.specs.Program.IsCutOff.{ValuesPart as cut-values}
 use Rattle.mari_commands.specs.Program.IsDone.{Printed as done-printed}
 use Rattle.mari_commands.specs.Program.IsStarved.{Nothing as starved-before}

@@ -42,7 +42,7 @@ use Rattle.mari_commands.specs.declared.outcome.Outcome.TheVariants.{NoCommand, 
 use Rattle.mari_commands.specs.declared.status.Status.{Status}
 use Rattle.mari_commands.specs.declared.status.Status.TheVariants as status
 use Rattle.mari_words.specs.declared.command.FilePart.{FilePart}
-use Rattle.mari_commands.specs.Commands.{AsksForFeed, AsksForFiles, AsksForLines, AsksForValues, AsksToCheck, IsAlone, ReadsFolder, already_two, fetch_of, page_of_part, publication_path, text_refusal}
+use Rattle.mari_commands.specs.Commands.{AsksForFiles, AsksForLines, AsksForValues, AsksToCheck, IsAlone, ReadsFolder, already_two, fetch_of, page_of_part, publication_path, text_refusal}
 use Rattle.mari_commands.specs.Splits.{EndsBy, command_by}
 use Rattle.mari_commands.specs.Summary.{IsGenerated}
 use Rattle.mari_commands.specs.Printing.{file_line, invalid_line, page_status, page_word, refused_line, usage_line, valid_line}

@@ -15,7 +15,7 @@ use Rattle.mari_publish.specs.declared.fault.TextFault.{TextFault}
 use Rattle.mari_capacity.specs.declared.ending.ValueEnd.{ValueEnd}
 use Rattle.mari_capacity.specs.declared.ending.ValueEnd.TheVariants as values
 use Rattle.mari_capacity.specs.Streams.{IsPageEnd}
-use Rattle.mari_words.specs.Asked.Asked.{Check, Generate, Feed, Value}
+use Rattle.mari_words.specs.Asked.Asked.{Check, Generate, Feed}
 use Rattle.mari_commands.specs.declared.status.Status.{Status}
 use Rattle.mari_commands.specs.declared.status.Status.TheVariants.{Done, Unpublished, Usage, Refused, ReadFault, WriteFault, Memory, Invalid, Missing, TooLong}
 use Rattle.mari_commands.specs.Commands.{AreCleared, AsksForFeed, AsksForPages, AsksForValues, AsksToCheck, AsksToClear, HasFeed, IsAlone, IsFeedable, IsInvalid, IsRefused, LacksPage, Prints, ReadsFolder, StatesValues, fetch_of, publication_path, text_refusal}

@@ -1,6 +1,6 @@
 //! The books of a folder, or what their absence comes to.
 
-ghost use Rattle.std.specs.Prelude.{◌≡◌, List, ℕ, Option, Some, IfErr, IfOk};
+ghost use Rattle.std.specs.Prelude.{◌≡◌, Option, Some, IfErr, IfOk};
 ghost use Rattle.mari_io.specs.Outside.{Counts, Pages};
 ghost use Rattle.mari_io.specs.declared.shelf.Fetch.TheVariants as fetch;
 ghost use Rattle.mari_remain.specs.Accepted.{IsAccepted};

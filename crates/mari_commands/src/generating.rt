@@ -1,6 +1,6 @@
 //! `generate NUMBER`: a generated day, cleared in memory, and its summary.
 
-ghost use Rattle.std.specs.Prelude.{◌≡◌, ◌≤◌, IfOk, Some};
+ghost use Rattle.std.specs.Prelude.{◌≤◌, IfOk};
 ghost use lib.Chars.{codes};
 ghost use Rattle.mari_io.specs.declared.shelf.Fetch.TheVariants as fetch;
 ghost use Rattle.mari_market.specs.Clearing.{Clears, IsBudget};

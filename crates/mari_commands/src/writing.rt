@@ -1,7 +1,6 @@
 //! The lines that the program prints where it prints no day.
 
-ghost use Rattle.std.specs.Prelude.{◌≡◌, ◌≢◌, OnOk, IfOk, ◌++◌};
-ghost use Rattle.std.specs.Fmt.{decimal};
+ghost use Rattle.std.specs.Prelude.{◌≡◌, ◌≢◌, IfOk};
 ghost use Rattle.mari_day.specs.Files.{IsNamed};
 ghost use Rattle.mari_commands.specs.Printing.{usage_line as usage_text, file_line as file_text, invalid_line as invalid_text, pair_line as pair_text, refused_line as refused_text};
 ghost use Rattle.mari_commands.specs.Outcome.{IsPageLine};

@@ -1,6 +1,6 @@
 //! A part of the search tree that grows node by node.
 
-ghost use Rattle.std.specs.Prelude.{◌≡◌, ◌≢◌, ℕ, ◌+◌, ◌<◌, ◌≤◌, pos, ◌∷◌, [], true, map, length, slice_get, IfSome, IfOk, IfErr, OnOk, OnErr, MatchOption, ◌↔◌, IsTrue, Some, None, vec_capacity, vec_len};
+ghost use Rattle.std.specs.Prelude.{◌≡◌, ◌≢◌, ℕ, ◌+◌, ◌<◌, ◌≤◌, pos, ◌∷◌, [], true, map, length, slice_get, IfSome, IfOk, IfErr, MatchOption, ◌↔◌, IsTrue, Some, None, vec_capacity, vec_len};
 ghost use Rattle.std.specs.Option.{option_map};
 ghost use Rattle.mari_market.specs.Clearing.{IsSpent, ArePartsOfSearch, IsBudget};
 ghost use Rattle.mari_market.specs.Market.{IsValid};

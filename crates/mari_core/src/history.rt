@@ -1,6 +1,6 @@
 //! A list of events, one after the other.
 
-ghost use Rattle.std.specs.Prelude.{◌≡◌, ◌≤◌, pos, IfOk};
+ghost use Rattle.std.specs.Prelude.{◌≤◌, pos, IfOk};
 ghost use Rattle.mari_market.specs.Finding.{IsAttained};
 ghost use Rattle.mari_market.specs.Market.{IsValid};
 ghost use Rattle.mari_market.specs.Relaxation.{IsClosedWelfare};

@@ -1,6 +1,6 @@
 //! The search machine.
 
-ghost use Rattle.std.specs.Prelude.{◌≡◌, ◌≢◌, ℕ, ◌<◌, ◌≤◌, pos, ◌∷◌, [], true, map, length, replicate, slice_get, IfSome, IfOk, IfErr, MatchOption};
+ghost use Rattle.std.specs.Prelude.{◌≡◌, ◌≢◌, ◌<◌, ◌≤◌, pos, ◌∷◌, [], true, map, length, replicate, slice_get, IfSome, IfOk, IfErr, MatchOption};
 ghost use Rattle.std.specs.Option.{option_map};
 ghost use Rattle.mari_market.specs.Clearing.{IsOptimalClearing, IsSpent, ArePartsOfSearch, IsBudget};
 ghost use Rattle.mari_market.specs.Finding.{IsAttained};

@@ -1,6 +1,5 @@
 -- Books whose limits stand on a page of their own have the same day parts and days.
-use Rattle.std.proofs.Common.{◌≡◌, ◌∙◌, ◌≤◌, ◌+◌, ◌+ℤ◌, ◌↔◌, ℕ, ℤ, List, [], ◌∷◌, ◌++◌, Option, Some, Ok, length, map, take, refl, sym, ap, arith, subst}
-use Rattle.std.specs.Prelude.{slice_get}
+use Rattle.std.proofs.Common.{◌≡◌, ◌∙◌, ◌≤◌, ◌+◌, ◌+ℤ◌, ◌↔◌, ℕ, ℤ, List, [], ◌∷◌, ◌++◌, Option, Ok, length, map, take, refl, sym, ap, arith, subst}
 use Rattle.std.specs.List.{range_with_len}
 use Rattle.std.proofs.Math.Path.{fun_ext}
 use Rattle.std.proofs.lemmas.List.{length-append, length-take-le}
@@ -14,7 +13,6 @@ use Rattle.mari_zones.specs.declared.borders.BorderEnds.{BorderEnds}
 use Rattle.mari_demands.specs.declared.limits.Limits.{Limits}
 use Rattle.mari_market.specs.Clearing.{IsSpent}
 use Rattle.mari_lines.specs.declared.line.AmountLine.{AmountLine}
-use Rattle.mari_lines.specs.declared.line.Heading.{Heading}
 use Rattle.mari_publish.specs.declared.publication.Block.{Block}
 use Rattle.mari_publish.specs.declared.publication.Block.TheVariants as block
 use Rattle.mari_publish.specs.declared.publication.FullBlock.{FullBlock}
@@ -30,9 +28,9 @@ use Rattle.mari_remain.proofs.MigratedBorders.{bare}
 use Rattle.mari_progress.specs.After.{also_after, before_of, market_after, past_of, run_after}
 use Rattle.mari_progress.specs.Money.{HasLedger, amount_of}
 use Rattle.mari_progress.specs.Reported.{NamesLines, heading_of}
-use Rattle.mari_progress.specs.Totals.{HasHead, HasTotals, amount_in, amount_over, operator_totals, provider_total, provider_totals}
+use Rattle.mari_progress.specs.Totals.{HasHead, HasTotals, amount_in, amount_over, provider_totals}
 use Rattle.mari_day.specs.Day.{IsDay, IsDayPart}
-use Rattle.mari_day.specs.Published.{IsBlock, IsPublishedOf, IsPublishedRun, IsUnpublishedRun}
+use Rattle.mari_day.specs.Published.{IsBlock, IsPublishedOf}
 
 -- the days of books are those of other books that say the same of each run
 module _ (books other : Books) (count : length books.runs.runs ≡ length other.runs.runs) (heading : (run : ℕ) → heading_of books run ≡ heading_of other run)

@@ -1,5 +1,5 @@
 -- A folder with the two pages of a migration in place is read as the books with those limits.
-use Rattle.std.proofs.Common.{◌≡◌, ◌∙◌, ◌≤◌, ◌<◌, ◌==◌, ℕ, Bool, true, false, List, [], ◌∷◌, ◌++◌, Option, Some, None, Result, Ok, Err, length, map, refl, sym, ap, arith, subst, if◌then◌else◌}
+use Rattle.std.proofs.Common.{◌≡◌, ◌∙◌, ◌≤◌, ◌==◌, ℕ, Bool, true, false, List, [], ◌∷◌, ◌++◌, Option, Some, None, Result, Ok, Err, length, map, refl, sym, ap, arith, subst, if◌then◌else◌}
 use Rattle.std.specs.Prelude.{nat_lt}
 use Rattle.std.proofs.lemmas.Bool.Decides.{nat_tests}
 use Rattle.mari_units.specs.declared.faults.Refusal.{Refusal}
@@ -7,7 +7,7 @@ use Rattle.mari_units.specs.declared.limits.TheConstants.{MOST_PAGE}
 use Rattle.mari_calendar.specs.Midnights.{◌>>>◌}
 use Rattle.mari_io.specs.Outside.{Pages}
 use Rattle.mari_rows.specs.Books.{book_in}
-use Rattle.mari_zones.specs.Borders.{borders_in, version_in}
+use Rattle.mari_zones.specs.Borders.{borders_in}
 use Rattle.mari_zones.specs.Zones.{zone_grammar}
 use Rattle.mari_zones.specs.declared.borders.BorderBook.{BorderBook}
 use Rattle.mari_zones.specs.declared.zones.ZoneBook.{ZoneBook}
@@ -16,7 +16,6 @@ use Rattle.mari_bids.specs.declared.bids.BidBook.{BidBook}
 use Rattle.mari_links.specs.Links.{link_grammar}
 use Rattle.mari_links.specs.declared.links.LinkBook.{LinkBook}
 use Rattle.mari_demands.specs.Demands.{demand_grammar}
-use Rattle.mari_demands.specs.Limits.{limit_grammar}
 use Rattle.mari_demands.specs.Runs.{run_grammar}
 use Rattle.mari_demands.specs.declared.demands.DemandBook.{DemandBook}
 use Rattle.mari_demands.specs.declared.runs.RunBook.{RunBook}
@@ -27,7 +26,7 @@ use Rattle.mari_day.specs.CalendarPage.{calendar_day_in}
 use Rattle.mari_day.specs.declared.calendar_page.CalendarDay.{CalendarDay}
 use Rattle.mari_day.specs.declared.files.File.{File}
 use Rattle.mari_day.specs.declared.files.File.TheVariants.{Day, Zones, Borders, Bids, Links, Runs, Demands, Limits}
-use Rattle.mari_day.specs.Files.{files, files_in, files_of, first_gap, gap_of, gap_or, page_in, page_among, version_by, ArePages, FileGap, Gap}
+use Rattle.mari_day.specs.Files.{files, files_in, files_of, first_gap, gap_of, gap_or, page_in, version_by, ArePages, FileGap, Gap}
 use Rattle.mari_day.specs.Files.Gap.{OverLimit}
 use Rattle.mari_day.specs.Migrating.{IsMigratedFolder}
 use Rattle.mari_day.specs.Reading.{books_at, limits_of_pages, of_file, HasBooks}

@@ -1,6 +1,6 @@
 //! The market files of a folder.
 
-ghost use Rattle.std.specs.Prelude.{◌≡◌, ◌≤◌, ◌<◌, IfOk, string_bytes};
+ghost use Rattle.std.specs.Prelude.{◌≡◌, ◌<◌, IfOk, string_bytes};
 ghost use Rattle.mari_day.specs.Files.{IsFileNumber, IsNamed, file_named, file_number, file_with, name_of, path_in as path_to, place_of};
 
 use mari_units::Memory;

@@ -3,7 +3,7 @@ ghost use Rattle.std.specs.Prelude.{◌≡◌, ◌≤◌, ◌+◌, [], length, I
 ghost use Rattle.mari_rows.specs.Books.{book_in, first_failing, GivesBook};
 ghost use Rattle.mari_rows.specs.Checks.{IsRead};
 ghost use Rattle.mari_demands.specs.DemandChecks.{demand_check_name, demand_check_number};
-ghost use Rattle.mari_demands.specs.Demands.{IsDemandBook, demand_checks, demand_columns, demand_grammar, demand_of, mw_in};
+ghost use Rattle.mari_demands.specs.Demands.{IsDemandBook, demand_checks, demand_grammar, demand_of, mw_in};
 
 use crate::runs::RunBook;
 use mari_rows::{

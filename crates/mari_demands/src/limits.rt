@@ -5,7 +5,7 @@ ghost use Rattle.mari_rows.specs.Books.{book_in, first_failing, GivesBook};
 ghost use Rattle.mari_rows.specs.Checks.{IsRead};
 ghost use Rattle.mari_demands.specs.LimitChecks.{limit_check_name, limit_check_number};
 ghost use Rattle.mari_demands.specs.LimitPairs.{limits_in, IsLimitTable};
-ghost use Rattle.mari_demands.specs.Limits.{border_in, leads, limit_columns, limit_grammar, limits_of, name_checks, pair_place};
+ghost use Rattle.mari_demands.specs.Limits.{border_in, leads, limit_grammar, limits_of, name_checks, pair_place};
 
 use crate::runs::RunBook;
 use mari_rows::{BookFault, BookSoFar, FileCheck, LineFault, Row, is_whole, number_of, read_book};

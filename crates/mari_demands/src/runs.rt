@@ -5,7 +5,7 @@ ghost use Rattle.mari_rows.specs.Books.{book_in, first_failing, GivesBook};
 ghost use Rattle.mari_rows.specs.Checks.{IsRead};
 ghost use Rattle.mari_rows.specs.declared.rows.Row.{Row as Line};
 ghost use Rattle.mari_demands.specs.RunChecks.{run_check_name, run_check_number};
-ghost use Rattle.mari_demands.specs.Runs.{IsRunBook, comes_too_late as comes_too_late_in, is_direct as is_direct_in, is_number_below, last_quarter, run_checks, run_columns, run_grammar, run_of};
+ghost use Rattle.mari_demands.specs.Runs.{IsRunBook, comes_too_late as comes_too_late_in, is_direct as is_direct_in, is_number_below, last_quarter, run_checks, run_grammar, run_of};
 
 use mari_rows::{
     BookFault, BookSoFar, FileCheck, LineFault, Row, cents_of, is_first_of, is_whole, number_of,

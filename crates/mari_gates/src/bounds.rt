@@ -1,6 +1,6 @@
 //! How much each order may run at a prefix.
 
-ghost use Rattle.std.specs.Prelude.{◌≡◌, ℕ, ◌<◌, ◌≤◌, length, map, slice_get, IfSome, IfOk};
+ghost use Rattle.std.specs.Prelude.{◌≡◌, ◌<◌, ◌≤◌, length, map, slice_get, IfSome, IfOk};
 ghost use Rattle.std.specs.List.{AllZip};
 ghost use Rattle.mari_market.specs.Market.{IsValid};
 ghost use Rattle.mari_market.specs.Prefix.{bounds_at, IsFeasiblePrefix};

@@ -1,11 +1,10 @@
 //! What a prefix says of each gate: open, closed, or free to be either.
 
-ghost use Rattle.std.specs.Prelude.{◌≡◌, ℕ, ◌<◌, ◌≤◌, length, slice_get, IfSome};
+ghost use Rattle.std.specs.Prelude.{◌≡◌, ◌<◌, ◌≤◌, length, IfSome};
 ghost use Rattle.mari_market.specs.declared.market.Order.{Order};
 ghost use Rattle.mari_market.specs.Bounds.{span_in, gated_span};
-ghost use Rattle.mari_market.specs.Market.{IsValid, IsValidOrder, GateFits};
+ghost use Rattle.mari_market.specs.Market.{IsValid, GateFits};
 ghost use Rattle.mari_market.specs.Prefix.{word_of, undecided, decided, state_of, bounds_at, below_parent, IsFeasiblePrefix};
-ghost use Rattle.mari_gates.specs.Prefixes.{decisions};
 ghost use Rattle.mari_market.specs.Gates.{ParentsEarlier};
 ghost use Rattle.mari_gates.specs.GateTable.{state_in, meaning_of, AreStatesBelow};
 

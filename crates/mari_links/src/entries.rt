@@ -1,5 +1,5 @@
 //! The links of one bid, while they are read.
-ghost use Rattle.std.specs.Prelude.{◌≡◌, false, true, None, Some, [], OnOk, IfOk};
+ghost use Rattle.std.specs.Prelude.{◌≡◌, true, None, Some, [], OnOk, IfOk};
 ghost use Rattle.mari_links.specs.Entries.{with_named};
 
 use crate::lines::LinkKind;

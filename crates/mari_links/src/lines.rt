@@ -1,10 +1,9 @@
 //! What a line says by itself.
-ghost use Rattle.std.specs.Prelude.{◌≡◌, ◌<◌, length, true, false, IfOk, OnOk};
-ghost use Rattle.mari_units.specs.Names.{is_name};
+ghost use Rattle.std.specs.Prelude.{◌≡◌, ◌<◌, length, IfOk, OnOk};
 ghost use Rattle.mari_rows.specs.Books.{first_failing};
 ghost use Rattle.mari_rows.specs.Checks.{IsRead};
 ghost use Rattle.mari_links.specs.LinkChecks.{link_check_number};
-ghost use Rattle.mari_links.specs.Links.{bid_named, kind_named, kind_of as kind_in, least_of_bid as least_in, link_of, name_checks, quarter_of as quarter_in};
+ghost use Rattle.mari_links.specs.Links.{kind_named, kind_of as kind_in, least_of_bid as least_in, link_of, name_checks, quarter_of as quarter_in};
 ghost use Rattle.mari_links.specs.Entries.{some_link};
 
 use crate::links::LinkCheck;

@@ -2,7 +2,7 @@
 ghost use Rattle.std.specs.Prelude.{◌≤◌, length, IfOk};
 ghost use Rattle.mari_rows.specs.Books.{book_in, GivesBook};
 ghost use Rattle.mari_links.specs.LinkChecks.{link_check_name, link_check_number};
-ghost use Rattle.mari_links.specs.Links.{link_columns, link_grammar, said_by, IsLinkBook};
+ghost use Rattle.mari_links.specs.Links.{link_grammar, said_by, IsLinkBook};
 
 use crate::so_far::LinksSoFar;
 use mari_bids::BidBook;

@@ -3,7 +3,7 @@
 //! It is a pass of its own beside `is_feasible` of `mari_welfare`, since bounds and balance of an optimum are settled
 //! by the solver.
 
-ghost use Rattle.std.specs.Prelude.{◌≡◌, ◌↔◌, ◌<◌, ◌≤◌, ℕ, IfSome, IsTrue, MatchOption, length};
+ghost use Rattle.std.specs.Prelude.{◌≡◌, ◌↔◌, ◌<◌, ℕ, IfSome, IsTrue, MatchOption, length};
 ghost use Rattle.std.specs.List.{All, AllZip};
 ghost use Rattle.mari_market.specs.Activation.{runs_gate};
 ghost use Rattle.mari_market.specs.Gates.{KeepsGateRules};

@@ -1,6 +1,6 @@
 //! The pool.
 
-ghost use Rattle.std.specs.Prelude.{◌≡◌, ◌⊎◌, ℕ, ◌+◌, ◌*◌, ◌<◌, ◌≤◌, ◌↔◌, pos, ◌∷◌, [], true, false, max, IsTrue, length, map, slice_get, IfOk, IfErr, OnOk, OnErr, MatchOption, Some};
+ghost use Rattle.std.specs.Prelude.{◌≡◌, ℕ, ◌+◌, ◌*◌, ◌<◌, ◌≤◌, ◌↔◌, pos, ◌∷◌, [], true, false, IsTrue, length, map, slice_get, IfOk, IfErr, OnOk, OnErr, MatchOption, Some};
 ghost use Rattle.mari_core.specs.declared.node.NodeState.TheVariants.{Taken};
 ghost use Rattle.mari_core.specs.Growth.{settling, IsGrowth, MaySettle};
 ghost use Rattle.mari_core.specs.Growth.Entry.{GiveBack};

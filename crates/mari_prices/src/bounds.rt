@@ -1,6 +1,6 @@
 //! The bounds that orders set on their zones' prices.
 
-ghost use Rattle.std.specs.Prelude.{◌≡◌, ◌<◌, ◌≤◌, ℕ, length, IfOk, IsTrue, ◌↔◌};
+ghost use Rattle.std.specs.Prelude.{◌≡◌, ◌<◌, ℕ, length, IfOk, IsTrue, ◌↔◌};
 ghost use Rattle.std.specs.List.{All};
 ghost use Rattle.mari_market.specs.Price.{IsPrice};
 ghost use Rattle.mari_market.specs.Sums.{int_at};

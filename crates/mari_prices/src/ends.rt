@@ -1,6 +1,6 @@
 //! The ends of all zones' intervals, and the chain that shows that there are none.
 
-ghost use Rattle.std.specs.Prelude.{◌≡◌, ◌<◌, ◌≤◌, IsTrue, ◌↔◌, false, None, length, IfOk, IfSome, MatchOption, ◌<ℤ◌, neg_ℤ, Some, ℕ};
+ghost use Rattle.std.specs.Prelude.{◌≡◌, ◌<◌, ◌≤◌, IsTrue, ◌↔◌, false, None, length, IfOk, IfSome, MatchOption, ◌<ℤ◌, neg_ℤ, Some};
 ghost use Rattle.std.specs.List.{All};
 ghost use Rattle.mari_market.specs.Market.{IsValid};
 ghost use Rattle.mari_market.specs.Optimal.{IsFeasible};

@@ -1,6 +1,6 @@
 //! The intervals of consistent prices.
 
-ghost use Rattle.std.specs.Prelude.{◌≡◌, ◌≤◌, ◌<◌, ℕ, List, length, IfOk, OnOk, IfErr};
+ghost use Rattle.std.specs.Prelude.{◌≡◌, ◌≤◌, ◌<◌, List, length, IfOk, OnOk, IfErr};
 ghost use Rattle.std.specs.List.{All};
 ghost use Rattle.mari_market.specs.Conflict.{IsContradiction};
 ghost use Rattle.mari_market.specs.Interval.{AreGreatestPrices, AreLeastPrices};

@@ -1,5 +1,5 @@
 -- The activation in which nothing runs, and what it shows of relaxed optima where no gate is open.
-use Rattle.std.proofs.Common.{◌≡◌, ◌⊎◌, if◌then◌else◌, Bool, true, false, ℕ, zero, suc, ◌==◌, ℤ, pos, ◌*ℤ◌, ◌-ℤ◌, neg_ℤ, ◌≤ℤ◌, List, [], ◌∷◌, length, map, Option, Some, None, slice_get, arith, refl, sym, ap, ◌∙◌}
+use Rattle.std.proofs.Common.{◌≡◌, if◌then◌else◌, Bool, true, false, ℕ, zero, suc, ◌==◌, ℤ, pos, ◌-ℤ◌, ◌≤ℤ◌, List, [], ◌∷◌, length, map, Option, Some, None, slice_get, arith, refl, sym, ◌∙◌}
 use Rattle.std.proofs.lemmas.Int.{ints}
 use Rattle.std.specs.List.{AllZip}
 use Rattle.mari_market.specs.declared.activation.Activation.{Activation}
@@ -9,8 +9,8 @@ use Rattle.mari_market.specs.declared.market.Market.{Market}
 use Rattle.mari_market.specs.declared.market.Order.{Order}
 use Rattle.mari_market.specs.declared.market.Side.{Side}
 use Rattle.mari_market.specs.declared.market.Side.TheVariants.{Inject, Withdraw}
-use Rattle.mari_market.specs.Activation.{IsWithinLimits, carried_out, order_gain, put_into, put_in, gain, welfare_of}
-use Rattle.mari_market.specs.Bounds.{IsWithin, Span, GateState, gated_span, span_in, span_of}
+use Rattle.mari_market.specs.Activation.{IsWithinLimits, carried_out, order_gain, put_into, put_in, gain}
+use Rattle.mari_market.specs.Bounds.{IsWithin, GateState, gated_span, span_in, span_of}
 use Rattle.mari_market.specs.Gates.{group_of, parent_of}
 use Rattle.mari_market.specs.Bounds.GateState.{Open, Closed, Free}
 use Rattle.mari_market.specs.Prefix.{below_parent, bounds_of_word, decided, is_closed, is_taken, opens_in, state_of, state_within, undecided}

@@ -7,7 +7,7 @@ ghost use Rattle.mari_market.specs.Activation.{gate_word_of};
 ghost use Rattle.mari_market.specs.Conflict.{IsConflict, IsContradiction, IsChain, Contradicts, last_of, IsContradictoryChain, IsChainOf};
 ghost use Rattle.mari_market.specs.Along.{LeadsTo};
 ghost use Rattle.mari_market.specs.Consistent.{SetsLowerAt, SetsUpperAt, standing_of};
-ghost use Rattle.mari_market.specs.Market.{IsValid, IsValidOrder};
+ghost use Rattle.mari_market.specs.Market.{IsValid};
 ghost use Rattle.mari_market.specs.Optimal.{IsFeasible};
 ghost use Rattle.mari_market.specs.Prefix.{word_of, IsFeasiblePrefix};
 ghost use Rattle.mari_proofs.specs.Conflicts.{opens_gate, HasDecidedGate, RunsAsDecided, IsOfWord, AreTightPotentials, IsGreatestLower, IsLeastUpper};

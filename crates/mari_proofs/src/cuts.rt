@@ -1,6 +1,6 @@
 //! Cuts: sets of zones that have too much energy, or too little, for any activation to balance.
 
-ghost use Rattle.std.specs.Prelude.{◌≡◌, ◌↔◌, ℕ, ℤ, pos, ◌*◌, ◌+ℤ◌, ◌≤ℤ◌, neg_ℤ, ◌≤◌, ◌<◌, length, IsTrue, IfSome};
+ghost use Rattle.std.specs.Prelude.{◌≡◌, ◌↔◌, ℤ, pos, ◌*◌, ◌≤ℤ◌, neg_ℤ, ◌≤◌, ◌<◌, length, IsTrue};
 ghost use Rattle.std.specs.List.{All};
 ghost use Rattle.mari_market.specs.Bounds.{span_in};
 ghost use Rattle.mari_market.specs.Cut.{is_in, IsCut, CannotBalance};

@@ -1,11 +1,11 @@
 //! The records of a page, one after the other.
-ghost use Rattle.std.specs.Prelude.{◌≡◌, ◌∷◌, [], length, map, IfOk, OnErr, MatchOption};
+ghost use Rattle.std.specs.Prelude.{◌≡◌, ◌∷◌, [], map, IfOk, OnErr, MatchOption};
 ghost use Rattle.std.specs.List.{list_all};
 ghost use Rattle.std.specs.Str.{is_utf8 as is_utf8_of};
 ghost use Rattle.csv.specs.Reading.{error_kind, NotLengths};
 ghost use Rattle.csv.specs.Records.{fields_of};
 ghost use Rattle.mari_rows.specs.Records.{records_in, IsBetweenRecords, ReadsRecord};
-ghost use Rattle.mari_rows.specs.Rows.{fault_of_row, is_header as is_header_of, StatesHeader, StatesNext, StatesRecord};
+ghost use Rattle.mari_rows.specs.Rows.{is_header as is_header_of, StatesHeader, StatesNext, StatesRecord};
 
 use crate::faults::RowFault;
 use crate::field::Field;

@@ -1,7 +1,7 @@
 //! The pieces of a line.
 
 ghost use Rattle.std.specs.Prelude.{◌≡◌, ◌++◌, ◌∷◌, [], OnOk};
-ghost use Rattle.std.specs.Fmt.{decimal, signed_decimal};
+ghost use Rattle.std.specs.Fmt.{signed_decimal};
 ghost use Rattle.mari_units.specs.Numbers.{printed_cents};
 ghost use Rattle.mari_scenario.specs.Pages.{bid, group, operator, provider, zone};
 

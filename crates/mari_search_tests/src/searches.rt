@@ -1,6 +1,5 @@
 //! What searches of small markets come to, on one thread and by several workers.
 
-ghost use Rattle.std.specs.Prelude.{◌≡◌};
 ghost use Rattle.mari_market.specs.Clearing.{Clears, IsBudget, IsWorkerCount};
 ghost use Rattle.mari_market.specs.Market.{IsValid};
 

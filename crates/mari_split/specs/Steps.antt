@@ -16,7 +16,7 @@ use Rattle.mari_split.specs.declared.run.SplitDone.{SplitDone}
 use Rattle.mari_split.specs.declared.split.SplitBlock.{SplitBlock}
 use Rattle.mari_split.specs.declared.split.SplitBlock.TheVariants as split
 use Rattle.mari_split.specs.declared.split.SplitRun.{SplitRun}
-use Rattle.mari_split.specs.Lines.{split_block_text, split_end, split_part_text}
+use Rattle.mari_split.specs.Lines.{split_block_text, split_part_text}
 use Rattle.mari_split.specs.Split.{IsSplitBlock, IsSplitPart, blocks_of}
 use Rattle.mari_units.specs.declared.limits.TheConstants.{MOST_NODES, MOST_ZONES}
 

@@ -1,14 +1,10 @@
 //! One run of a day, cleared island by island.
 
-ghost use Rattle.std.specs.Prelude.{◌≡◌, ◌≤◌, List, IfOk, IfSome, length};
+ghost use Rattle.std.specs.Prelude.{◌≡◌, ◌≤◌, List, IfOk, length};
 ghost use Rattle.mari_market.specs.Clearing.{IsBudget};
-ghost use Rattle.mari_market.specs.Price.{ArePrices};
 ghost use Rattle.mari_remain.specs.Accepted.{IsAccepted};
 ghost use Rattle.mari_progress.specs.After.{run_after};
-ghost use Rattle.mari_progress.specs.Runs.{IsMarketOf, IsRunOf};
 ghost use Rattle.mari_day.specs.Dated.{IsDated};
-ghost use Rattle.mari_islands.specs.Cleared.{ArePublished, IsFirstOfWhole};
-ghost use Rattle.mari_islands.specs.Islands.{AreIslands};
 ghost use Rattle.mari_split.specs.declared.split.SplitBlock.{SplitBlock as PrintedBlock};
 ghost use Rattle.mari_split.specs.Split.{blocks_of};
 ghost use Rattle.mari_split.specs.Steps.{IsSplitDone, IsSplitProgress, SplitFits};

@@ -1,6 +1,6 @@
 //! Numbers and prices as the market files write them.
 
-ghost use Rattle.std.specs.Prelude.{◌≡◌, ◌<◌, ◌+◌, length, take, drop, ℕ, Option, IfSome, pos, neg_ℤ, position, ◌==◌};
+ghost use Rattle.std.specs.Prelude.{◌≡◌, ◌<◌, ◌+◌, length, take, drop, ℕ, Option, IfSome, neg_ℤ, position, ◌==◌};
 ghost use Rattle.mari_units.specs.Numbers.{natural_of, has_minus, without_minus, whole_of, hundredths_of, cents_at, price_of, ranged, saturated, cents_of_parts};
 
 use crate::faults::NumberFault;

@@ -1,10 +1,10 @@
 //! Whether prices are consistent with an activation.
 
-ghost use Rattle.std.specs.Prelude.{◌≡◌, ◌<◌, ◌≤◌, length, ℕ, ◌≤ℤ◌, IsTrue, ◌↔◌};
+ghost use Rattle.std.specs.Prelude.{◌≡◌, ◌<◌, ◌≤◌, length, ◌≤ℤ◌, IsTrue, ◌↔◌};
 ghost use Rattle.std.specs.List.{All, AllZip};
 ghost use Rattle.mari_market.specs.Activation.{HasLengths};
 ghost use Rattle.mari_market.specs.Consistent.{HasRoomBack, HasRoomOn, IsConsistentBorder, IsConsistentOrder, IsConsistentTrade, standing_of};
-ghost use Rattle.mari_market.specs.Market.{IsValid, IsValidBorder, IsValidOrder};
+ghost use Rattle.mari_market.specs.Market.{IsValid, IsValidBorder};
 ghost use Rattle.mari_market.specs.Optimal.{IsConsistent};
 ghost use Rattle.mari_market.specs.Price.{price_at};
 ghost use Rattle.mari_market.specs.Prefix.{opens_in};

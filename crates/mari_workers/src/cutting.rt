@@ -3,7 +3,7 @@
 //! A node that was branched while the incumbent was low may be closed by the welfare that is published in the end. What
 //! stands below it shows nothing more, and whether it is there rests on who found what first.
 
-ghost use Rattle.std.specs.Prelude.{◌≡◌, ◌+◌, ◌<◌, ◌≤◌, ◌++◌, ◌∷◌, [], false, length, pos, reverse, IfOk, IfSome, IsSomeAnd, OnOk};
+ghost use Rattle.std.specs.Prelude.{◌≡◌, ◌+◌, ◌<◌, ◌≤◌, ◌∷◌, [], false, length, pos, reverse, IfOk, IfSome, IsSomeAnd, OnOk};
 ghost use Rattle.mari_gates.specs.Preorder.{left_at, waiting_after};
 ghost use Rattle.mari_market.specs.declared.certificate.TreeItem.TheVariants.{Branch as BranchItem, Leaf as LeafItem};
 ghost use Rattle.mari_market.specs.Market.{IsValid};

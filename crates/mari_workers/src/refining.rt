@@ -1,10 +1,10 @@
 //! From an optimal clearing to the first one: of the gate words of optimal activations the first is published.
 
-ghost use Rattle.std.specs.Prelude.{◌≡◌, ◌≤◌, ◌<◌, ◌++◌, ◌∷◌, [], if◌then◌else◌, false, length, map, reverse, IfOk, IsSomeAnd, OnOk, pos};
+ghost use Rattle.std.specs.Prelude.{◌≡◌, ◌<◌, ◌++◌, ◌∷◌, [], if◌then◌else◌, false, length, map, reverse, IfOk, IsSomeAnd, OnOk};
 ghost use Rattle.mari_core.specs.Preorder.{shape_of};
 ghost use Rattle.mari_market.specs.Clearing.{Clears, IsBudget};
 ghost use Rattle.mari_market.specs.Market.{IsValid};
-ghost use Rattle.mari_market.specs.Prefix.{word_of, IsFeasiblePrefix, IsCleared};
+ghost use Rattle.mari_market.specs.Prefix.{word_of, IsCleared};
 ghost use Rattle.mari_workers.specs.Refine.{ended, ClosesAtClosed, HasNodes, IsAim, IsAtLeaf, IsLastTurn, IsToBranch, IsTreeWalk, IsTurn, MayRefine};
 
 use crate::bounds::BranchBounds;

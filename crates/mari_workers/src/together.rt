@@ -1,7 +1,6 @@
 //! The search of several workers.
 
 ghost use Rattle.std.specs.Prelude.{◌≡◌, ℕ, ◌+◌, ◌-◌, ◌<◌, ◌≤◌, pos, true, false, IfOk, OnOk, slice_index_or, vec_len};
-ghost use Rattle.mari_core.specs.Machine.{IsBest};
 ghost use Rattle.mari_incumbent.specs.Incumbent.{seat_view, IsFresh};
 ghost use Rattle.mari_market.specs.Activation.{gate_word_of};
 ghost use Rattle.mari_market.specs.Clearing.{Clears, IsBudget, IsWorkerCount};

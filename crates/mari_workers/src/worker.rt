@@ -4,7 +4,7 @@ ghost use Rattle.std.specs.Prelude.{◌≡◌, ◌<◌, ◌≤◌, IfOk, IfSome,
 ghost use Rattle.mari_core.specs.Growth.{MaySettle};
 ghost use Rattle.mari_core.specs.Nodes.{new_node};
 ghost use Rattle.mari_incumbent.specs.Incumbent.{IsFresh};
-ghost use Rattle.mari_market.specs.Finding.{IsAttained, IsFinding};
+ghost use Rattle.mari_market.specs.Finding.{IsAttained};
 ghost use Rattle.mari_market.specs.Market.{IsValid};
 ghost use Rattle.mari_market.specs.Prefix.{word_of, IsFeasiblePrefix};
 ghost use Rattle.mari_workers.specs.Alone.{best_in};

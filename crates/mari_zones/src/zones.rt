@@ -4,7 +4,7 @@ ghost use Rattle.mari_units.specs.Names.{is_name};
 ghost use Rattle.mari_rows.specs.Books.{book_in, first_failing, GivesBook};
 ghost use Rattle.mari_rows.specs.Names.{is_among};
 ghost use Rattle.mari_rows.specs.declared.rows.Row.{Row as Line};
-ghost use Rattle.mari_zones.specs.Zones.{IsZoneBook, operator_of, zone_checks, zone_columns, zone_grammar, zone_of, zones_of};
+ghost use Rattle.mari_zones.specs.Zones.{IsZoneBook, operator_of, zone_checks, zone_grammar, zone_of, zones_of};
 ghost use Rattle.mari_zones.specs.ZoneChecks.{zone_check_name, zone_check_number};
 
 use mari_rows::{BookFault, BookSoFar, FileCheck, LineFault, NameIndex, Row, read_book};

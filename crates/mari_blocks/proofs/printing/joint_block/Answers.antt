@@ -1,4 +1,4 @@
-use Rattle.std.proofs.Common.{◌≤◌, ◌∙◌, arith, refl}
+use Rattle.std.proofs.Common.{arith, refl}
 use Rattle.mari_blocks.proofs.JointBlocks.{joint-block}
 use Rattle.mari_blocks.proofs.JointPrices.{is-made}
 use Rattle.mari_blocks.proofs.JointShapes.{shapes}

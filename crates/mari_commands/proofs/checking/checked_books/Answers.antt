@@ -1,6 +1,6 @@
 use Rattle.std.proofs.Common.{inl, inr, refl}
 use Rattle.mari_commands.proofs.Naming.{text-reportable}
-use Rattle.mari_commands.proofs.Stating.{check-no-lines, words-of-text, words-of-verdict}
+use Rattle.mari_commands.proofs.Stating.{check-no-lines, words-of-text}
 use Rattle.mari_commands.proofs.checking.checked_books.Goals as goal
 
 pub returns-in-Err-Fetch-clause-words : goal.returns-in-Err-Fetch-clause-words

@@ -1,4 +1,3 @@
-use Rattle.std.proofs.Common.{◌∙◌}
 use Rattle.mari_commands.proofs.Reporting.{page_reported, page_starved, same_text}
 use Rattle.mari_commands.proofs.saying.say_no_page.Goals as goal
 

@@ -1,4 +1,4 @@
-use Rattle.std.proofs.Common.{◌≡◌, ◌∙◌, ◌+◌, ◌++◌, ◌∷◌, List, ℕ, ap, arith, refl, sym, lt-ltb}
+use Rattle.std.proofs.Common.{◌∙◌, ◌+◌, ◌++◌, ℕ, ap, arith, refl, sym, lt-ltb}
 use Rattle.std.specs.Global.{Vec}
 use Rattle.serde_json.specs.Written.{compact_text}
 use Rattle.mari_feed.proofs.Joined.{all_items, first_item, more_item}

@@ -1,4 +1,4 @@
-use Rattle.std.proofs.Common.{◌≡◌, ◌∙◌, length, subst, sym, arith, ap}
+use Rattle.std.proofs.Common.{subst, sym, arith}
 use Rattle.mari_islands.specs.Uniting.{AreHomes}
 use Rattle.mari_islands.proofs.Placing.{written}
 use Rattle.mari_islands.proofs.firsts.homes_of.Goals as goal

@@ -1,5 +1,5 @@
-use Rattle.std.proofs.Common.{◌≡◌, ◌<◌, List, length, get_or, subst, sym, ap, arith}
-use Rattle.std.specs.Prelude.{Contains, Some, None}
+use Rattle.std.proofs.Common.{◌≡◌, ◌<◌, List, length, get_or, ap, arith}
+use Rattle.std.specs.Prelude.{Some}
 use Rattle.std.proofs.lemmas.List.Elements.{All-contains_itself}
 use Rattle.mari_market.specs.declared.market.Order.{Order}
 use Rattle.mari_islands.proofs.Homes.{homes_done, homes_more, homes_same}

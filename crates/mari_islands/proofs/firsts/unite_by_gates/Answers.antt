@@ -1,4 +1,4 @@
-use Rattle.std.proofs.Common.{◌<◌, ℕ, length, subst, sym, arith, inl, inr}
+use Rattle.std.proofs.Common.{◌<◌, length, subst, sym, arith, inl, inr}
 use Rattle.std.proofs.lemmas.Bool.{cases_eq}
 use Rattle.mari_islands.specs.Uniting.{UnitesGate}
 use Rattle.mari_islands.proofs.Uniting.{gate_stays, stays_on}

@@ -1,10 +1,10 @@
 use Rattle.std.proofs.Common.{◌≡◌, ◌<◌, ◌∙◌, ℕ, List, length, get_or, slice_index, Some, arith, ap, subst, sym}
-use Rattle.std.proofs.lemmas.Option.{none-some, same_Some}
+use Rattle.std.proofs.lemmas.Option.{same_Some}
 use Rattle.mari_market.specs.declared.market.GateInfo.{GateInfo}
 use Rattle.mari_market.specs.Gates.{parent_of}
 use Rattle.mari_islands.specs.Uniting.{AreUnited}
 use Rattle.mari_islands.proofs.Homes.{no_info, parent_is}
-use Rattle.mari_islands.proofs.Uniting.{home_there, mate_joined, mate_there, parent_joined, parent_there, stays_on}
+use Rattle.mari_islands.proofs.Uniting.{home_there, mate_joined, mate_there, parent_joined, parent_there}
 use Rattle.mari_islands.proofs.firsts.unite_gate.Goals as goal
 
 pub unite_joined-requires-clause-zone : goal.unite_joined-requires-clause-zone

@@ -1,6 +1,4 @@
-use Rattle.std.proofs.Common.{◌≡◌, ◌∙◌, get_or, refl, sym, ap}
-use Rattle.std.specs.Option.{option_and_then}
-use Rattle.mari_islands.specs.Lists.{place_in}
+use Rattle.std.proofs.Common.{refl}
 use Rattle.mari_islands.proofs.Homes.{group_is, no_info, parent_is}
 use Rattle.mari_islands.proofs.part.gate_among.Goals as goal
 

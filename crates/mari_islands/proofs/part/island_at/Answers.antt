@@ -1,6 +1,4 @@
-use Rattle.std.proofs.Common.{◌<◌, ◌∙◌, ℕ, List, length, arith, refl, ap, sym, subst}
-use Rattle.std.specs.List.{All}
-use Rattle.mari_market.specs.declared.market.GateInfo.{GateInfo}
+use Rattle.std.proofs.Common.{length, arith, refl}
 use Rattle.mari_islands.specs.Islands.{has_first}
 use Rattle.mari_islands.specs.Part.{is_gate_of, orders_in}
 use Rattle.mari_islands.proofs.Homes.{gates_below}

@@ -1,5 +1,4 @@
-use Rattle.std.proofs.Common.{◌≡◌, List, sym, subst, arith}
-use Rattle.mari_progress.specs.Reported.{heading_of}
+use Rattle.std.proofs.Common.{List, sym, subst, arith}
 use Rattle.mari_progress.proofs.Progressing.{settled-after}
 use Rattle.mari_islands.specs.declared.islands.Island.{Island}
 use Rattle.mari_split.specs.Split.{IsSplitRun, blocks_of}

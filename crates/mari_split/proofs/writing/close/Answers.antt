@@ -1,4 +1,4 @@
-use Rattle.std.proofs.Common.{◌≡◌, ◌∙◌, ℕ, ◌-◌, List, length, sym, arith}
+use Rattle.std.proofs.Common.{◌≡◌, ◌∙◌, ◌-◌, sym, arith}
 use Rattle.std.proofs.lemmas.List.{length-map}
 use Rattle.mari_publish.specs.Lines.{unpublished_in}
 use Rattle.mari_publish.proofs.Counts.{both_kinds}

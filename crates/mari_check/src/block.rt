@@ -27,7 +27,7 @@ use mari_gates::gate_word;
 use mari_market::{Activation, Market, Prices, TreeItem};
 use mari_progress::heading;
 use mari_proofs::{TreeVerdict, check_tree};
-use mari_publish::FullBlock;
+use mari_publish::{FullBlock, Heading};
 use mari_remain::{Books, RunMarket};
 use mari_settle::Ledger;
 use mari_units::{Memory, Quarters};
@@ -50,12 +50,19 @@ pub enum Examined {
     },
 }
 
+/// Whether two headings are the same.
+pub(crate) fn is_same_heading(reported: Heading, other: Heading) -> bool
+    ensures { IsTrue result ↔ (reported ≡ other) }
+{
+    reported == other
+}
+
 /// A fault of the heading or of the names.
 fn naming_fault(books: &Books, run: u32, made: &RunMarket, block: &FullBlock) -> Option<Fault>
     requires { 1 ≤ run }
     ensures { (also : Option (List TheCents)) (budget : Option ℕ) → FindsUpTo (IsFreeOf books.now run made.now also budget block.now) 3 result }
 {
-    if block.heading != heading(books, run) {
+    if !is_same_heading(block.heading, heading(books, run)) {
         return Some(Fault::Heading);
     }
     if !names_market(books, made, block) {

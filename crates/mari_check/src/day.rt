@@ -10,7 +10,7 @@ ghost use Rattle.mari_check.specs.Day.{FillsBudget, IsFreeIn, IsNextHeading};
 ghost use Rattle.mari_check.specs.Faults.{Finds, FindsNumber};
 ghost use Rattle.mari_publish.specs.declared.publication.Block.{Block as PrintedBlock};
 
-use crate::block::{Examined, examine_block};
+use crate::block::{Examined, examine_block, is_same_heading};
 use crate::fault::Fault;
 use mari_progress::{Progress, SettledRun, heading, run_count};
 use mari_publish::{Block, FullBlock, Heading};
@@ -217,13 +217,6 @@ impl DayCheck {
             None => Ok(None),
         }
     }
-}
-
-/// Whether two headings are the same.
-fn is_same_heading(reported: Heading, other: Heading) -> bool
-    ensures { IsTrue result ↔ (reported ≡ other) }
-{
-    reported == other
 }
 
 /// Whether a number of nodes fills the budget, so that two more are above it.

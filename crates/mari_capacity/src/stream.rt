@@ -338,11 +338,17 @@ pub fn value_stream<S: Shelf>(
     let mut stream = ValueStream::start(alloc, books, more)?;
     match shelf.open_page(name) {
         Ok(()) => {}
-        Err(fault) => return unopened(alloc, fault),
+        Err(fault) => {
+            drop(stream);
+            return unopened(alloc, fault);
+        }
     }
     match read_pieces(alloc, books, shelf, &mut stream) {
         Ok(()) => stream.end(alloc),
         Err(ValueStop::At(end)) => Ok(stream.stopped(end)),
-        Err(ValueStop::Memory) => Err(Memory),
+        Err(ValueStop::Memory) => {
+            drop(stream);
+            Err(Memory)
+        }
     }
 }

@@ -1,8 +1,11 @@
 -- Numbers that stand first in a text.
-use Rattle.std.proofs.Common.{◌≡◌, ◌≤◌, ◌<◌, ◌^◌, ◌/◌, ◌%◌, ◌+◌, ◌-◌, ℕ, List, [], ◌∷◌, ◌++◌, length, take, drop, get_or, eqb, pos, Result, Ok, Err, sym, ap, ◌∙◌, refl, arith}
+use Rattle.std.proofs.Common.{◌≡◌, ◌≤◌, ◌<◌, ◌^◌, ◌/◌, ◌%◌, ◌+◌, ◌*◌, ◌-◌, ℕ, true, List, [], ◌∷◌, ◌++◌, length, take, drop, get_or, eqb, pos, Result, Ok, Err, sym, ap, ◌∙◌, refl, arith}
 use Rattle.std.proofs.lemmas.Int.{ints}
 use Rattle.std.specs.List.{slice_split}
-use Rattle.std.proofs.lemmas.List.{append-nil, append_assoc, take_all, take-append-drop, length-take-le, length-drop, get_or-take}
+use Rattle.std.proofs.lemmas.List.{append-nil, append_assoc, take_all, take_more, take-append-drop, length-take-le, length-drop, get_or-take}
+use Rattle.std.proofs.lemmas.List.Folds.{list_all-append}
+use Rattle.std.proofs.lemmas.List.Sums.{fold_push}
+use Rattle.std.specs.Char.{is_ascii_digit}
 use Rattle.std.specs.Fmt.{decimal}
 use Rattle.mari_units.specs.Numbers.{value_of_digits, printed_cents}
 use Rattle.mari_units.specs.Prices.{IsPrice}
@@ -27,6 +30,17 @@ number_then n place text small is digits some le alone =
     let same = digits_are n front small is digits (omega (arith, long, some)) (λ zero. long ∙ alone (sym first ∙ zero)) in
     let rest : length (drop place text) ≤ length text - place = omega (arith, length-drop place text) in
     sym (take-append-drop place text) ∙ ap (λ t. t ++ drop place text) (sym same) ∙ ap (λ t. decimal n ++ t) (sym (take_all (length text - place) (drop place text) rest))
+
+-- a digit after the digits before a place
+pub next_digit : (text : List ℕ) (k n d : ℕ) → k < length text → AreDigits (take k text) × (n ≡ value_of_digits (take k text)) → is_ascii_digit (get_or text k 0) ≡ true → d ≡ get_or text k 0 - 48
+    → AreDigits (take (k + 1) text) × (10 * n + d ≡ value_of_digits (take (k + 1) text))
+next_digit text k n d lt so one is =
+    let b = get_or text k 0 in
+    let more = take_more text k 0 lt in
+    let all : AreDigits (take k text ++ b ∷ []) = list_all-append is_ascii_digit (take k text) (b ∷ []) ∙ rw (so.0, one) refl in
+    let step : 10 * n + d ≡ 10 * value_of_digits (take k text) + (b - 48) = omega (arith, so.1, is) in
+    let value : 10 * n + d ≡ value_of_digits (take k text ++ b ∷ []) = step ∙ sym (fold_push (λ m c. 10 * m + (c - 48)) 0 (take k text) b) in
+    (rw more all, rw more value)
 
 -- a whole number, a point and two digits after it
 pub hundredths_then : (n whole tenths ones : ℕ) (text pointed after : List ℕ) → text ≡ decimal whole ++ pointed → pointed ≡ 46 ∷ tenths ∷ ones ∷ after

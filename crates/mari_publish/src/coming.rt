@@ -99,7 +99,8 @@ pub fn next_part(alloc: Global, coming: &mut Coming) -> Result<Option<Part>, Tex
     }
 }
 
-/// Forgets the bytes of handled lines, and those of a line that is too long: no more than `MOST_LINE` bytes stay.
+/// Forgets the bytes of handled lines once they are more than `MOST_LINE`, so that those after them are seldom moved,
+/// and those of a line that is too long: no more than `MOST_LINE` bytes stay after the handled ones.
 pub fn forget(coming: &mut Coming)
     requires handled { coming.old.handled ≤ vec_len coming.old.bytes }
     requires no_line { HasNoLine (come_of coming.old) }
@@ -109,11 +110,12 @@ pub fn forget(coming: &mut Coming)
     ensures few { KeepsFew (come_of coming.new) }
 {
     let handled = coming.handled;
-    coming.handled = 0;
     if coming.bytes.len() - handled > MOST_LINE {
+        coming.handled = 0;
         coming.ahead = Ahead::TooLong;
         coming.bytes.clear();
-    } else {
+    } else if handled > MOST_LINE {
+        coming.handled = 0;
         drop(coming.bytes.drain(..handled));
     }
 }

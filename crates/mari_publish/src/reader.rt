@@ -17,8 +17,9 @@ use std::alloc::Global;
 use std::marker::Model;
 
 /// A text that comes in pieces. The reader keeps what has come of the part that is being read, and the bytes after
-/// the lines that are handled: neither the text nor the parts that were given. Where `next` finds no further part and
-/// more than `MOST_LINE` bytes of a line have come, it keeps of them only that the line is too long.
+/// the lines that are handled: neither the text nor the parts that were given. Where `next` finds no further part, it
+/// keeps at most `MOST_LINE` bytes of handled lines, and where more than `MOST_LINE` bytes of a line have come, of them
+/// only that the line is too long.
 #[derive(Drop)]
 pub struct TextReader {
     coming: Coming,

@@ -30,8 +30,9 @@ fn list_for<T>(alloc: Global, words: &Words<'_>, most: usize) -> Result<Vec<T>, 
 pub fn read_prices(alloc: Global, words: &mut Words<'_>) -> Result<Items<Cents>, FormFault>
     ensures { Reads (Listed 1 MOST_ZONES IsCapped) (map price_text) words.old result }
 {
-    let mut prices = list_for(alloc, words, MOST_ZONES)?;
-    while let Some(price) = words.next_price() {
+    let mut left = words.take_all();
+    let mut prices = list_for(alloc, &left, MOST_ZONES)?;
+    while let Some(price) = left.next_price() {
         if prices.len() >= MOST_ZONES {
             return Err(FormFault::Formless);
         }
@@ -48,8 +49,9 @@ pub fn read_prices(alloc: Global, words: &mut Words<'_>) -> Result<Items<Cents>,
 pub fn read_flows(alloc: Global, words: &mut Words<'_>) -> Result<Items<i64>, FormFault>
     ensures { Reads (Listed 0 MOST_BORDERS (λ flow. Within MOST_FLOW flow)) (map signed_decimal) words.old result }
 {
-    let mut flows = list_for(alloc, words, MOST_BORDERS)?;
-    while let Some(word) = words.next_word() {
+    let mut left = words.take_all();
+    let mut flows = list_for(alloc, &left, MOST_BORDERS)?;
+    while let Some(word) = left.next_word() {
         if flows.len() >= MOST_BORDERS {
             return Err(FormFault::Formless);
         }
@@ -63,8 +65,9 @@ pub fn read_flows(alloc: Global, words: &mut Words<'_>) -> Result<Items<i64>, Fo
 pub fn read_mws(alloc: Global, words: &mut Words<'_>) -> Result<Items<u32>, FormFault>
     ensures { Reads (Listed 0 MOST_ORDERS (λ mw. mw ≤ MOST_MW)) (map decimal) words.old result }
 {
-    let mut mws = list_for(alloc, words, MOST_ORDERS)?;
-    while let Some(mw) = words.next_number(MOST_MW) {
+    let mut left = words.take_all();
+    let mut mws = list_for(alloc, &left, MOST_ORDERS)?;
+    while let Some(mw) = left.next_number(MOST_MW) {
         if mws.len() >= MOST_ORDERS {
             return Err(FormFault::Formless);
         }
@@ -78,8 +81,9 @@ pub fn read_mws(alloc: Global, words: &mut Words<'_>) -> Result<Items<u32>, Form
 pub fn read_zones(alloc: Global, words: &mut Words<'_>) -> Result<Items<u32>, FormFault>
     ensures { Reads (Listed 1 MOST_ZONES IsZone) (map zone_text) words.old result }
 {
-    let mut zones = list_for(alloc, words, MOST_ZONES)?;
-    while let Some(word) = words.next_word() {
+    let mut left = words.take_all();
+    let mut zones = list_for(alloc, &left, MOST_ZONES)?;
+    while let Some(word) = left.next_word() {
         if zones.len() >= MOST_ZONES {
             return Err(FormFault::Formless);
         }

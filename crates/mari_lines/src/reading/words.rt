@@ -89,6 +89,16 @@ impl<'a> Words<'a> {
         }
     }
 
+    /// Takes the words that are left.
+    pub fn take_all(&mut self) -> Words<'a>
+        ensures taken { result ≡ self.old }
+        ensures left { self.new ≡ [] }
+    {
+        Words {
+            rest: self.rest.take(),
+        }
+    }
+
     /// Takes the next word.
     pub fn next_word(&mut self) -> Option<&'a [u8]>
         ensures { MatchOption result ((self.old ≡ []) × (self.new ≡ [])) (λ word. self.old ≡ word.now ∷ self.new) }

@@ -6,7 +6,7 @@ use Rattle.mari_lines.proofs.reading.lists.read_flows.Given as goal
 
 -- those so far were gathered from the words so far
 abbrev pub invariant-loop-word : goal.invariant-loop-word
-invariant-loop-word l = Begun (λ flow. Within 199998 flow) signed_decimal 256 l.flows.items l.words l.fn.words
+invariant-loop-word l = Begun (λ flow. Within 199998 flow) signed_decimal 256 l.flows.items l.left l.fn.words
 
 abbrev pub decreases-loop-word : goal.decreases-loop-word
-decreases-loop-word l = length l.words
+decreases-loop-word l = length l.left

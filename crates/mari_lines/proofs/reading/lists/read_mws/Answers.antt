@@ -8,5 +8,5 @@ use Rattle.mari_lines.proofs.reading.lists.read_mws.Goals as goal
 pub returns-in_err-mw : goal.returns-in_err-mw
 returns-in_err-mw c =
     let read = c.in-Some.ensures in
-    begun_unread (λ mw. mw ≤ 99999) decimal 0 4608 c.loop-mw.mws.items read.0 c.loop-mw.words c.next_number.new.self c.args.words.now _ c.from_residual-in_err-mw.result c.loop-mw.invariant read.1
+    begun_unread (λ mw. mw ≤ 99999) decimal 0 4608 c.loop-mw.mws.items read.0 c.loop-mw.left c.next_number.new.self c.args.words.now _ c.from_residual-in_err-mw.result c.loop-mw.invariant read.1
     (subst (λ r. Reads (λ mw. mw ≤ 99999) decimal read.0 r) c.in_err-mw.was read.2) (err_from_is_err_and c.from_residual-in_err-mw.result c.from_residual-in_err-mw.ensures.1)

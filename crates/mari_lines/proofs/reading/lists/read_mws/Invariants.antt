@@ -6,7 +6,7 @@ use Rattle.mari_lines.proofs.reading.lists.read_mws.Given as goal
 
 -- those so far were gathered from the words so far
 abbrev pub invariant-loop-mw : goal.invariant-loop-mw
-invariant-loop-mw l = Begun (λ mw. mw ≤ 99999) decimal 4608 l.mws.items l.words l.fn.words
+invariant-loop-mw l = Begun (λ mw. mw ≤ 99999) decimal 4608 l.mws.items l.left l.fn.words
 
 abbrev pub decreases-loop-mw : goal.decreases-loop-mw
-decreases-loop-mw l = length l.words
+decreases-loop-mw l = length l.left

@@ -6,7 +6,7 @@ use Rattle.mari_lines.proofs.reading.lists.read_prices.Given as goal
 
 -- those so far were gathered from the words so far
 abbrev pub invariant-loop-price : goal.invariant-loop-price
-invariant-loop-price l = Begun IsCapped price_text 64 l.prices.items l.words l.fn.words
+invariant-loop-price l = Begun IsCapped price_text 64 l.prices.items l.left l.fn.words
 
 abbrev pub decreases-loop-price : goal.decreases-loop-price
-decreases-loop-price l = length l.words
+decreases-loop-price l = length l.left

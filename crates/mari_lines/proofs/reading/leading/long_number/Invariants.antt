@@ -1,7 +1,7 @@
 use Rattle.std.proofs.Common.{◌≡◌, ◌≤◌, take}
 use Rattle.mari_units.specs.Numbers.{value_of_digits}
 use Rattle.mari_units.proofs.Digits.{AreDigits}
-use Rattle.mari_lines.proofs.reading.leading.leading_number.Given as goal
+use Rattle.mari_lines.proofs.reading.leading.long_number.Given as goal
 
 -- the number of the digits so far, which is not too great
 abbrev pub invariant-loop-i : goal.invariant-loop-i

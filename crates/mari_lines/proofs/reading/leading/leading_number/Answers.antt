@@ -1,7 +1,0 @@
-use Rattle.mari_lines.proofs.reading.leading.leading_number.Goals as goal
-
-pub returns-then-not-is_ascii_digit : goal.returns-then-not-is_ascii_digit
-returns-then-not-is_ascii_digit c = c.number_before.ensures c.args.greatest c.loop-i.invariant.low
-
-pub returns : goal.returns
-returns c = c.number_before-2.ensures c.args.greatest c.loop-i.invariant.low

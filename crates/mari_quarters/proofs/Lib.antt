@@ -1,3 +1,4 @@
 mod Checking
+mod Fetched
 mod Passing
 pub mod Facts

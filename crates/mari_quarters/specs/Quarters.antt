@@ -1,8 +1,8 @@
 -- What the pages of a folder give where some of its quarters are cleared as one market: the text that is printed, the
 -- first refusal, or the first page that can't be had.
-use Rattle.std.specs.Prelude.{ℕ, ◌≡◌, Bool, List, Option, Some, None, Result, Ok, Err, ◌⊎◌, ⊤}
+use Rattle.std.specs.Prelude.{ℕ, ◌≡◌, ◌+◌, Bool, List, Option, Some, None, Result, Ok, Err, ◌⊎◌, min, ⊤}
 use Rattle.mari_units.specs.declared.faults.Refusal.{Refusal}
-use Rattle.mari_io.specs.Outside.{Pages, page_of}
+use Rattle.mari_io.specs.Outside.{Pages, counted_by, page_of}
 use Rattle.mari_io.specs.declared.shelf.Fetch.TheVariants as fetch
 use Rattle.mari_rows.specs.Books.{book_in}
 use Rattle.mari_rows.specs.Checks.{row_check_number}
@@ -10,6 +10,7 @@ use Rattle.mari_rows.specs.declared.checks.RowCheck.{RowCheck}
 use Rattle.mari_rows.specs.declared.faults.BookFault.{BookFault}
 use Rattle.mari_rows.specs.declared.faults.BookFault.TheVariants as refused
 use Rattle.mari_remain.specs.declared.books.Books.{Books}
+use Rattle.mari_day.specs.Fetching.{HasFiles, SomeFetched}
 use Rattle.mari_day.specs.Files.{Gap, IsFileNumber, file_named, gap_of, path_in}
 use Rattle.mari_day.specs.Files.Gap.{NotHeld, OverLimit}
 use Rattle.mari_day.specs.Reading.{HasBooks, HasGap, HasRefusal}
@@ -103,3 +104,17 @@ RefusesQuartersByCheck (Ok x) = ⊤
 RefusesQuartersByCheck (Err (why.Fetch number f)) = ⊤
 RefusesQuartersByCheck (Err (why.Refused refusal)) = IsQuartersCheck refusal
 RefusesQuartersByCheck (Err why.Memory) = ⊤
+
+-- how many fetches clearing the quarters takes of a folder of `count` market files: one for each of them, and one for
+-- blocks.csv once they are read; and where a page can't be had, one for it and each before it
+abbrev pub FetchesText : (count before now : ℕ) → Result JointText BooksFault → Type 0
+FetchesText count before now (Ok printed) = now ≡ counted_by (count + 1) before
+FetchesText count before now (Err (why.Fetch number f)) = (IsFileNumber number × (now ≡ counted_by (min number 8) before)) ⊎ ((number ≡ BLOCKS) × (now ≡ counted_by (count + 1) before))
+FetchesText count before now (Err (why.Refused refusal)) = (IsFileNumber refusal.file × (now ≡ counted_by count before)) ⊎ (now ≡ counted_by (count + 1) before)
+FetchesText count before now (Err why.Memory) = SomeFetched (count + 1) before now
+
+-- how many fetches clearing the quarters of a folder takes
+pub record FetchesQuarters (pages : Option Pages) (folder : List ℕ) (before now : ℕ) (result : Result JointText BooksFault) : Type 0 where
+  pub count : ℕ
+  pub files : HasFiles pages folder count
+  pub fetched : FetchesText count before now result

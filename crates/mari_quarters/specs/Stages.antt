@@ -1,7 +1,8 @@
 -- What each stage after the reading of the market files gives: the page of blocks.csv, the book of blocks, the text.
-use Rattle.std.specs.Prelude.{ℕ, ◌≡◌, List, Option, Some, None, Result, Ok, Err, ⊤}
+use Rattle.std.specs.Prelude.{ℕ, ◌≡◌, ◌⊎◌, List, Option, Some, None, Result, Ok, Err, ⊤}
 use Rattle.mari_io.specs.declared.shelf.Fetch.{Fetch}
 use Rattle.mari_io.specs.declared.shelf.Fetch.TheVariants as fetch
+use Rattle.mari_io.specs.Outside.{counted}
 use Rattle.mari_rows.specs.declared.faults.BookFault.{BookFault}
 use Rattle.mari_rows.specs.declared.faults.BookFault.TheVariants as refused
 use Rattle.mari_remain.specs.declared.books.Books.{Books}
@@ -28,6 +29,13 @@ PageStates page (Ok bytes) = (page ≡ Some bytes) × (gap_of page ≡ None)
 PageStates page (Err (why.Fetch number fault)) = FaultStates page fault
 PageStates page (Err (why.Refused refusal)) = ⊥
 PageStates page (Err why.Memory) = ⊤
+
+-- how many fetches the page of blocks.csv takes: one, and out of memory one at most
+abbrev pub FetchesOne : {T : Type 0} → (before now : ℕ) → Result T BooksFault → Type 0
+FetchesOne before now (Ok bytes) = now ≡ counted before
+FetchesOne before now (Err (why.Fetch number fault)) = now ≡ counted before
+FetchesOne before now (Err (why.Refused refusal)) = ⊥
+FetchesOne before now (Err why.Memory) = (now ≡ before) ⊎ (now ≡ counted before)
 
 -- a fetch that gave no page was one of blocks.csv
 abbrev pub IsOfBlocks : {T : Type 0} → Result T BooksFault → Type 0

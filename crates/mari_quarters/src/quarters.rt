@@ -9,8 +9,8 @@ ghost use Rattle.mari_market.specs.Clearing.{IsBudget};
 ghost use Rattle.mari_remain.specs.Accepted.{IsAccepted};
 ghost use Rattle.mari_day.specs.Reading.{IsFetchFault};
 ghost use Rattle.mari_blocks.specs.Blocks.{IsBlockBook};
-ghost use Rattle.mari_quarters.specs.Quarters.{HasPage, NamesQuartersFile, QuartersReport, RefusesQuartersByCheck, blocks_in, blocks_page};
-ghost use Rattle.mari_quarters.specs.Stages.{ClearsQuarters, IsOfBlocks, PageStates, ReadsBlocks};
+ghost use Rattle.mari_quarters.specs.Quarters.{FetchesQuarters, HasPage, NamesQuartersFile, QuartersReport, RefusesQuartersByCheck, blocks_in, blocks_page};
+ghost use Rattle.mari_quarters.specs.Stages.{ClearsQuarters, FetchesOne, IsOfBlocks, PageStates, ReadsBlocks};
 
 use mari_blocks::{BlockBook, JointFault, JointText, clear_joint};
 use mari_day::{BLOCKS, BooksFault, file_name, path_in, read_books};
@@ -29,6 +29,7 @@ fn fetch_blocks<S: Shelf>(
 ) -> Result<Items<u8>, BooksFault>
     ensures same { S.pages shelf.new ≡ S.pages shelf.old }
     ensures small { IfOk result (λ page. length page ≤ MOST_PAGE) }
+    ensures fetched { FetchesOne (S.fetches shelf.old) (S.fetches shelf.new) result }
 
     // What it says of the page, where pages are reported.
     ensures reported { (reported : Pages) → S.pages shelf.old ≡ Some reported → PageStates (blocks_page reported folder.now) result }
@@ -163,6 +164,9 @@ pub fn clear_quarters<S: Shelf, C: Clearer>(
     // What is found of the folder's pages, where the shelf reports them.
     ensures same { S.pages shelf.new ≡ S.pages shelf.old }
     ensures reported { (reported : Pages) → S.pages shelf.old ≡ Some reported → QuartersReport reported folder.now first last budget result }
+
+    // As many fetches are counted as there are files, up to the first whose page can't be had; blocks.csv is the last.
+    ensures fetched { FetchesQuarters (S.pages shelf.old) folder.now (S.fetches shelf.old) (S.fetches shelf.new) result }
 
     // Why there is no text. A refusal is by a check of its file. Out of memory in a fetch is reported as out of memory.
     ensures file { NamesQuartersFile result }

@@ -1,6 +1,6 @@
 //! Reading a line.
 
-ghost use Rattle.std.specs.Prelude.{◌≡◌, ◌∷◌, []};
+ghost use Rattle.std.specs.Prelude.{◌≡◌};
 ghost use Rattle.mari_lines.specs.Ranges.{InRange, IsMoneyLine, IsAmountLine};
 ghost use Rattle.mari_lines.specs.Spelling.{fields, money_fields, amount_fields, spelling, keyword_of as keyword_of_line};
 ghost use Rattle.mari_lines.specs.Reading.{Reads};

@@ -1,7 +1,7 @@
 //! Writing a line: each kind of line, as it is spelled.
 #![tactic(auto, unfolding(crate::specs::Spelling::spelling))]
 
-ghost use Rattle.std.specs.Prelude.{◌≡◌, ◌++◌, ◌∷◌, ◌≤◌, ◌^◌, OnOk, codes};
+ghost use Rattle.std.specs.Prelude.{◌≡◌, ◌++◌, ◌∷◌, OnOk, codes};
 ghost use Rattle.mari_lines.specs.Ranges.{IsMoney, IsMoneyLine, IsAmountLine};
 ghost use Rattle.mari_lines.specs.Spelling.{line_text, spaced, money_fields, amount_fields, heading_fields, kind_text};
 ghost use Rattle.mari_lines.specs.declared.line.Line.TheVariants as line;

@@ -1,7 +1,7 @@
 //! Each kind of line of a certificate tree, as it is spelled.
 #![tactic(auto, unfolding(crate::specs::Spelling::spelling))]
 
-ghost use Rattle.std.specs.Prelude.{◌≡◌, ◌++◌, ◌<◌, ◌≤◌, ◌+◌, ◌^◌, OnOk, map};
+ghost use Rattle.std.specs.Prelude.{◌≡◌, ◌++◌, ◌<◌, ◌+◌, OnOk, map};
 ghost use Rattle.std.specs.Fmt.{decimal, signed_decimal};
 ghost use Rattle.mari_lines.specs.Spelling.{spaced, price_text, zone_text, side_text, line_text};
 ghost use Rattle.mari_lines.specs.declared.line.Line.TheVariants as line;

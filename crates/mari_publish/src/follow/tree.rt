@@ -1,6 +1,6 @@
 //! The tree of a block is open.
 
-ghost use Rattle.std.specs.Prelude.{◌≡◌, ◌<◌, ℕ, length, nat_lt, if◌then◌else◌, Some, None, IsOk};
+ghost use Rattle.std.specs.Prelude.{◌≡◌, ◌<◌, length, nat_lt, if◌then◌else◌, Some, None};
 ghost use Rattle.mari_publish.specs.Order.{after, after_growing, with_item, with_pending, conflict_item, kept_with, Steps, Follows};
 ghost use Rattle.mari_lines.specs.declared.line.MoneyLine.{MoneyLine as MoneyLineValue};
 ghost use Rattle.mari_publish.specs.declared.held.Growing.{Growing as GrowingValue};

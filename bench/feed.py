@@ -5,9 +5,10 @@ usage: python3 bench/feed.py [PROGRAM] [MEGABYTES]
 
 PROGRAM is the built program, by default crates/mari_app/out/mari_app; the publications have about MEGABYTES, by default
 1,000. The first has runs of 64 zones and 4,096 bids with trees of bounds; the second is one block whose tree has 25,000
-conflicts of 4,608 orders, which is the greatest that a text may hold but for its last few lines. Prints the bytes read
-and printed, seconds, processor seconds, MB read in a processor second, and the peak memory. It is no test: nothing
-fails where a machine is slow or busy.
+conflicts of 4,608 orders, which is the greatest that a text may hold but for its last few lines. Each is printed twice,
+into a pipe, where the bytes are counted, and into /dev/null, where nothing but the program works. Prints the bytes read
+and printed, and of each way the seconds, the processor seconds, the MB read in a processor second, and the peak memory.
+It is no test: nothing fails where a machine is slow or busy.
 """
 
 import os
@@ -66,23 +67,32 @@ def one_block(path):
         text.write(TOTALS + "done 1 0\n")
 
 
+def printed_bytes(stream):
+    """How many bytes come, up to the end."""
+    count = 0
+    while piece := stream.read(1 << 20):
+        count += len(piece)
+    return count
+
+
 def measure(program, name, folder):
-    """Prints a row for one folder."""
+    """Prints a row for each way of one folder."""
     size = (folder / "publication.txt").stat().st_size
-    started = time.monotonic()
-    with subprocess.Popen([program, "feed", str(folder)], stdout=subprocess.PIPE) as running:
-        count = 0
-        while piece := running.stdout.read(1 << 20):
-            count += len(piece)
-        _, status, used = os.wait4(running.pid, 0)
-        running.returncode = os.waitstatus_to_exitcode(status)
-    seconds = time.monotonic() - started
-    processor = used.ru_utime + used.ru_stime
-    print(
-        f"| {name} | {running.returncode} | {size:,} | {count:,} | {seconds:.1f} | {processor:.1f} "
-        f"| {size / processor / 1e6:.0f} | {used.ru_maxrss / 1000:.0f} |",
-        flush=True,
-    )
+    count = 0
+    for way, output in (("a pipe", subprocess.PIPE), ("/dev/null", subprocess.DEVNULL)):
+        started = time.monotonic()
+        with subprocess.Popen([program, "feed", str(folder)], stdout=output) as running:
+            if running.stdout:
+                count = printed_bytes(running.stdout)
+            _, status, used = os.wait4(running.pid, 0)
+            running.returncode = os.waitstatus_to_exitcode(status)
+        seconds = time.monotonic() - started
+        processor = used.ru_utime + used.ru_stime
+        print(
+            f"| {name} | {way} | {running.returncode} | {size:,} | {count:,} | {seconds:.1f} | {processor:.1f} "
+            f"| {size / processor / 1e6:.0f} | {used.ru_maxrss / 1000:.0f} |",
+            flush=True,
+        )
 
 
 def main():
@@ -90,8 +100,8 @@ def main():
     sizes = [int(word) for word in sys.argv[1:] if word.isdigit()]
     program = words[0] if words else str(TOP / "crates/mari_app/out/mari_app")
     size = (sizes[0] if sizes else 1000) * 1_000_000
-    print("| publication | exit code | bytes read | bytes printed | s | processor s | MB a processor s | peak MB |")
-    print("|---|---|---|---|---|---|---|---|")
+    print("| publication | into | exit code | bytes read | bytes printed | s | processor s | MB a processor s | peak MB |")
+    print("|---|---|---|---|---|---|---|---|---|")
     with tempfile.TemporaryDirectory(prefix="mari-feed-") as room:
         folder = pathlib.Path(room)
         many_runs(folder / "publication.txt", size)

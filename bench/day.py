@@ -4,7 +4,7 @@
 usage: python3 bench/day.py [PROGRAM]
 
 PROGRAM is the built program, by default crates/mari_app/out/mari_app. Each folder has eight zones, ten borders and
-plain bids; it is cleared by one worker, three times, and the least time is told. It is no test: nothing fails where a
+plain bids; it is cleared by one worker, three times, and the least time is printed. It is no test: nothing fails where a
 machine is slow or busy.
 """
 

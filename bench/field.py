@@ -7,7 +7,7 @@ PROGRAM is the built program, by default crates/mari_app/out/mari_app. On Debian
     apt-get update; apt-get install -y liblemon-dev g++ coinor-cbc glpk-utils lp-solve python3-scipy valgrind
 bench/lemon.cpp is built first, and a solver that isn't installed is left out; without valgrind so are the counts of
 instructions. The commands run one after the other, one thread each, and the least processor time of the repeats is
-told. A solver has the seconds for each run, 20 without the option; a dash says that it didn't end. It is no test:
+printed. A solver has the seconds for each run, 20 without the option; a dash says that it didn't end. It is no test:
 nothing fails where a machine is slow, but an answer that differs stops it.
 """
 
@@ -119,7 +119,7 @@ class Bench:
 
 
 def agree(name, found, wanted):
-    """Stops where an answer differs from ours. (A solver of floating numbers may be off; that is told, and no stop.)"""
+    """Stops where an answer differs from ours. (A solver of floating numbers may be off; that is printed, and no stop.)"""
     if found != wanted:
         raise SystemExit(f"field: on {name} one finds {found}, and mari {wanted}")
 

@@ -4,7 +4,7 @@
 usage: python3 bench/value.py [PROGRAM]
 
 PROGRAM is the built program, by default crates/mari_app/out/mari_app. Each day has runs of 1,000 bids over 40 zones and
-60 borders, is cleared by one worker, and is then checked and valued by 10 MW, three times; the least time is told. Days
+60 borders, is cleared by one worker, and is then checked and valued by 10 MW, three times; the least time is printed. Days
 are measured as `folders.py` makes them, where few borders are full, and with borders that carry a twentieth and nothing
 of that. How many limits have a rise is counted in the lines that are printed: only these are solved. It is no test:
 nothing fails where a machine is slow or busy.

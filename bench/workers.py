@@ -7,7 +7,7 @@ PROGRAM is the built program, by default crates/mari_app/out/mari_app. With `pai
 like its first, the fourth like its third and so on: then many activations are as good as the best, the tree is ten
 times as large, and it is cut back and refined twice. It prints a table: for each number of workers the best and the
 median wall time of all repeats, and the ratio of the best to that of one worker. It is no test: nothing fails where a
-machine is slow or busy, and the load average is told beside the times.
+machine is slow or busy, and the load average is printed beside the times.
 """
 
 import os

@@ -11,7 +11,7 @@ use Rattle.mari_capacity.specs.declared.worth.BorderWorth.{BorderWorth}
 use Rattle.mari_capacity.specs.Lines.{opening_line, run_lines, unpublished_line}
 use Rattle.mari_capacity.specs.Worth.{AreWorths}
 
--- the lines state what `more` MW on each limit are worth in each of these blocks, in the market after those before it:
+-- the lines state what limits raised by `more` MW are worth in each of these blocks, in the market after those before it:
 -- the first line, and after it the lines of one block after the other
 pub data IsValueText (books : Books) (more : ℕ) : List Block → List ℕ → Type 0 where
   Opened : IsValueText books more [] (opening_line more)

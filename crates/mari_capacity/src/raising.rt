@@ -19,7 +19,7 @@ pub struct Raise {
     pub more: u32,
 }
 
-/// A limit with `more` MW, and at most the greatest that a run may have.
+/// A limit that is raised by `more` MW, to at most the greatest that a run may have.
 fn raised_limit(limit: u32, more: u32) -> u32
     requires limit { limit ≤ MOST_FLOW }
     requires more { more ≤ MOST_RAISE }

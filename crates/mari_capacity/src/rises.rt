@@ -35,8 +35,8 @@ fn earned(gap: i128, more: u32) -> i128
     i128::from(more) * gap.max(0)
 }
 
-/// The most that `more` MW on one limit of a border bring at these prices, in quarter-cents: for each MW the price at
-/// the far end less the price at the near end, and nothing where that is negative. Forth the near end is the
+/// The most that one limit of a border raised by `more` MW brings at these prices, in quarter-cents: for each MW the
+/// price at the far end less the price at the near end, and nothing where that is negative. Forth the near end is the
 /// border's first zone, and back its second.
 ///
 /// Where the prices are consistent with an activation of a market, nothing of its gate word is worth more in the market

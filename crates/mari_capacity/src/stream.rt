@@ -301,8 +301,8 @@ fn read_pieces<S: Shelf>(
     }
 }
 
-/// What `more` MW on each border are worth in each published run of the publication whose text is the page of
-/// that name, which is read in pieces. Each block is checked before its line is made. The valuing ends at the first
+/// What each border's limits raised by `more` MW are worth in each published run of the publication whose text is the
+/// page of that name, which is read in pieces. Each block is checked before its line is made. The valuing ends at the first
 /// fault: one of the check stands where its head or its block ends, and one that the end of a publication shows stands
 /// after every fault of the text.
 ///

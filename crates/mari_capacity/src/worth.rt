@@ -85,7 +85,7 @@ fn worth_of(
     })
 }
 
-/// What `more` MW on a border are worth, forth and back.
+/// What the limits of a border raised by `more` MW are worth, forth and back.
 fn border_worth(
     alloc: Global,
     market: &Market,
@@ -115,7 +115,7 @@ fn border_worth(
     })
 }
 
-/// What `more` MW on each border are worth.
+/// What each border's limits raised by `more` MW are worth.
 fn border_worths(
     alloc: Global,
     market: &Market,
@@ -135,7 +135,7 @@ fn border_worths(
     Ok(worths)
 }
 
-/// What `more` MW on each border of a market are worth for the gates of its published block.
+/// What each border's limits raised by `more` MW are worth in a market, for the gates of its published block.
 pub(crate) fn worths_of(
     alloc: Global,
     market: &Market,

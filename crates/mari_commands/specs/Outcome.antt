@@ -129,7 +129,7 @@ day_status end.WriteFault = status.WriteFault
 day_status end.Memory = status.Memory
 
 -- how a text is reported with a status: it is printed whole; or a write failed, and a first part of it was taken; or
--- it ran out of memory, and nothing was taken
+-- memory ran out, and nothing was taken
 pub data Reports (text : List ℕ) (wanted : Status) (before after : Option (List ℕ)) (result : Status) : Type 0 where
   Printed : result ≡ wanted → after ≡ then_took before text → Reports text wanted before after result
   CutOff : result ≡ status.WriteFault → TookPart before after text → Reports text wanted before after result

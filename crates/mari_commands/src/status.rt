@@ -10,9 +10,9 @@ use std::process::ExitCode;
 /// How the program ended.
 #[derive(Clone, Copy, Debug, PartialEq, Eq)]
 pub enum Status {
-    /// All is printed, and each run of a day, or the joint market, is published.
+    /// All is printed; where a day or a joint market was cleared, each run, or it, is published.
     Done,
-    /// The day or the joint market is printed, and a run of it, or it, isn't published.
+    /// A day with a run that isn't published is printed, or a joint market that isn't.
     Unpublished,
     /// The words are no command.
     Usage,
@@ -51,7 +51,7 @@ impl Status {
         }
     }
 
-    /// The same, as the process ends with it.
+    /// The code as the process's own.
     pub fn exit_code(&self) -> ExitCode
         ensures { exit_status result ≡ code_of self.now }
     {

@@ -1,5 +1,5 @@
 -- What a stage says passes to the whole.
-use Rattle.std.proofs.Common.{◌≡◌, inl, ℕ, List, Option, None, Result, Ok, Err, refl, subst, sym}
+use Rattle.std.proofs.Common.{◌≡◌, inl, inr, ℕ, List, Option, None, Result, Ok, Err, refl, subst, sym}
 use Rattle.mari_units.specs.declared.faults.Refusal.{Refusal}
 use Rattle.mari_io.specs.Outside.{Pages}
 use Rattle.mari_io.specs.declared.shelf.Fetch.{Fetch}
@@ -13,11 +13,12 @@ use Rattle.mari_day.specs.declared.reading.BooksFault.{BooksFault}
 use Rattle.mari_day.specs.declared.reading.BooksFault.TheVariants as why
 use Rattle.mari_blocks.specs.declared.blocks.BlockBook.{BlockBook}
 use Rattle.mari_blocks.specs.declared.clearing.JointText.{JointText}
-use Rattle.mari_quarters.specs.Quarters.{HasPage, NamesQuartersFile, QuartersReport, RefusesQuartersByCheck, blocks_in, blocks_page}
+use Rattle.mari_quarters.specs.Quarters.{HasPage, NamesQuartersFile, QuartersReport, RefusesAfterFiles, RefusesQuartersByCheck, blocks_in, blocks_page}
 use Rattle.mari_quarters.specs.Quarters.{HasQuartersGap as gaps}
 use Rattle.mari_quarters.specs.Quarters.{HasQuartersRefusal as refusals}
 use Rattle.mari_quarters.specs.Quarters.{IsQuartersCheck as checks}
 use Rattle.mari_quarters.specs.Stages.{ClearsQuarters, IsOfBlocks, PageStates, ReadsBlocks}
+use Rattle.mari_quarters.proofs.Checking.{of-market}
 
 -- ---- without books
 
@@ -83,7 +84,18 @@ module _ (books : Books) (first last budget : ℕ) (page : List ℕ) where
       file r e = rw (sym e) refl
   unread-states why.Memory read reported folder has = tt
 
+  pub unread-late : (fault : BooksFault) → ReadsBlocks (Err fault) (blocks_in books first last page) → RefusesAfterFiles {T = JointText} (Err fault)
+  unread-late (why.Fetch number f) read = tt
+  unread-late (why.Refused refusal) read = inl read.1
+  unread-late why.Memory read = tt
+
   module _ (blocks : BlockBook) (read : blocks_in books first last page ≡ Ok blocks) where
+    pub market-late : (result : Result JointText BooksFault) → ClearsQuarters books blocks first last budget result → RefusesAfterFiles result
+    market-late (Ok printed) clears = tt
+    market-late (Err (why.Fetch number f)) clears = tt
+    market-late (Err (why.Refused refusal)) clears = inr (of-market books blocks first last refusal clears)
+    market-late (Err why.Memory) clears = tt
+
     pub market-no-fetch : (result : Result JointText BooksFault) → ClearsQuarters books blocks first last budget result → (f : Fetch) → IsFetchFault f result → ⊥
     market-no-fetch (Ok printed) clears f e = e
     market-no-fetch (Err (why.Fetch number g)) clears f e = clears

@@ -105,12 +105,23 @@ RefusesQuartersByCheck (Err (why.Fetch number f)) = ⊤
 RefusesQuartersByCheck (Err (why.Refused refusal)) = IsQuartersCheck refusal
 RefusesQuartersByCheck (Err why.Memory) = ⊤
 
+-- a refusal of what is read after the market files: of blocks.csv, or of what can't be one market
+abbrev pub IsAfterFiles : Refusal → Type 0
+IsAfterFiles refusal = (refusal.file ≡ BLOCKS) ⊎ ((check : JointCheck) × (refusal ≡ refusal_by check))
+
+-- where something is refused after the market files, it isn't one of these
+abbrev pub RefusesAfterFiles : {T : Type 0} → Result T BooksFault → Type 0
+RefusesAfterFiles (Ok x) = ⊤
+RefusesAfterFiles (Err (why.Fetch number f)) = ⊤
+RefusesAfterFiles (Err (why.Refused refusal)) = IsAfterFiles refusal
+RefusesAfterFiles (Err why.Memory) = ⊤
+
 -- how many fetches clearing the quarters takes of a folder of `count` market files: one for each of them, and one for
--- blocks.csv once they are read; and where a page can't be had, one for it and each before it
+-- blocks.csv once they give books; and where a page can't be had, one for it and each before it
 abbrev pub FetchesText : (count before now : ℕ) → Result JointText BooksFault → Type 0
 FetchesText count before now (Ok printed) = now ≡ counted_by (count + 1) before
 FetchesText count before now (Err (why.Fetch number f)) = (IsFileNumber number × (now ≡ counted_by (min number 8) before)) ⊎ ((number ≡ BLOCKS) × (now ≡ counted_by (count + 1) before))
-FetchesText count before now (Err (why.Refused refusal)) = (IsFileNumber refusal.file × (now ≡ counted_by count before)) ⊎ (now ≡ counted_by (count + 1) before)
+FetchesText count before now (Err (why.Refused refusal)) = (IsByCheck refusal × (now ≡ counted_by count before)) ⊎ (IsAfterFiles refusal × (now ≡ counted_by (count + 1) before))
 FetchesText count before now (Err why.Memory) = SomeFetched (count + 1) before now
 
 -- how many fetches clearing the quarters of a folder takes

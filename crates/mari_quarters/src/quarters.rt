@@ -9,7 +9,7 @@ ghost use Rattle.mari_market.specs.Clearing.{IsBudget};
 ghost use Rattle.mari_remain.specs.Accepted.{IsAccepted};
 ghost use Rattle.mari_day.specs.Reading.{IsFetchFault};
 ghost use Rattle.mari_blocks.specs.Blocks.{IsBlockBook};
-ghost use Rattle.mari_quarters.specs.Quarters.{FetchesQuarters, HasPage, NamesQuartersFile, QuartersReport, RefusesQuartersByCheck, blocks_in, blocks_page};
+ghost use Rattle.mari_quarters.specs.Quarters.{FetchesQuarters, HasPage, NamesQuartersFile, QuartersReport, RefusesAfterFiles, RefusesQuartersByCheck, blocks_in, blocks_page};
 ghost use Rattle.mari_quarters.specs.Stages.{ClearsQuarters, FetchesOne, IsOfBlocks, PageStates, ReadsBlocks};
 
 use mari_blocks::{BlockBook, JointFault, JointText, clear_joint};
@@ -133,6 +133,7 @@ fn clear_books<C: Clearer>(
     ensures fetch { (fault : FetchFault) → IsFetchFault fault result → ⊥ }
     ensures file { NamesQuartersFile result }
     ensures check { RefusesQuartersByCheck result }
+    ensures late { RefusesAfterFiles result }
 {
     match read_blocks(alloc, page, books, first, last) {
         Ok(blocks) => clear_blocks(alloc, books, &blocks, first, last, budget, clearer),
@@ -165,7 +166,8 @@ pub fn clear_quarters<S: Shelf, C: Clearer>(
     ensures same { S.pages shelf.new ≡ S.pages shelf.old }
     ensures reported { (reported : Pages) → S.pages shelf.old ≡ Some reported → QuartersReport reported folder.now first last budget result }
 
-    // As many fetches are counted as there are files, up to the first whose page can't be had; blocks.csv is the last.
+    // One fetch is counted for each market file, and one for blocks.csv where they give books, up to the first whose page
+    // can't be had; when out of memory no more than that.
     ensures fetched { FetchesQuarters (S.pages shelf.old) folder.now (S.fetches shelf.old) (S.fetches shelf.new) result }
 
     // Why there is no text. A refusal is by a check of its file. Out of memory in a fetch is reported as out of memory.

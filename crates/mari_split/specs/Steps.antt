@@ -60,7 +60,7 @@ pub record BrokeOffSplit (books : Books) (budget : ℕ) (blocks : List SplitBloc
   pub is_block : IsSplitBlock books budget blocks block
   pub taken : TookPart before after (split_block_text books.zones.zones block)
 
--- the block was written, or a first part of it, or it ran out of memory and nothing was
+-- the block was written, or a first part of it, or memory ran out and nothing was
 abbrev pub SplitStepped : Books → (budget : ℕ) → (blocks : List SplitBlock) → (kept : Progress) → (before after : Option (List ℕ)) → Result (Unit {0}) Stop → Type 0
 SplitStepped books budget blocks kept before after (Ok done) = WroteSplitBlock books budget blocks kept before after
 SplitStepped books budget blocks kept before after (Err Sink) = BrokeOffSplit books budget blocks before after

@@ -196,7 +196,7 @@ fn fault_of(alloc: Global, bytes: &[u8]) -> Option<FeedFault> {
 }
 
 #[test]
-fn json_of_no_part_is_reported_so(rt: HostRuntime) -> Result<(), Fail> {
+fn json_of_no_part_is_reported_as_such(rt: HostRuntime) -> Result<(), Fail> {
     let alloc = rt.alloc();
     for (form, fields) in NO_PARTS {
         for field in fields.split("|") {
@@ -210,7 +210,7 @@ fn json_of_no_part_is_reported_so(rt: HostRuntime) -> Result<(), Fail> {
 }
 
 #[test]
-fn what_is_no_json_is_reported_so(rt: HostRuntime) -> Result<(), Fail> {
+fn what_is_no_json_is_reported_as_such(rt: HostRuntime) -> Result<(), Fail> {
     let alloc = rt.alloc();
     for bytes in NO_JSON {
         assert_eq!(rt;

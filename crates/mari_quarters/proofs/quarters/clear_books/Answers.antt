@@ -1,4 +1,4 @@
-use Rattle.mari_quarters.proofs.Passing.{market-no-fetch, market-states, unread-check, unread-named, unread-no-fetch, unread-states}
+use Rattle.mari_quarters.proofs.Passing.{market-late, market-no-fetch, market-states, unread-check, unread-late, unread-named, unread-no-fetch, unread-states}
 use Rattle.mari_quarters.proofs.quarters.clear_books.Goals as goal
 
 pub returns-in-Err-clause-reported : goal.returns-in-Err-clause-reported
@@ -20,3 +20,9 @@ returns-in-Ok-clause-reported g c =
 pub returns-in-Ok-clause-fetch : goal.returns-in-Ok-clause-fetch
 returns-in-Ok-clause-fetch g c =
     market-no-fetch c.args.books.now c.args.first c.args.last c.args.budget c.args.page.now c.in-Ok.blocks c.in-Ok.ensures.read c.clear_blocks.result c.clear_blocks.ensures.text
+
+pub returns-in-Err-clause-late : goal.returns-in-Err-clause-late
+returns-in-Err-clause-late g c = unread-late c.args.books.now c.args.first c.args.last c.args.budget c.args.page.now c.in-Err.fault c.in-Err.ensures.read
+
+pub returns-in-Ok-clause-late : goal.returns-in-Ok-clause-late
+returns-in-Ok-clause-late g c = market-late c.args.books.now c.args.first c.args.last c.args.budget c.args.page.now c.in-Ok.blocks c.in-Ok.ensures.read c.clear_blocks.result c.clear_blocks.ensures.text

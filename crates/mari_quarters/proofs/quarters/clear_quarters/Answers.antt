@@ -14,7 +14,7 @@ returns-in-Err-clause-fetched g c =
     let files = c.in-Err.ensures.fetched in record {
       count = files.count;
       files = files.files;
-      fetched = files-fetched files.count _ _ c.in-Err.fault c.in-Err.ensures.file files.fetched;
+      fetched = files-fetched files.count _ _ c.in-Err.fault c.in-Err.ensures.file c.in-Err.ensures.check files.fetched;
     }
 
 pub returns-in-Err-clause-file : goal.returns-in-Err-clause-file
@@ -51,7 +51,7 @@ returns-in-Ok-fetch_blocks-clause-fetched g c =
     let files = c.in-Ok.ensures.fetched in record {
       count = files.count;
       files = files.files;
-      fetched = text-fetched files.count _ _ _ c.clear_books.result files.fetched.1 c.in-Ok-fetch_blocks.ensures.fetched c.clear_books.ensures.fetch;
+      fetched = text-fetched files.count _ _ _ c.clear_books.result files.fetched.1 c.in-Ok-fetch_blocks.ensures.fetched c.clear_books.ensures.fetch c.clear_books.ensures.late;
     }
 
 pub returns-in-Ok-fetch_blocks-clause-memory : goal.returns-in-Ok-fetch_blocks-clause-memory

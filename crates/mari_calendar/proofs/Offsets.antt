@@ -18,7 +18,7 @@ use Rattle.jiff_tz.specs.Zone.{ambiguous_at}
 use Rattle.jiff_tz.specs.Year.{year_of_day}
 use Rattle.jiff_tz.proofs.YearLemmas.{year_of_day-date}
 use Rattle.jiff_core.proofs.SignedLemmas.{signed_arith}
-use Rattle.mari_calendar.specs.Midnights.{midnight, moment_in, offset_ahead, offset_after, offset_by, offset_of}
+use Rattle.mari_calendar.specs.Midnights.{midnight, moment_in, offset_ahead, offset_back, offset_by, offset_of}
 
 minus_zero : (z : ℤ) → z -ℤ pos 0 ≡ z
 minus_zero z = omega (arith, signed_arith)
@@ -28,13 +28,13 @@ moment : (y : ℤ) (d : DayTime) → rule_nanos y d (pos 0) ≡ moment_in y (day
 unfolding rule_nanos
 moment y d = rw (minus_zero d.time) refl
 
-after_by : (inside folds gaps : Bool) (std dst : Offset)
+back_by : (inside folds gaps : Bool) (std dst : Offset)
     → (compatible_offset (cond inside (Unambiguous dst) (cond folds (Fold std dst) (cond gaps (Gap dst std) (Unambiguous std))))).seconds
     ≡ cond inside dst.seconds (cond folds std.seconds (cond gaps dst.seconds std.seconds))
-after_by true folds gaps std dst = refl
-after_by false true gaps std dst = refl
-after_by false false true std dst = refl
-after_by false false false std dst = refl
+back_by true folds gaps std dst = refl
+back_by false true gaps std dst = refl
+back_by false false true std dst = refl
+back_by false false false std dst = refl
 
 ahead_by : (inside gaps folds : Bool) (std dst : Offset)
     → (compatible_offset (cond (not inside) (Unambiguous std) (cond gaps (Gap std dst) (cond folds (Fold dst std) (Unambiguous dst))))).seconds
@@ -44,16 +44,16 @@ ahead_by true true folds std dst = refl
 ahead_by true false true std dst = refl
 ahead_by true false false std dst = refl
 
-after : (std dst : Offset) (w : ℤ × ℤ) (at : ℤ) → (compatible_offset (ambiguous_behind std dst w at)).seconds ≡ offset_after std.seconds dst.seconds w at
-after std dst w at = after_by (in_window w at) (in_span (saturating_add w.0 (shift_between std dst)) w.0 at) (in_span w.1 (saturating_sub w.1 (shift_between std dst)) at) std dst
+back : (std dst : Offset) (w : ℤ × ℤ) (at : ℤ) → (compatible_offset (ambiguous_behind std dst w at)).seconds ≡ offset_back std.seconds dst.seconds w at
+back std dst w at = back_by (in_window w at) (in_span (saturating_add w.0 (shift_between std dst)) w.0 at) (in_span w.1 (saturating_sub w.1 (shift_between std dst)) at) std dst
 
 ahead : (std dst : Offset) (w : ℤ × ℤ) (at : ℤ) → (compatible_offset (ambiguous_ahead std dst w at)).seconds ≡ offset_ahead std.seconds dst.seconds w at
 ahead std dst w at = ahead_by (in_window w at) (in_span w.0 (saturating_add w.0 (shift_between std dst)) at) (in_span (saturating_sub w.1 (shift_between std dst)) w.1 at) std dst
 
 by_order : (less more : Bool) (std dst : Offset) (w : ℤ × ℤ) (at : ℤ)
     → (compatible_offset (cond less (ambiguous_behind std dst w at) (cond more (ambiguous_ahead std dst w at) (Unambiguous std)))).seconds
-    ≡ cond less (offset_after std.seconds dst.seconds w at) (cond more (offset_ahead std.seconds dst.seconds w at) std.seconds)
-by_order true more std dst w at = after std dst w at
+    ≡ cond less (offset_back std.seconds dst.seconds w at) (cond more (offset_ahead std.seconds dst.seconds w at) std.seconds)
+by_order true more std dst w at = back std dst w at
 by_order false true std dst w at = ahead std dst w at
 by_order false false std dst w at = refl
 

@@ -30,16 +30,16 @@ moment_in y d = match_some (rule_day y d.0) (last_nanosecond y) (λ day.
 abbrev pub shift_of : ℤ → ℤ → ℤ
 shift_of std summer = nanos_of_seconds summer -ℤ nanos_of_seconds std
 
--- how many seconds a wall clock is ahead of UTC when it shows a moment, where its summer time is after its standard
+-- how many seconds a wall clock is ahead of UTC when it shows a moment, where its summer time is less than its standard
 -- time; what it skips or shows twice counts by the offset before the change
-abbrev pub offset_after : (std summer : ℤ) → ℤ × ℤ → ℤ → ℤ
-offset_after std summer w at =
+abbrev pub offset_back : (std summer : ℤ) → ℤ × ℤ → ℤ → ℤ
+offset_back std summer w at =
     if in_window w at then summer
     else (if in_span (saturating_add w.0 (shift_of std summer)) w.0 at then std
     else (if in_span w.1 (saturating_sub w.1 (shift_of std summer)) at then summer
     else std))
 
--- the same, where its summer time is ahead
+-- the same, where its summer time is more
 abbrev pub offset_ahead : (std summer : ℤ) → ℤ × ℤ → ℤ → ℤ
 offset_ahead std summer w at =
     if not (in_window w at) then std
@@ -49,7 +49,7 @@ offset_ahead std summer w at =
 -- the same, of any summer time, whose first and last moment are `w`
 abbrev pub offset_by : (std summer : ℤ) → ℤ × ℤ → ℤ → ℤ
 offset_by std summer w at =
-    if int_lt summer std then offset_after std summer w at
+    if int_lt summer std then offset_back std summer w at
     else (if int_lt std summer then offset_ahead std summer w at else std)
 
 -- how many seconds a clock of this standard time and summer time is ahead of UTC when it shows a moment of this year
@@ -73,7 +73,7 @@ midnight_in tz day = if is_instant (midnight tz day) then Ok (midnight tz day) e
 abbrev pub day_after : ℤ → Result ℤ CalendarFault
 day_after day = if int_lt day (pos 2932896) then Ok (day +ℤ pos 1) else Err OutOfRange
 
--- so many seconds in quarters of an hour, from 1 to the most of a day
+-- the number of quarter hours in z seconds, from 1 to `MOST_QUARTERS`
 abbrev pub whole_quarters : ℤ → Result ℕ CalendarFault
 whole_quarters z = if int_le (pos 900) z && int_le z (pos (900 * MOST_QUARTERS)) && unsigned_abs z % 900 == 0 then Ok (unsigned_abs z / 900) else Err NotWholeQuarters
 

@@ -5,7 +5,7 @@ use Rattle.mari_core.specs.declared.event.StepFault.{StepFault}
 use Rattle.mari_core.specs.Machine.{Machine, after, refusal, KeepsFacts}
 use Rattle.mari_core.specs.Replay.{after_all, first_refusal, refused_or, AreProper}
 
--- after so many of all events the search stands here, and these are left
+-- after the first `place` of all events the search stands here, and these are left
 pub record AtEvent (start : Machine) (all : List Event) (s : Machine) (place : ℕ) (left : List Event) : Type 0 where
   pub leads : after_all start all ≡ after_all s left
   pub refused : first_refusal 0 start all ≡ first_refusal place s left

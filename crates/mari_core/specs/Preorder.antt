@@ -86,7 +86,7 @@ pub record IsFirstOpen (nodes : List TreeNode) (x : ℕ) : Type 0 where
   pub done : All (λ y. is_done (state_at nodes y) ≡ true) before
   pub waits : is_done (state_at nodes x) ≡ false
 
--- why a tree can't be finished; out of memory is free
+-- why a tree can't be finished; that memory ran out may always be answered
 abbrev pub IsOpenFault : List TreeNode → FinishFault → Type 0
 IsOpenFault nodes (NotClosed x) = IsFirstOpen nodes x
 IsOpenFault nodes Memory = ⊤

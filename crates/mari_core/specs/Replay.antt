@@ -26,7 +26,7 @@ abbrev pub AreProper : Machine → List Event → Type 0
 AreProper s [] = ⊤
 AreProper s (event ∷ events) = IsProper s event × (refusal s event ≡ None → AreProper (after s event) events)
 
--- it ran out of memory before the first event
+-- memory ran out before the first event
 abbrev pub no_memory : ReplayFault
 no_memory = record { place = 0; fault = Memory }
 

@@ -6,13 +6,44 @@
 #[derive(Clone, Copy, Debug, Drop, PartialEq, Eq)]
 pub enum JournalEntry {
     /// The actor took the node.
-    Take { actor: u32, node: u32 },
+    Take {
+        /// The actor's number.
+        actor: u32,
+        /// The node's number.
+        node: u32,
+    },
     /// The node was closed by a certificate.
-    Close { actor: u32, node: u32, cutoff: u64 },
+    Close {
+        /// The actor's number.
+        actor: u32,
+        /// The node's number.
+        node: u32,
+        /// The cutoff, in quarter-cents.
+        cutoff: u64,
+    },
     /// The children of the node were made.
-    Branch { actor: u32, node: u32, cutoff: u64 },
+    Branch {
+        /// The actor's number.
+        actor: u32,
+        /// The node's number.
+        node: u32,
+        /// The cutoff, in quarter-cents.
+        cutoff: u64,
+    },
     /// The node was put back, since the budget has no room for its children.
-    Full { actor: u32, node: u32, cutoff: u64 },
+    Full {
+        /// The actor's number.
+        actor: u32,
+        /// The node's number.
+        node: u32,
+        /// The cutoff, in quarter-cents.
+        cutoff: u64,
+    },
     /// The actor gave the node back.
-    GiveBack { actor: u32, node: u32 },
+    GiveBack {
+        /// The actor's number.
+        actor: u32,
+        /// The node's number.
+        node: u32,
+    },
 }

@@ -20,7 +20,7 @@ bytes_of [] place = []
 bytes_of (page ∷ pages) zero = page.bytes
 bytes_of (page ∷ pages) (suc place) = bytes_of pages place
 
--- what is left of the page at this place after so many bytes; nothing where no page was opened
+-- what is left of the page at this place after its first `given` bytes; nothing where no page was opened
 abbrev pub left_of : List Page → Option ℕ → ℕ → List ℕ
 left_of pages None given = []
 left_of pages (Some place) given = drop given (bytes_of pages place)
@@ -76,7 +76,7 @@ abbrev pub after_open : {T : Type 0} → ShelfState → List ℕ → Result T Fe
 after_open s name (Ok done) = record s { calls = counted s.calls; is_open = true; left = unwrap_or (page_of s.pages name) []; given = 0 }
 after_open s name (Err fault) = after_fetch s (refusal fault)
 
--- how many bytes the next piece has: as many as a piece may have, as are left, and as may still be given
+-- how many bytes the next piece has: the least of what a piece may have, what is left, and what may still be given
 abbrev pub piece_length : ShelfState → ℕ
 piece_length s = min s.piece (min (length s.left) (most_given - s.given))
 

@@ -10,7 +10,7 @@ use Rattle.mari_io.specs.declared.shelf.Fetch.TheVariants.{Failed, Missing, TooL
 abbrev pub counted : ℕ → ℕ
 counted n = min (n + 1) (2 ^ 64 - 1)
 
--- a count after so many events more
+-- a count after `more` further events
 abbrev pub counted_by : ℕ → ℕ → ℕ
 counted_by zero n = n
 counted_by (suc more) n = counted (counted_by more n)
@@ -58,7 +58,7 @@ FetchStates page old new (Err TooLong) = IsSomeAnd page (λ bytes. MOST_PAGE < l
 FetchStates page old new (Err Failed) = ⊤
 FetchStates page old new (Err Memory) = ⊤
 
--- new is old with at most so many bytes more
+-- new is old with at most `most` bytes more
 pub record AppendsAtMost (most : ℕ) (old new : List ℕ) : Type 0 where
   pub front : take (length old) new ≡ old
   pub more : length new ≤ length old + most
@@ -77,7 +77,7 @@ OpenStates page rest (Err TooLong) = ⊥
 OpenStates page rest (Err Failed) = ⊤
 OpenStates page rest (Err Memory) = ⊤
 
--- new is old with exactly so many bytes more
+-- new is old with exactly `count` bytes more
 pub record AppendsExactly (count : ℕ) (old new : List ℕ) : Type 0 where
   pub front : take (length old) new ≡ old
   pub more : length new ≡ length old + count
@@ -96,8 +96,7 @@ rest_after rest result = option_map (λ left. drop (taken_count result) left) re
 abbrev pub most_given : ℕ
 most_given = 2 ^ 40
 
--- a page is too long to be given in pieces: as many bytes as may be were given, and where it is known what is left,
--- some are
+-- a page is too long to be given in pieces: `most_given` bytes were given, and where it is known what is left, some are
 abbrev pub IsOverlong : Option (List ℕ) → ℕ → Type 0
 IsOverlong None given = given ≡ most_given
 IsOverlong (Some left) given = (given ≡ most_given) × (left ≢ [])
@@ -106,7 +105,7 @@ IsOverlong (Some left) given = (given ≡ most_given) × (left ≢ [])
 abbrev pub taken_after : {E : Type 0} → Option (List ℕ) → List ℕ → Result ℕ E → Option (List ℕ)
 taken_after taken piece result = option_map (λ t. t ++ take (taken_count result) piece) taken
 
--- whether so many taken bytes are none, of a piece that isn't empty
+-- whether `count` bytes, taken of a piece, are none, though the piece isn't empty
 -- A test; `TookNothing` is the same as facts, in clauses.
 abbrev pub took_none : ℕ → List ℕ → Bool
 took_none count piece = nat_eq count 0 && nat_lt 0 (length piece)

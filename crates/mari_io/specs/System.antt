@@ -5,14 +5,13 @@ use Rattle.mari_io.specs.Outside.{counted, counted_if, is_failed, is_missing, is
 use Rattle.mari_io.specs.declared.shelf.Fetch.{Fetch}
 use Rattle.mari_io.specs.declared.shelf.Fetch.TheVariants.{Failed, Missing, Memory}
 
--- why a file isn't opened, by the kind of the system's error: it isn't there, out of memory, or else the fetch
--- failed
+-- why a file isn't opened, by the kind of the system's error: it isn't there, memory ran out, or else the fetch failed
 abbrev pub fault_of_opening : ErrorKind → Fetch
 fault_of_opening ErrorKind.NotFound = Missing
 fault_of_opening ErrorKind.OutOfMemory = Memory
 fault_of_opening _ = Failed
 
--- why an open file isn't read, by the kind of the system's error: out of memory, or else the fetch failed
+-- why an open file isn't read, by the kind of the system's error: memory ran out, or else the fetch failed
 abbrev pub fault_of_reading : ErrorKind → Fetch
 fault_of_reading ErrorKind.OutOfMemory = Memory
 fault_of_reading _ = Failed

@@ -112,7 +112,7 @@ impl<R: Files + Drop> DiskShelf<R> {
         }
     }
 
-    /// Appends the next bytes of the file that is open, unless as many were given as may be.
+    /// Appends the next bytes of the file that is open, unless `MOST_GIVEN` bytes of it were given.
     fn read_on(&mut self, into: &mut Vec<u8>) -> Result<u32, Fetch>
         // There is a file to read on.
         requires open { self.old.is_open ≡ true }
@@ -292,7 +292,7 @@ impl<R: Files + Drop> Shelf for DiskShelf<R> {
         ensures missing { Counts (IsErrOf result Missing) self.old.misses self.new.misses }
         ensures too_long { Counts (IsErrOf result TooLong) self.old.overs self.new.overs }
 
-        // The file that is open stays open, and as much of it is left.
+        // The file that is open stays open, and the number of its bytes that were given stays.
         ensures open_stays { self.new.is_open ≡ self.old.is_open }
         ensures given_stays { self.new.given ≡ self.old.given }
 

@@ -101,7 +101,7 @@ impl Shelf for MemoryShelf {
         ensures missing { Counts (IsErrOf result Missing) self.old.misses self.new.misses }
         ensures too_long { Counts (IsErrOf result TooLong) self.old.overs self.new.overs }
 
-        // The page that is open stays open, and as much of it is left.
+        // The page that is open stays open, and what is left of it stays.
         ensures open_stays { self.new.is_open ≡ self.old.is_open }
         ensures rest_stays { Some self.new.left ≡ Some self.old.left }
         ensures given_stays { self.new.given ≡ self.old.given }

@@ -67,7 +67,7 @@ pub trait Shelf {
         ensures missing { Counts (IsErrOf result Missing) (misses self.old) (misses self.new) }
         ensures too_long { Counts (IsErrOf result TooLong) (overs self.old) (overs self.new) }
 
-        // The page that is open stays open, and as much of it is left.
+        // The page that is open stays open, and what is left of it stays.
         ensures open_stays { is_open self.new ≡ is_open self.old }
         ensures rest_stays { rest self.new ≡ rest self.old }
         ensures given_stays { given self.new ≡ given self.old };
@@ -81,7 +81,7 @@ pub trait Shelf {
         ensures open { OnOk result (is_open self.new ≡ true) }
         ensures given { OnOk result (given self.new ≡ 0) }
         ensures reported { (reported : Pages) → pages self.old ≡ Some reported → OpenStates (page_of reported name.now) (rest self.new) result }
-        ensures untold { OnOk result (pages self.old ≡ None → rest self.new ≡ None) }
+        ensures unreported { OnOk result (pages self.old ≡ None → rest self.new ≡ None) }
 
         // After an error, what was open.
         ensures open_stays { OnErr result (is_open self.new ≡ is_open self.old) }

@@ -18,7 +18,7 @@ pub trait Sink {
     /// How often a write failed, or took nothing of a piece.
     ghost faults: { Self → ℕ };
 
-    /// Takes the first bytes of the piece, as many as it answers. After an error none was taken, where the sink reports
+    /// Takes the first bytes of the piece, and answers how many. After an error none was taken, where the sink reports
     /// what it takes; standard output may have taken first bytes.
     fn write(&mut self, piece: &[u8]) -> Result<usize, Failed>
         ensures bound { IfOk result (λ n. n ≤ length piece.now) }

@@ -39,7 +39,7 @@ quantities_beside p xs mw l = places_beside p (slice_index mw) 0 xs mw l (λ i d
 pub flows_beside : {X : Type 0} (p : X → Bool) (xs : List X) (flow : List ℤ) → length flow ≡ length xs → map (int_at flow) (places_from p 0 xs) ≡ beside p xs flow
 flows_beside p xs flow l = places_beside p (int_at flow) 0 xs flow l (λ i d less. ap (int_at flow) (omega arith) ∙ get_or_default flow i (pos 0) d less)
 
--- as many stand beside them as there are
+-- as many items stand beside those that pass as there are of these
 pub length-beside : {X Y : Type 0} (p : X → Bool) (xs : List X) (ys : List Y) → length ys ≡ length xs → length (beside p xs ys) ≡ length (filter p xs)
 length-beside p [] ys l = refl
 length-beside p (x ∷ xs) [] l = absurd (omega (arith, l))

@@ -26,7 +26,7 @@ use Rattle.mari_islands.proofs.Uniting.{no_order}
 
 -- ---- gates
 
--- the gates of the first so many orders have a zone that has an order of them
+-- for each gate of the first `n` orders, `homes` has a zone that has an order of the gate
 pub record AreHomesOf (m : Market) (n : ℕ) (homes : List ℕ) : Type 0 where
   pub one_each : length homes ≡ length m.gates
   pub found : (k g : ℕ) → k < n → (get_or m.orders k no_order).gate ≡ Some g → HasGate m (slice_index homes g) g
@@ -80,7 +80,8 @@ group_is gates g d l = ap (option_and_then (λ (info : GateInfo). info.group)) (
 pub parent_is : (gates : List GateInfo) (g : ℕ) (d : GateInfo) → g < length gates → parent_of gates g ≡ (get_or gates g d).parent
 parent_is gates g d l = ap (option_and_then (λ (info : GateInfo). info.parent)) (slice_get-get_or gates g d l)
 
--- so of the groups of the first so many gates, and what is kept for each
+-- so for the groups of the first `n` gates: `mates` has a zone for each of these gates, and `groups` keeps one for each
+-- group
 pub record AreMatesOf (m : Market) (n : ℕ) (groups : ℕ → Option ℕ) (mates : List ℕ) : Type 0 where
   pub long : length mates ≡ n
   pub bound : (g : ℕ) → g < n → (h : ℕ) × HasGate m (slice_index mates g) h × AreBound m.gates g h

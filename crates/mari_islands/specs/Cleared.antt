@@ -46,7 +46,7 @@ pub record IsIslandSpent (islands : List Island) (budget k : ℕ) (part : SpentR
   pub earlier : All (IsClearable budget) (take k islands)
   pub spent : IsSomeAnd (slice_get islands k) (λ (i : Island). IsSpent i.market budget part)
 
--- what may be answered for the islands of a market and a budget; out of memory is free
+-- what may be answered for the islands of a market and a budget; that memory ran out may always be answered
 abbrev pub ClearsIslands : Market → List Island → ℕ → IslandsCleared → Type 0
 ClearsIslands m islands budget (Published joined clearings) = ArePublished m islands budget joined clearings
 ClearsIslands m islands budget (Spent island spent) = IsIslandSpent islands budget island spent

@@ -1,7 +1,7 @@
 //! The first zone of each zone's island.
 //!
-//! Each zone begins as an island of its own, and whatever binds two zones unites theirs. A gate is stood for by the zone
-//! of one of its orders, and a group by that of its first gate, so that each order and each gate is looked at once.
+//! Each zone begins as an island of its own, and whatever binds two zones unites theirs. The zone of one of its orders
+//! stands for a gate, and the zone of its first gate for a group, so that each order and each gate is looked at once.
 
 ghost use Rattle.std.specs.Prelude.{◌≡◌, ◌↔◌, ◌<◌, ℕ, IfOk, IsTrue, Some, length, max, min, slice_index};
 ghost use Rattle.std.specs.BTreeMap.{get};

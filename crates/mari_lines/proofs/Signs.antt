@@ -46,7 +46,7 @@ price_of_parts z b n size text sign is e parts =
     append_assoc (sign_of (int_lt z (pos 0))) (decimal (unsigned_abs z / 100)) _ ∙ ap (λ (s : Bool). sign_of s ++ hundredths_text (unsigned_abs z))
     sign ∙ ap (λ m. sign_of b ++ hundredths_text m) is ∙ ap (λ t. sign_of b ++ t) e ∙ sym parts
 
--- texts that end in as many bytes are the same where their parts are
+-- where two texts are the same and their ends have the same number of bytes, both of their parts are the same
 pub same_ends : (xs ys us vs : List ℕ) → length us ≡ length vs → xs ++ us ≡ ys ++ vs → (xs ≡ ys) × (us ≡ vs)
 same_ends xs ys us vs le e =
     let all = ap length e in

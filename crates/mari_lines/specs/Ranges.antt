@@ -47,7 +47,7 @@ IsMoneyLine m = IsName m.name × IsMoney m.payment × IsMoney m.rent × IsMoney 
 abbrev pub IsAmountLine : AmountLine → Type 0
 IsAmountLine a = IsName a.name × IsMoney a.amount
 
--- from so many to so many items, and P holds of each
+-- from `least` to `greatest` items, and P holds of each
 abbrev pub Listed : {X : Type 0} → ℕ → ℕ → (X → Type 0) → List X → Type 0
 Listed least greatest P xs = Between least greatest (length xs) × All P xs
 

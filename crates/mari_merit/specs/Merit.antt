@@ -45,7 +45,7 @@ pub record IsMarginal (rungs : List Rung) (need : ℕ) (p : ℤ) : Type 0 where
   pub cheaper : room_below p rungs ≤ need
   pub met : need ≤ room_below p rungs + room_at p rungs
 
--- what an order meets of the need at the marginal price p, where so much is left for the orders at that price
+-- what an order meets of the need at the marginal price p, where `left` MW are left for the orders at that price
 abbrev pub met_by : ℤ → ℕ → Order → ℕ
 met_by p left o = by_price p o.price.0 o.greatest 0 (min o.greatest left)
 
@@ -53,7 +53,8 @@ met_by p left o = by_price p o.price.0 o.greatest 0 (min o.greatest left)
 abbrev pub left_after : ℤ → ℕ → Order → ℕ
 left_after p left o = by_price p o.price.0 left left (left - o.greatest)
 
--- what an order runs that meets so much: an injection runs it, a withdrawal stands back by it
+-- what an order runs that meets `met` MW of the need: an injection runs that, and a withdrawal runs that much less than
+-- its greatest
 abbrev pub run_by : Side → (greatest met : ℕ) → ℕ
 run_by Inject greatest met = met
 run_by Withdraw greatest met = greatest - met

@@ -167,6 +167,6 @@ entered_by p es = record p { tree = grown_by p.tree es; journal = p.journal ++ m
 abbrev pub put_back_from : Pooled → ℕ → Pooled
 put_back_from p x = entered_by p (returns_of x (drop x p.tree.nodes))
 
--- the journal has room for so many entries
+-- the journal has room for `room` entries
 abbrev pub roomy : Pooled → ℕ → Pooled
 roomy p room = record p { room = room }

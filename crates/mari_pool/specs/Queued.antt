@@ -62,12 +62,12 @@ IsKeyed keys w = slice_get keys w.1.0 ≡ Some w.0
 abbrev pub no_nodes : ℕ → Queued
 no_nodes room = record { keys = []; waiting = []; room = room }
 
--- so many numbers from this one on
+-- n numbers from x on
 abbrev pub numbers_from : ℕ → ℕ → List ℕ
 numbers_from x zero = []
 numbers_from x (suc n) = numbers_from x n ++ (x + n) ∷ []
 
--- so many nodes more, all with this key, which wait
+-- `count` nodes more, all with this key, which wait
 pub record IsMore (key count : ℕ) (old new : Queued) : Type 0 where
   pub keys : new.keys ≡ old.keys ++ replicate count key
   pub waiting : IsPermutation (old.waiting ++ numbers_from (length old.keys) count) new.waiting
@@ -90,7 +90,7 @@ pub record IsBack (old new : Queued) (x : ℕ) : Type 0 where
   pub keys : new.keys ≡ old.keys
   pub room : new.room ≡ old.room
 
--- what a queue needs so that an entry may be followed, after which there are so many nodes
+-- what a queue needs so that an entry may be followed, after which there are `count` nodes
 abbrev pub CanFollow : Queued → ℕ → JournalEntry → Type 0
 CanFollow q count (Take k x) = ⊤
 CanFollow q count (Close k x cutoff) = ⊤

@@ -13,14 +13,14 @@ use Rattle.mari_pool.specs.declared.ticket.Took.TheVariants as took
 use Rattle.mari_pool.specs.Queued.{IsFirstWaiting}
 use Rattle.mari_pool.specs.Pooled.{Pooled, taking, taken_among}
 
--- why there is no tree yet; out of memory is free
+-- why there is no tree yet; that memory ran out may always be answered
 -- The pool's own fault and what it says, beside `FinishFault` and `IsOpenFault` of the search machine, of which callers
 -- of the pool know nothing.
 abbrev pub IsOpenAt : List TreeNode → PoolFault → Type 0
 IsOpenAt nodes (NotClosed x) = IsFirstOpen nodes x
 IsOpenAt nodes Memory = ⊤
 
--- no node waits, and so many are taken; nothing changes
+-- no node waits, and n nodes are taken; nothing changes
 pub record IsIdle (p q : Pooled) (n : ℕ) : Type 0 where
   pub not_full : p.tree.full ≡ false
   pub none_waits : NoneWaits p.tree.nodes

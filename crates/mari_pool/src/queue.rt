@@ -123,7 +123,7 @@ impl Queue {
         };
     }
 
-    /// As many nodes more as make up this count, with this key, which wait.
+    /// Adds nodes with this key, which wait, until there are `count` nodes.
     fn grow(&mut self, count: u32, key: u64)
         requires count { (length self.old.keys ≤ count) × (count ≤ self.old.room) }
         requires waiting { length self.old.waiting ≤ length self.old.keys }
@@ -134,7 +134,7 @@ impl Queue {
         }
     }
 
-    /// Follows an entry of the journal, after which there are so many nodes: those that it made wait with the key, or
+    /// Follows an entry of the journal, after which there are `count` nodes: those that it made wait with the key, or
     /// its node waits again.
     pub(crate) fn follow(&mut self, entry: JournalEntry, count: u32, key: u64)
         requires { CanFollow self.old count entry }

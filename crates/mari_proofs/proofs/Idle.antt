@@ -105,13 +105,13 @@ idle-within m word closed = record {
   balance = λ z l. no-sum (put_into z) 0 (none-put z) m.orders ∙ sym (no-sum (carried_out z) (pos 0) (none-carried z) m.borders);
 }
 
--- so no relaxed optimum is negative there
+-- so no relaxed welfare is negative there
 pub not-negative : (m : Market) (word : List Bool) (w : ℤ) → ((g : ℕ) → opens_in word g ≡ false) → IsRelaxedWelfare m word w → pos 0 ≤ℤ w
 not-negative m word w closed h = omega (arith, ints, h.greatest (idle m) (idle-within m word closed), no-sum order_gain 0 none-gained m.orders)
 
 pub closed-not-negative : (m : Market) (w : ℤ) → IsClosedWelfare m w → pos 0 ≤ℤ w
 closed-not-negative m w h = not-negative m (all_closed m) w (closed_opens (length m.gates)) h
 
--- two relaxed optima of one word are one number
+-- a word has one relaxed welfare
 pub one-optimum : (m : Market) (word : List Bool) (v w : ℤ) → IsRelaxedWelfare m word v → IsRelaxedWelfare m word w → v ≡ w
 one-optimum m word v w hv hw = omega (arith, ints, hv.reached.2, hw.reached.2, hv.greatest hw.reached.0 hw.reached.1, hw.greatest hv.reached.0 hv.reached.1)

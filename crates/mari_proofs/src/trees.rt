@@ -32,8 +32,11 @@ pub enum TreeVerdict {
 
 /// What one item does to a walk: the next prefix or the end of the tree, or a fault.
 enum TreeStep {
+    /// The next prefix, or none at the end of the tree.
     On(Option<Prefix>),
+    /// The item is a branch where no gate is left to decide.
     BadShape,
+    /// The item is a leaf that doesn't hold.
     BadLeaf,
 }
 

@@ -134,7 +134,7 @@ fn is_nothing_left(left: &[i128; MOST_ZONES], zones: u32) -> bool
 
 /// Whether each of the zones is in balance.
 fn is_balanced(zones: u32, orders: &[Order], mw: &[u32], borders: &[Border], flow: &[i64]) -> bool
-    // As many as a market may have.
+    // No more zones, orders and borders than a market may have.
     requires zones { zones ≤ MOST_ZONES }
     requires few_orders { length orders.now ≤ MOST_ORDERS }
     requires few_borders { length borders.now ≤ MOST_BORDERS }

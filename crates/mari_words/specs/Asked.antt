@@ -10,7 +10,7 @@ use Rattle.mari_words.specs.declared.asking.Asked.TheVariants as lent
 -- of a generated day; a folder of which a file's new form is printed; a folder whose publication is printed as JSON; a
 -- folder to clear island by island, with how many nodes each island's search may make and how many workers; a folder of
 -- whose quarter hours those from a first to a last one are cleared as one market, with how many nodes and workers; and a
--- folder of whose borders it is printed what so many MW more on each limit are worth
+-- folder of whose borders it is printed what `more` MW more on each limit are worth
 pub data Asked : Type 0 where
   Clear : (folder : List ℕ) (nodes workers : ℕ) → Asked
   Check : (folder : List ℕ) → Asked

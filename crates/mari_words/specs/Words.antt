@@ -153,7 +153,7 @@ abbrev pub command_at : List Text → Option Asked
 command_at [] = None
 command_at (name ∷ words) = verb_named name >>= (λ verb. command_of verb words)
 
--- this is the command that the words are, or they are none, unless it ran out of memory
+-- this is the command that the words are, or they are no command, unless memory ran out
 abbrev pub Reads : Result Command WordsFault → Option Asked → Type 0
 Reads (Ok command) wanted = wanted ≡ Some (asked command)
 Reads (Err Usage) wanted = wanted ≡ None

@@ -15,46 +15,64 @@ use mari_units::{LAST_NUMBER, MOST_NODES, MOST_QUARTERS, MOST_RAISE, MOST_WORKER
 /// What words ask for.
 #[derive(Clone, Copy, Debug)]
 pub enum Asked<'a> {
-    /// `clear`: the folder, the most nodes of a run's search, and the workers.
+    /// `clear`.
     Clear {
+        /// The folder's name.
         folder: &'a str,
+        /// How many nodes a run's search may make, 1 to `MOST_NODES`.
         nodes: u32,
+        /// How many workers search, 1 to `MOST_WORKERS`.
         workers: u32,
     },
-    /// `check`: the folder.
+    /// `check`.
     Check {
+        /// The folder's name.
         folder: &'a str,
     },
-    /// `generate`: the number that the day is drawn by.
+    /// `generate`.
     Generate {
+        /// The number that the day is drawn by, 0 to `LAST_NUMBER`.
         number: u32,
     },
-    /// `migrate`: the folder, and which page is written.
+    /// `migrate`.
     Migrate {
+        /// The folder's name.
         folder: &'a str,
+        /// The file whose new form is asked for.
         part: FilePart,
     },
-    /// `feed`: the folder.
+    /// `feed`.
     Feed {
+        /// The folder's name.
         folder: &'a str,
     },
-    /// `split`: the folder, the most nodes of an island's search, and the workers.
+    /// `split`.
     Split {
+        /// The folder's name.
         folder: &'a str,
+        /// How many nodes an island's search may make, 1 to `MOST_NODES`.
         nodes: u32,
+        /// How many workers search, 1 to `MOST_WORKERS`.
         workers: u32,
     },
-    /// `blocks`: the folder, the first and the last quarter, the most nodes and the workers.
+    /// `blocks`: the first quarter hour is at most the last.
     Blocks {
+        /// The folder's name.
         folder: &'a str,
+        /// The first quarter hour, from 1.
         first: u32,
+        /// The last one, up to `MOST_QUARTERS`.
         last: u32,
+        /// How many nodes the search may make, 1 to `MOST_NODES`.
         nodes: u32,
+        /// How many workers search, 1 to `MOST_WORKERS`.
         workers: u32,
     },
-    /// `value`: the folder, and by how many MW limits are raised.
+    /// `value`.
     Value {
+        /// The folder's name.
         folder: &'a str,
+        /// By how many MW each limit is raised, 1 to `MOST_RAISE`.
         more: u32,
     },
 }

@@ -31,47 +31,64 @@ pub enum FilePart {
 /// What the program is to do.
 #[derive(Debug, Drop)]
 pub enum Command {
-    /// `clear FOLDER [--nodes N] [--workers K]`: 1 to `MOST_NODES` nodes, and 1 to `MOST_WORKERS` workers.
+    /// `clear FOLDER [--nodes N] [--workers K]`.
     Clear {
+        /// The folder's name.
         folder: String,
+        /// How many nodes a run's search may make, 1 to `MOST_NODES`.
         nodes: u32,
+        /// How many workers search, 1 to `MOST_WORKERS`.
         workers: u32,
     },
     /// `check FOLDER`.
     Check {
+        /// The folder's name.
         folder: String,
     },
-    /// `generate NUMBER`: 0 to `LAST_NUMBER`.
+    /// `generate NUMBER`.
     Generate {
+        /// The number that the day is drawn by, 0 to `LAST_NUMBER`.
         number: u32,
     },
     /// `migrate FOLDER borders` or `migrate FOLDER limits`.
     Migrate {
+        /// The folder's name.
         folder: String,
+        /// The file whose new form is asked for.
         part: FilePart,
     },
     /// `feed FOLDER`.
     Feed {
+        /// The folder's name.
         folder: String,
     },
-    /// `split FOLDER [--nodes N] [--workers K]`: the options of `clear`.
+    /// `split FOLDER [--nodes N] [--workers K]`.
     Split {
+        /// The folder's name.
         folder: String,
+        /// How many nodes an island's search may make, 1 to `MOST_NODES`.
         nodes: u32,
+        /// How many workers search, 1 to `MOST_WORKERS`.
         workers: u32,
     },
-    /// `blocks FOLDER FIRST LAST [--nodes N] [--workers K]`: quarter hours from 1 to `MOST_QUARTERS`, the first at most
-    /// the last, and the options of `clear`.
+    /// `blocks FOLDER FIRST LAST [--nodes N] [--workers K]`: the first quarter hour is at most the last.
     Blocks {
+        /// The folder's name.
         folder: String,
+        /// The first quarter hour, from 1.
         first: u32,
+        /// The last one, up to `MOST_QUARTERS`.
         last: u32,
+        /// How many nodes the search may make, 1 to `MOST_NODES`.
         nodes: u32,
+        /// How many workers search, 1 to `MOST_WORKERS`.
         workers: u32,
     },
-    /// `value FOLDER K`: 1 to `MOST_RAISE` MW.
+    /// `value FOLDER K`.
     Value {
+        /// The folder's name.
         folder: String,
+        /// By how many MW each limit is raised, 1 to `MOST_RAISE`.
         more: u32,
     },
 }
@@ -81,7 +98,7 @@ pub enum Command {
 pub enum WordsFault {
     /// They are no command.
     Usage,
-    /// Out of memory, which the command would have been kept in.
+    /// Out of memory: the command couldn't be kept.
     Memory,
 }
 

@@ -1,5 +1,5 @@
-//! Numbers that stand first in a text, read in one pass with the end of their digits. Where these calls answer nothing,
-//! a number may still stand there.
+//! Numbers that stand first in a text, each read in one pass together with the place where its digits end. Where these
+//! calls answer nothing, a number may still stand there.
 
 ghost use Rattle.std.specs.Prelude.{◌≡◌, ◌≤◌, ◌<◌, ◌/◌, ◌%◌, ◌+◌, ◌-◌, ◌++◌, ◌∷◌, [], true, take, length, IfSome};
 ghost use Rattle.std.specs.Char.{is_ascii_digit};

@@ -16,7 +16,7 @@ use mari_market::MOST_ORDERS;
 use mari_units::{Cents, Items, MOST_BORDERS, MOST_FLOW, MOST_MW, MOST_ZONES};
 use std::alloc::Global;
 
-/// An empty list with room for about as many items as there are words left, and for no more than it may have.
+/// An empty list with room for about as many items as there are words left, and for no more than `most`.
 fn list_for<T>(alloc: Global, words: &Words<'_>, most: usize) -> Result<Vec<T>, FormFault>
     ensures { MatchResult result (λ list. list.items ≡ []) (λ fault. fault ≡ form_fault.Memory) }
 {

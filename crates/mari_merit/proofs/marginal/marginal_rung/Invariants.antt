@@ -2,7 +2,7 @@ use Rattle.std.proofs.Common.{◌≡◌, ◌≤◌, ◌<◌, ◌⊎◌, ◌*◌,
 use Rattle.mari_merit.proofs.Rungs.{room}
 use Rattle.mari_merit.proofs.marginal.marginal_rung.Given as goal
 
--- so much is met by the rungs before this one, and it is less than the need unless this is the first
+-- `met` is the room of the rungs before this one, in MW, and is less than the need unless this is the first
 abbrev pub invariant-loop-rung : goal.invariant-loop-rung
 invariant-loop-rung l = record {
   met : l.met ≡ room (take l.rung-index l.rungs);

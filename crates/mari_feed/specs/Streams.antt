@@ -129,7 +129,7 @@ stop_of_text text_fault.Memory = NoMemory
 
 -- ---- what has come
 
--- a line was written, or a first part of it, or it ran out of memory
+-- a line was written, or a first part of it, or memory ran out
 abbrev pub WroteLine : {T : Type 0} → Part → (before after : Option (List ℕ)) → Result T FeedStop → Type 0
 WroteLine x before after (Ok done) = after ≡ then_took before (line_of x)
 WroteLine x before after (Err (OfFetch f)) = ⊥

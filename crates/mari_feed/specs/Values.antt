@@ -18,7 +18,8 @@ use Rattle.mari_lines.specs.declared.line.BorderLine.{BorderLine}
 use Rattle.mari_lines.specs.declared.line.Heading.{Heading}
 use Rattle.mari_lines.specs.declared.line.MoneyLine.{MoneyLine}
 use Rattle.mari_lines.specs.declared.line.ZoneLine.{ZoneLine}
-use Rattle.mari_lines.specs.Spelling.{kind_text, side_text}
+use Rattle.mari_lines.specs.declared.line.Keyword.TheVariants as first
+use Rattle.mari_lines.specs.Spelling.{keyword_text, kind_text, side_text}
 use Rattle.mari_publish.specs.declared.publication.Block.{Block}
 use Rattle.mari_publish.specs.declared.publication.Block.TheVariants as block
 use Rattle.mari_publish.specs.declared.publication.FullBlock.{FullBlock}
@@ -129,7 +130,7 @@ conflict_value c = object_of (
     )
 
 abbrev pub item_value : TreeItem → Data
-item_value item.Branch = string (codes "branch")
+item_value item.Branch = string (keyword_text first.Branch)
 item_value (item.Leaf (leaf.Bound prices)) = bound_value prices
 item_value (item.Leaf (leaf.Cut cut)) = cut_value cut
 item_value (item.Leaf (leaf.Conflict conflict)) = conflict_value conflict

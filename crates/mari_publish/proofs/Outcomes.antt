@@ -125,7 +125,7 @@ truncated_stop text n a = record {
 pub one_text : (text : List ℕ) (p q : Publication) → IsText text p → IsText text q → p ≡ q
 one_text text p q a b = one_publication p q a.has b.has (one_stop text _ _ _ _ (text_stop text p a) (text_stop text q b)).0
 
--- two outcomes of different kinds are none
+-- a text has no two outcomes of different kinds
 text_line : (text : List ℕ) (p : Publication) (n : ℕ) → IsText text p → BadLineAt text n → ⊥
 text_line text p n a b = not_empty b.here b.after (one_stop text _ _ _ _ (text_stop text p a) (line_stop text n b)).1
 

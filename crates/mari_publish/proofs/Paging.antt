@@ -129,7 +129,7 @@ all-new old items piece n none same a = let e = ap length none in let f = ap len
 pub first-of : (left old items piece : List ℕ) (n : ℕ) → old ≡ [] → piece ≡ items → IsPiece left old items n → IsPiece left [] piece n
 first-of left old items piece n none same h = subst (λ (xs : List ℕ). IsPiece left [] xs n) (sym same) (subst (λ (o : List ℕ). IsPiece left o items n) none h)
 
--- so much of the page has come, of which this is known, and this is left of it, where that is reported
+-- `given` bytes of the page have come, of which `Known` holds, and `rest` is left of it, where that is reported
 pub record Under (Known : List ℕ → Type 0) (page rest : Option (List ℕ)) (given : ℕ) : Type 0 where
   pub text : List ℕ
   pub known : Known text
@@ -142,7 +142,7 @@ pub dropped : (rest now : Option (List ℕ)) (left : List ℕ) (n : ℕ) → res
 dropped rest now left n e f = f ∙ ap (option_map (λ l. drop n l)) e
 
 module _ (Known : List ℕ → Type 0) (page rest : Option (List ℕ)) (given : ℕ) (u : Under Known page rest given) where
-  -- as many bytes as may be were given: they are what has come
+  -- `most_given` bytes were given: they are what has come
   pub overlong-front : IsOverlong rest given → (whole : List ℕ) → page ≡ Some whole → u.text ≡ take most_given whole
   overlong-front over whole is =
       let t = u.reported whole is in

@@ -35,8 +35,8 @@ parts_so_far p held.Start = []
 parts_so_far p held.Done = parts_of p
 parts_so_far p _ = front_parts p
 
--- lines that may follow one another are those of the parts and, after these, of what is held; and so many blocks of
--- either kind are among the parts
+-- lines that may follow one another are those of the parts and, after these, of what is held; and the counts are those
+-- of the published and of the unpublished blocks among the parts
 pub record Gives (lines : List Line) (parts : List Part) (k : Kept) : Type 0 where
   pub so_far : Publication
   pub follow : after_all nothing_read nothing_kept lines ≡ Some (so_far, k)
@@ -55,10 +55,11 @@ pub record ComeState : Type 0 where
 abbrev pub come_of : Coming → ComeState
 come_of c = record { kept = c.kept; lines = c.lines; ahead = c.ahead; unread = drop c.handled c.bytes.items }
 
--- a reader: what has come, and whether it was reported that no further part has
+-- a reader: what has come, whether it was reported that no further part has, and how many bytes of the text are held
 pub record ReaderState : Type 0 where
   pub come : ComeState
   pub waits : Bool
+  pub bytes : ℕ
 
 -- the bytes after the handled lines; of a line that is too long there is a mark in place of them
 abbrev pub IsAhead : Ahead → List ℕ → List ℕ → Type 0

@@ -1,6 +1,6 @@
 //! A text as far as it has come: what is kept of the handled lines, and the bytes after them.
 
-ghost use Rattle.std.specs.Prelude.{◌≡◌, ◌≤◌, ◌<◌, ◌+◌, ◌++◌, ◌^◌, ℕ, List, Ok, None, OnOk, OnErr, true, false, vec_len};
+ghost use Rattle.std.specs.Prelude.{◌≡◌, ◌≤◌, ◌<◌, ◌+◌, ◌*◌, ◌++◌, ◌^◌, ℕ, List, Ok, None, OnOk, OnErr, true, false, vec_len};
 ghost use Rattle.mari_publish.specs.declared.publication.Part.{Part as PartValue};
 ghost use Rattle.mari_publish.specs.Order.{HasRoom};
 ghost use Rattle.mari_publish.specs.Pieces.{ComesFrom, IsCome, IsNext, HasNoLine, IsWhole, KeepsFew, with_answer, come_of};
@@ -100,7 +100,7 @@ pub fn next_part(alloc: Global, coming: &mut Coming) -> Result<Option<Part>, Tex
 }
 
 /// Forgets the bytes of handled lines once they are more than `MOST_LINE`, so that those after them are seldom moved,
-/// and those of a line that is too long: no more than `MOST_LINE` bytes stay after the handled ones.
+/// and those of a line that is too long: no more than `MOST_LINE` bytes stay of either.
 pub fn forget(coming: &mut Coming)
     requires handled { coming.old.handled ≤ vec_len coming.old.bytes }
     requires no_line { HasNoLine (come_of coming.old) }
@@ -108,6 +108,7 @@ pub fn forget(coming: &mut Coming)
     ensures stands { (text : List ℕ) (parts : List PartValue) → ComesFrom (come_of coming.old) text parts → ComesFrom (come_of coming.new) text parts }
     ensures no_line { HasNoLine (come_of coming.new) }
     ensures few { KeepsFew (come_of coming.new) }
+    ensures held { vec_len coming.new.bytes ≤ 2 * MOST_LINE }
 {
     let handled = coming.handled;
     if coming.bytes.len() - handled > MOST_LINE {
@@ -126,6 +127,7 @@ pub fn append(coming: &mut Coming, piece: &[u8]) -> Result<(), Memory>
     ensures handled { coming.new.handled ≤ vec_len coming.new.bytes }
     ensures appended { (text : List ℕ) (parts : List PartValue) → ComesFrom (come_of coming.old) text parts → OnOk result (ComesFrom (come_of coming.new) (text ++ piece.now) parts) }
     ensures same { OnErr result (come_of coming.new ≡ come_of coming.old) }
+    ensures held { OnErr result (vec_len coming.new.bytes ≡ vec_len coming.old.bytes) }
 {
     match coming.ahead {
         Ahead::Kept => coming.bytes.extend_from_slice(piece)?,

@@ -1,6 +1,6 @@
 //! Reading a text in pieces.
 
-ghost use Rattle.std.specs.Prelude.{◌≡◌, ◌++◌, [], ℕ, List, Option, Result, Err, OnOk, OnErr, IsOk, true, false};
+ghost use Rattle.std.specs.Prelude.{◌≡◌, ◌≤◌, ◌*◌, ◌++◌, [], ℕ, List, Option, Result, Err, OnOk, OnErr, IsOk, true, false};
 ghost use Rattle.mari_publish.specs.declared.fault.TextFault.TheVariants as text_fault;
 ghost use Rattle.mari_publish.specs.declared.fault.TextFault.{TextFault as TextFaultValue};
 ghost use Rattle.mari_publish.specs.declared.publication.Part.{Part as PartValue};
@@ -12,14 +12,15 @@ use crate::coming::{Ahead, Coming, append, forget, is_whole, next_part};
 use crate::fault::TextFault;
 use crate::held::Kept;
 use crate::publication::Part;
+use mari_lines::MOST_LINE;
 use mari_units::Memory;
 use std::alloc::Global;
 use std::marker::Model;
 
 /// A text that comes in pieces. The reader keeps what has come of the part that is being read, and the bytes after
 /// the lines that are handled: neither the text nor the parts that were given. Where `next` finds no further part, it
-/// keeps at most `MOST_LINE` bytes of handled lines, and where more than `MOST_LINE` bytes of a line have come, of them
-/// only that the line is too long.
+/// holds at most 2 times `MOST_LINE` bytes: half of them of handled lines, and of a line that is longer than `MOST_LINE`
+/// only that it is too long.
 #[derive(Drop)]
 pub struct TextReader {
     coming: Coming,
@@ -32,7 +33,7 @@ impl Model for TextReader {
 
     ghost Value = { ReaderState };
 
-    ghost view = { λ r. record { come = come_of r.coming; waits = r.waits } };
+    ghost view = { λ r. record { come = come_of r.coming; waits = r.waits; bytes = vec_len r.coming.bytes } };
 
     ghost invariant = { λ r. (r.coming.handled ≤ vec_len r.coming.bytes) × IsCome (come_of r.coming) × (r.waits ≡ true → HasNoLine (come_of r.coming)) × (r.waits ≡ true → KeepsFew (come_of r.coming)) };
 }
@@ -84,8 +85,10 @@ impl TextReader {
         ensures stands { (text : List ℕ) (parts : List PartValue) → ComesFrom self.old.come text parts → ComesFrom self.new.come text (with_answer parts result) }
         ensures waits { self.new.waits ≡ found_none result }
 
-        // Where no further part is whole, no more of the text is kept than a line may have.
+        // Where no further part is whole, at most `MOST_LINE` bytes are kept after the handled lines, and at most twice
+        // that together with these.
         ensures few { found_none result ≡ true → KeepsFew self.new.come }
+        ensures held { found_none result ≡ true → self.new.bytes ≤ 2 * MOST_LINE }
 
         // The text so far and the parts given have no other answer, in whatever pieces the text came.
         ensures one { (text : List ℕ) (parts : List PartValue) (answer : Result (Option PartValue) TextFaultValue) → ComesFrom self.old.come text parts → IsNext text parts answer → SameAnswer answer result }

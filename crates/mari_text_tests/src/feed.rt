@@ -10,9 +10,11 @@ use mari_units::Memory;
 use std::alloc::Global;
 use std::test::Fail;
 
-/// A part as JSON, and its lines in a day's text.
+/// A part of a day.
 pub(crate) struct Case {
+    /// The part as JSON.
     pub json: &'static str,
+    /// Its lines in a day's text.
     pub lines: &'static str,
 }
 

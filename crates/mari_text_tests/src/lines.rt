@@ -1,4 +1,4 @@
-//! What is a line, and what is none.
+//! What is a line, and what isn't one.
 
 use crate::texts::made;
 use mari_lines::{FormFault, read_line};
@@ -6,7 +6,7 @@ use std::alloc::Global;
 use std::process::Abort;
 use std::test::Fail;
 
-/// Lines with a `*` where a field stands, fields with which they are lines, and fields with which they are none, each
+/// Lines with a `*` where a field stands, fields with which they are lines, and fields with which they aren't, each
 /// with a `|` between them.
 struct Fields {
     lines: &'static str,

@@ -1,4 +1,4 @@
-//! Words that are commands, and words that are none.
+//! Words that are commands, and words that aren't.
 
 use crate::same::same_in;
 use mari_words::{Command, FilePart, WordsFault, read_words};

@@ -40,7 +40,7 @@ fn open_run(kept: &mut Kept, heading: Heading) -> Result<Option<Part>, FollowFau
 }
 
 /// The line of a run that isn't published, after the head or a block.
-fn report_unpublished(
+fn take_unpublished(
     kept: &mut Kept,
     heading: Heading,
     count: u32,
@@ -83,7 +83,7 @@ pub fn between_blocks(
 {
     match line {
         Line::Run(heading) => open_run(kept, heading),
-        Line::Unpublished(heading, count) => report_unpublished(kept, heading, count),
+        Line::Unpublished(heading, count) => take_unpublished(kept, heading, count),
         Line::TotalOperator(operator) => open_totals(alloc, kept, operator),
         line => refuse_line(kept, Held::Between, line),
     }

@@ -13,6 +13,6 @@ invariant-parts g l = record {
   faults : g.K.Sink.faults l.fn.sink ≤ g.K.Sink.faults l.sink;
 }
 
--- a publication has at most so many parts
+-- the number of parts that may still come: a publication has at most 1,002
 abbrev pub decreases-parts : goal.decreases-parts
 decreases-parts g l = 1002 - count_of l.reader.come.kept

@@ -43,7 +43,7 @@ provider_of row = field_of row 1
 abbrev pub zone_in : ZoneBook → Row → Option ℕ
 zone_in zones row = zone_named zones (field_of row 2)
 
--- a line's quarter, which is one of so many
+-- a line's quarter, which is from 1 to `quarters`
 abbrev pub quarter_in : ℕ → Row → Option ℕ
 quarter_in quarters row = number_in 1 quarters (field_of row 3)
 
@@ -139,7 +139,7 @@ bid_book zones quarters rows = record {
 unfoldable pub bid_columns : List ℕ
 bid_columns = codes "id,provider,zone,quarter,direction,price,least,greatest,kind"
 
--- what makes a page a book of bids in these zones, on a day of so many quarters
+-- what makes a page a book of bids in these zones, on a day of `quarters` quarter hours
 abbrev pub bid_grammar : ZoneBook → ℕ → Grammar BidBook
 bid_grammar zones quarters = record {
   columns = bid_columns;
@@ -148,8 +148,8 @@ bid_grammar zones quarters = record {
   book = bid_book zones quarters;
 }
 
--- a bid of a zone of the day, of one of so many providers, in one of so many quarters, with its price and quantities in
--- range
+-- a bid of a zone of the day, of one of the first `providers` providers, in a quarter from 1 to `quarters`, with its
+-- price and quantities in range
 pub record IsBid (zones : ZoneBook) (providers quarters : ℕ) (bid : Bid) : Type 0 where
   pub provider : bid.provider < providers
   pub zone : bid.zone < length zones.zones

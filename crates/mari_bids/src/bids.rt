@@ -241,7 +241,7 @@ impl<'a> BookSoFar for BidsSoFar<'a> {
         if !count_one(&mut self.counts, bid.quarter, MOST_BIDS as u32) {
             return Err(LineFault::Fails(BidCheck::TooMany));
         }
-        self.ids.find_or_add(alloc, line.field(0))?;
+        self.ids.add_new(alloc, line.field(0))?;
         bid.provider = self.providers.find_or_add(alloc, line.field(1))?;
         self.bids.push(bid)?;
         Ok(())

@@ -89,7 +89,7 @@ module _ {X : Type 0} (f : ℕ → List X) where
           split ∙ ap (λ ys. ys ++ filter (test j) rest) (none-kept (test j) (f a) (others a there.1 (each a (omega arith) (omega arith))))
           ∙ later (omega (arith, low, there.1))
 
--- so many items each
+-- `n` lists of `size` items each
 pub length-each : {X : Type 0} (f : ℕ → List X) (size a n : ℕ) → ((j : ℕ) → length (f j) ≡ size) → length (flat_map f (range_with_len a n)) ≡ n * size
 length-each f size a zero each = sym (zero-mul size)
 length-each f size a (suc n) each = length-append (f a) (flat_map f (range_with_len (a + 1) n)) ∙ rw (each a, length-each f size (a + 1) n each) (let more = suc-mul n size in omega (arith, more))
@@ -98,7 +98,7 @@ length-each f size a (suc n) each = length-append (f a) (flat_map f (range_with_
 pub one-more-times : (k size : ℕ) → (k + 1) * size ≡ k * size + size
 one-more-times k size = ap (λ m. m * size) (add-one k) ∙ suc-mul k size
 
--- the end of a piece of this size within so many
+-- piece k of `size` items ends within `n` such pieces
 pub end-within : (k n size : ℕ) → k < n → k * size + size ≤ n * size
 end-within k n size l =
     let above : k + 1 ≤ n = omega (arith, l) in

@@ -34,7 +34,7 @@ any-in-range test a (suc n) k low high e = by (eqb_tells a k) (λ more. any-in-r
     by (inl here) more = rw (here.1, e) refl
     by (inr other) more = rw (more (omega (arith, low, other.1))) (or-yes (test a))
 
--- one item more of the first so many of a list
+-- one item more than the first k of a list
 pub take-more : {X : Type 0} (xs : List X) (k : ℕ) (x : X) → k < length xs → x ≡ get_or xs k x → take (k + 1) xs ≡ take k xs ++ x ∷ []
 take-more xs k x l is = ap (λ n. take n xs) (add-one k) ∙ take-suc xs k x l ∙ ap (λ y. take k xs ++ y ∷ []) (sym is)
 

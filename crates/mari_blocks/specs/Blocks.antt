@@ -44,11 +44,12 @@ abbrev pub is_parent : List BidLinks → ℕ → Bool
 is_parent links bid = list_any (is_parent_of bid) links
 
 -- a bid is in a group, or is a child or a parent
+-- Read off the finished book, as the code does; `is_gated` of `mari_links` reads it off the lines that make the book.
 abbrev pub is_linked : List BidLinks → ℕ → Bool
 is_linked links bid = is_some (group_at links bid) || is_some (parent_at links bid) || is_parent links bid
 
--- a line is refused for a block whose name is none, for an unknown bid, for a bid of another quarter, for one that an
--- earlier line puts into a block, and for one that is in a group or has or is a parent
+-- a line is refused for a block whose name isn't a name, for an unknown bid, for a bid of another quarter, for one that
+-- an earlier line puts into a block, and for one that is in a group or has or is a parent
 abbrev pub line_checks : BidBook → LinkBook → (first last : ℕ) → List Row → Row → Checks
 line_checks bids links first last earlier row =
     (not (is_name (block_name row)), block_check_number BadField)

@@ -18,7 +18,7 @@ use Rattle.mari_blocks.specs.declared.printing.Place.{Place}
 use Rattle.mari_blocks.specs.declared.printing.Priced.{Priced}
 use Rattle.mari_blocks.specs.declared.text.QuarterBlock.{QuarterBlock}
 
--- so many items of a list from a place on
+-- `count` items of a list, from the place `from` on
 abbrev pub piece : {X : Type 0} → (from count : ℕ) → List X → List X
 piece from count xs = take count (drop from xs)
 
@@ -28,7 +28,7 @@ pub record IsPriced (books : Books) (first : ℕ) (joint : Joint) (a : Activatio
   pub rents : priced.rents ≡ rents_of joint.market a priced.pricing.published.cents
   pub small : All IsSmall priced.rents
 
--- three prices and an area for each zone of so many quarters, a flow and a rent for each of their borders, and a
+-- three prices and an area for each zone of `count` quarters, a flow and a rent for each of their borders, and a
 -- quantity for each bid and each demand
 pub record HasShapes (books : Books) (count : ℕ) (joint : Joint) (a : Activation) (priced : Priced) : Type 0 where
   pub published : length priced.pricing.published.cents ≡ count * length books.zones.zones

@@ -80,7 +80,7 @@ abbrev pub gate_info : List BidLinks → List JointGate → JointGate → GateIn
 gate_info links gates (OfBlock block) = record { group = None; parent = None }
 gate_info links gates (OfBid bid) = record { group = group_at links bid; parent = option_and_then (λ parent. gate_place gates (OfBid parent)) (parent_at links bid) }
 
--- an order, and a border, with their zones so many places further on
+-- an order, and a border, whose zones are moved on by `zones` places
 abbrev pub shifted_order : (zones : ℕ) → Order → Order
 shifted_order zones order = record order { zone = zones + order.zone }
 

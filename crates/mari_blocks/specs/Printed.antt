@@ -6,12 +6,11 @@ use Rattle.mari_units.specs.declared.numbers.Cents.{Cents}
 use Rattle.mari_units.specs.declared.numbers.Quarters.{Quarters}
 use Rattle.mari_rows.specs.Names.{name_at}
 use Rattle.mari_market.specs.Area.{AreAreas}
-use Rattle.mari_market.specs.Clearing.{IsClearing, IsSpent}
+use Rattle.mari_market.specs.Clearing.{IsClearing, IsUnpublished}
 use Rattle.mari_market.specs.Interval.{AreIntervals}
 use Rattle.mari_market.specs.Optimal.{IsConsistent}
 use Rattle.mari_market.specs.declared.activation.Activation.{Activation}
 use Rattle.mari_market.specs.declared.clearing.Clearing.{Clearing}
-use Rattle.mari_market.specs.declared.clearing.Spent.{Spent}
 use Rattle.mari_market.specs.declared.market.Market.{Market}
 use Rattle.mari_lines.specs.declared.line.BidLine.{BidLine}
 use Rattle.mari_lines.specs.declared.line.BorderLine.{BorderLine}
@@ -96,8 +95,8 @@ pub record AreJointPrices (books : Books) (first : ℕ) (m : Market) (a : Activa
   pub areas : AreAreas m a numbers
 
 -- the block of a joint market that is published: a part for each quarter in order, which together name the joint
--- market's bids; its first activation, with its welfare and a certificate tree of at most so many items that holds at it
--- for its gate word; the prices of its zones; and the rents of its borders at these prices
+-- market's bids; its first activation, with its welfare and a certificate tree of at most `budget` items that holds at
+-- it for its gate word; the prices of its zones; and the rents of its borders at these prices
 pub record IsJointBlock (books : Books) (first last budget : ℕ) (joint : Joint) (b : JointBlock) : Type 0 where
   pub from_first : b.first ≡ first
   pub to_last : b.last ≡ last
@@ -108,16 +107,10 @@ pub record IsJointBlock (books : Books) (first last budget : ℕ) (joint : Joint
   pub prices : AreJointPrices books first joint.market (activation_printed b.quarters) (prices_printed b.quarters) (least_printed b.quarters) (greatest_printed b.quarters) (areas_printed b.quarters)
   pub rents : rents_printed b.quarters ≡ rents_of joint.market (activation_printed b.quarters) (prices_printed b.quarters)
 
--- a joint market that isn't published: its search tree has more nodes than the budget, and `count` of them were made
-pub record IsJointSpent (budget : ℕ) (joint : Joint) (count : ℕ) : Type 0 where
-  pub spent : Spent
-  pub is_spent : IsSpent joint.market budget spent
-  pub counted : count ≡ length spent.items
-
 -- the text of a joint market: that of its block, where it is published, or that it isn't
 pub data IsTextOf (books : Books) (first last budget : ℕ) (joint : Joint) : Bool → List ℕ → Type 0 where
   Published : (b : JointBlock) → IsJointBlock books first last budget joint b → IsTextOf books first last budget joint true (joint_text_of b)
-  Unpublished : (count : ℕ) → IsJointSpent budget joint count → IsTextOf books first last budget joint false (unpublished_text_of first last count)
+  Unpublished : (count : ℕ) → IsUnpublished joint.market budget count → IsTextOf books first last budget joint false (unpublished_text_of first last count)
 
 -- the text of the joint market of these quarters, which there is
 pub record IsJointText (books : Books) (blocks : BlockBook) (first last budget : ℕ) (published : Bool) (text : List ℕ) : Type 0 where

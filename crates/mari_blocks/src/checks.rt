@@ -21,7 +21,8 @@ const LINKS_FILE: u8 = 5;
 pub enum JointCheck {
     /// A quarter has no scheduled run: reported of runs.csv.
     NoScheduled,
-    /// A bid needs or is barred by a bid of another of the quarters: reported of links.csv.
+    /// A bid needs a bid of another of the quarters, is barred by it, or has a technical link to it: reported of
+    /// links.csv.
     AcrossQuarters,
     /// The joint market has more of something than a market may have: reported of blocks.csv.
     TooLarge,

@@ -9,7 +9,7 @@ use crate::blocks::BlockBook;
 use mari_units::Memory;
 use std::alloc::Global;
 
-/// Marks those of so many bids that are among these.
+/// A mark for each of `bids` bids: whether its number is among these.
 fn marks_of(alloc: Global, bids: usize, numbers: &[u32]) -> Result<Vec<bool>, Memory>
     requires { All (λ number. number < bids) numbers.now }
     ensures sized { IfOk result (λ marks. length marks.items ≡ bids) }

@@ -11,10 +11,12 @@ use mari_remain::{Books, group_of, is_gated, parent_of};
 use mari_units::Memory;
 use std::alloc::Global;
 
-/// A gate of a joint market: a block's, by the block's place, or a bid's own, by the bid's number.
+/// A gate of a joint market.
 #[derive(Clone, Copy, Debug, Drop, PartialEq, Eq)]
 pub(crate) enum JointGate {
+    /// That of a block, by the block's place among the blocks, from 0.
     OfBlock(u32),
+    /// A bid's own, by the bid's number, from 0.
     OfBid(u32),
 }
 

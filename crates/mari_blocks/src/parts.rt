@@ -25,7 +25,7 @@ pub(crate) struct JointParts {
     pub demands: Vec<Order>,
 }
 
-/// An order whose zone is so many places further on.
+/// An order whose zone is moved on by `zones` places.
 pub(crate) fn shifted_order(zones: u32, order: Order) -> Order
     requires zones { zones ≤ MOST_QUARTERS * MOST_ZONES }
     requires zone { order.zone < MOST_ZONES }
@@ -37,7 +37,7 @@ pub(crate) fn shifted_order(zones: u32, order: Order) -> Order
     }
 }
 
-/// A border whose zones are so many places further on.
+/// A border whose zones are moved on by `zones` places.
 fn shifted_border(zones: u32, border: Border) -> Border
     requires zones { zones ≤ MOST_QUARTERS * MOST_ZONES }
     requires from { border.from < MOST_ZONES }
@@ -51,7 +51,7 @@ fn shifted_border(zones: u32, border: Border) -> Border
     }
 }
 
-/// Appends borders, with their zones so many places further on.
+/// Appends borders, their zones moved on by `zones` places.
 fn put_borders(into: &mut Vec<Border>, borders: &[Border], zones: u32) -> Result<(), Memory>
     requires zones { zones ≤ MOST_QUARTERS * MOST_ZONES }
     requires between { All (IsBetween MOST_ZONES) borders.now }
@@ -63,7 +63,7 @@ fn put_borders(into: &mut Vec<Border>, borders: &[Border], zones: u32) -> Result
     Ok(())
 }
 
-/// Appends orders, with their zones so many places further on.
+/// Appends orders, their zones moved on by `zones` places.
 fn put_orders(into: &mut Vec<Order>, orders: &[Order], zones: u32) -> Result<(), Memory>
     requires zones { zones ≤ MOST_QUARTERS * MOST_ZONES }
     requires there { All (λ (o : TheOrder). o.zone < MOST_ZONES) orders.now }
@@ -89,7 +89,7 @@ impl JointParts {
         }
     }
 
-    /// Adds what the market of a run brings, with its zones so many places further on.
+    /// Adds what the market of a run brings, its zones moved on by `zones` places.
     fn add(&mut self, made: &RunMarket, zones: u32) -> Result<(), Memory>
         requires valid { IsValid made.now.market }
         requires bids { length made.now.bids ≤ length made.now.market.orders }

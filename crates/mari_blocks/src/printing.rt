@@ -54,7 +54,7 @@ struct Place {
     demands: usize,
 }
 
-/// So many items of a list from a place on.
+/// `count` items of a list, from the place `from` on.
 fn cut<T>(items: &[T], from: usize, count: usize) -> &[T]
     requires { from + count ≤ length items.now }
     ensures { result.now ≡ piece from count items.now }
@@ -73,6 +73,7 @@ fn bid_count(books: &Books, numbers: &[u32], quarter: u32) -> usize
 }
 
 /// How many demands the scheduled run of a quarter has, which it has.
+/// Counted among all demands: the lists by run, which `Remaining` has, aren't at hand here.
 fn demand_count(books: &Books, quarter: u32) -> usize
     requires accepted { IsAccepted books.now }
     requires there { is_some (scheduled_run_of books.now.runs.runs quarter) ≡ true }
@@ -161,7 +162,7 @@ fn borders_at(
     Ok(Items::of(lines))
 }
 
-/// The lines of so many bids of the joint market, which begin at a place.
+/// The lines of `count` bids of the joint market, from the place `from` on.
 fn bids_at(
     alloc: Global,
     books: &Books,

@@ -93,7 +93,8 @@ fn names_of_quarters(books: &Books, first: u32, last: u32, links: &BidLinks) -> 
         || is_one_of_quarters(books, first, last, links.technical.as_slice())
 }
 
-/// Whether a bid of one of the quarters has a link to a bid of one of them: it needs it, or is barred by it.
+/// Whether a bid of one of the quarters has a link to a bid of one of them: it needs it, is barred by it, or has a
+/// technical link to it.
 pub(crate) fn links_across(books: &Books, first: u32, last: u32) -> bool
     requires { IsAccepted books.now }
     ensures { result ≡ links_across_in books.now first last }

@@ -188,7 +188,7 @@ fn borders_without_limits(rt: HostRuntime) -> Result<(), Fail> {
     Ok(())
 }
 
-// Borders from each of the first zones to each of the 60 zones after them, as many as are wanted.
+// `count` borders, from the first four zones to the 60 zones after them.
 fn border_page(alloc: Global, count: u32) -> Result<Vec<u8>, Fail> {
     let mut page = b"from,to,limit,back\n".to_vec(alloc)?;
     for i in 0..count {

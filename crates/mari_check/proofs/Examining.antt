@@ -31,8 +31,8 @@ module _ (books : Books) (made : RunMarket) (also : Option (List Cents)) (b : Fu
   own : (held ≡ true) ↔ HasLedger books made also b
   own = states-is books made also b ledger places a ps.cents reported priced rents operators providers listed held test
 
-  pub ledger-untold : held ≡ false → HasLedger books made also b → ⊥
-  ledger-untold wrong h = both_ways held wrong (own.1 h)
+  pub ledger-unreported : held ≡ false → HasLedger books made also b → ⊥
+  ledger-unreported wrong h = both_ways held wrong (own.1 h)
 
   pub ledger-reported : held ≡ true → IsMarketOf books made → IsConsistent made.market a ps.cents → IsBalancedLedger ledger → IsReportedLedger books made also b a ps (Some ledger)
   ledger-reported right of agrees balanced =

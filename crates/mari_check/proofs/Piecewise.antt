@@ -42,7 +42,7 @@ end-fault T books text parts (fault.BadOrder n) h = absurd h
 end-fault T books text parts (fault.Truncated n) h = h
 end-fault T books text parts fault.Memory h = absurd h
 
--- no fault of the text is want of memory, nor one of the shelf
+-- no fault of the text says that memory ran out, nor that a fetch failed
 pub line-never : (T : Type 0) (text : List ℕ) (f : StreamFault) → LineStates text f → IsWrappedMemory {T = T} (Err f) → ⊥
 line-never T text (OfText fault.Memory) h w = h
 line-never T text (OfText (fault.BadLine n)) h w = absurd cc

@@ -151,9 +151,9 @@ pub(crate) fn reported_ledger(
 {
     let ledger = ledger_of(alloc, books, made, prices, activation, also)?;
     let places = providers_of(alloc, books.bids.bids.as_slice(), made.bids.as_slice())?;
-    let states = states_ledger(books, block, &ledger, &places);
+    let is_stated = states_ledger(books, block, &ledger, &places);
     drop(places);
-    if !states {
+    if !is_stated {
         drop(ledger);
         return Ok(None);
     }

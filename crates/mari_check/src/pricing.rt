@@ -75,8 +75,7 @@ pub(crate) fn has_intervals(
     if !are_ends(alloc, market, activation, &least, End::Least)? {
         return Ok(false);
     }
-    let is = are_ends(alloc, market, activation, &greatest, End::Greatest)?;
-    Ok(is)
+    are_ends(alloc, market, activation, &greatest, End::Greatest)
 }
 
 /// The price from the least to the greatest that is nearest to the reference.

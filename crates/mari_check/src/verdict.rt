@@ -23,10 +23,20 @@ use std::alloc::Global;
 /// where there is none, where the totals are other sums.
 #[derive(Clone, Copy, Debug, Drop, PartialEq, Eq)]
 pub enum Verdict {
-    /// Every run is as it should be: how many are published, and how many are not.
-    Valid { published: u32, unpublished: u32 },
-    /// A run has a fault: its number, and that of its least fault.
-    Invalid { run: u32, fault: u8 },
+    /// Every run is as it should be.
+    Valid {
+        /// How many runs are published.
+        published: u32,
+        /// How many runs aren't.
+        unpublished: u32,
+    },
+    /// A run has a fault.
+    Invalid {
+        /// The run that has it, counted from 1; 0 for the head, and for the totals of a day without runs.
+        run: u32,
+        /// The number of its least fault.
+        fault: u8,
+    },
 }
 
 impl DayCheck {

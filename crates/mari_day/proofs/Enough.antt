@@ -43,7 +43,7 @@ module _ (books : Books) (nodes : ℕ) (p : Publication) (day : IsDay books node
   is-out k (block.Unpublished heading count) e is =
       let l = slice_get_within p.blocks k (block.Unpublished heading count) e in
       let here = enough (take k p.blocks) (part-of books nodes p.blocks k day.part (omega (arith, l))) (omega (arith, l, day.every, length-take-le k p.blocks (omega (arith, l)))) in
-      omega (arith, here.2, larger_than_budget (market_after books (take k p.blocks)).market here.0 nodes here.1 is.is_spent.larger)
+      omega (arith, here.2, larger_than_budget (market_after books (take k p.blocks)).market here.0 nodes here.1 is.spent.is_spent.larger)
 
   pub all-published : unpublished_in p.blocks ≡ 0
   all-published = all-out p.blocks (λ k b e. is-out k b e (day.part.each k b e))

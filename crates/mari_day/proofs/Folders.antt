@@ -20,7 +20,7 @@ count-of version = by (version == 2) refl
     by true e = inr (rw e refl)
     by false e = inl (rw e refl)
 
--- so many files a folder has, whether its pages are reported or not
+-- the number of files that a folder has, at least 7, whether its pages are reported or not
 pub files-there : (pages : Option Pages) (folder : List ℕ) → (count : ℕ) × HasFiles pages folder count × (7 ≤ count)
 files-there None folder = (7, record { seven_or_eight = inl refl; reported = λ reported e. cc e }, omega arith)
 files-there (Some reported) folder =

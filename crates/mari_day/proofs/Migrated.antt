@@ -11,7 +11,7 @@ use Rattle.mari_zones.specs.Borders.{borders_in}
 use Rattle.mari_zones.specs.declared.borders.BorderBook.{BorderBook}
 use Rattle.mari_zones.specs.declared.borders.BorderEnds.{BorderEnds}
 use Rattle.mari_demands.specs.declared.limits.Limits.{Limits}
-use Rattle.mari_market.specs.Clearing.{IsSpent}
+use Rattle.mari_market.specs.Clearing.{IsUnpublished}
 use Rattle.mari_lines.specs.declared.line.AmountLine.{AmountLine}
 use Rattle.mari_publish.specs.declared.publication.Block.{Block}
 use Rattle.mari_publish.specs.declared.publication.Block.TheVariants as block
@@ -55,9 +55,7 @@ module _ (books other : Books) (count : length books.runs.runs ≡ length other.
       subst (λ given. IsPublishedOf other budget (run_after before) (market_after other before) given b) (also before) (made (market_after other before) (market before l))
   one budget before (block.Unpublished reported count) l h = record {
     is_of = h.is_of ∙ heading (run_after before);
-    spent = h.spent;
-    is_spent = subst (λ (m : RunMarket). IsSpent m.market budget h.spent) (market before l) h.is_spent;
-    counted = h.counted;
+    spent = subst (λ (m : RunMarket). IsUnpublished m.market budget count) (market before l) h.spent;
   }
 
   pub same-part : (budget : ℕ) (blocks : List Block) → IsDayPart books budget blocks → IsDayPart other budget blocks

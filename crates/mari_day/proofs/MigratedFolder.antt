@@ -175,7 +175,7 @@ module _ (folder : List ℕ) (before after : Pages) (books : Books) (is : IsMigr
     held : map there (files ++ Limits ∷ []) ≡ map Some texts-there
     held = rw (day-there, zones-there, is.borders, bids-there, links-there, runs-there, demands-there, is.limits) refl
 
-    -- a page that was no gap before is none
+    -- a page that was no gap before isn't one after
     still : (file : File) (page : List ℕ) → here file ≡ Some page → there file ≡ Some page → gap_of (here file) ≡ None → gap_of (there file) ≡ None
     still file page e f g = ap gap_of (f ∙ sym e) ∙ g
 

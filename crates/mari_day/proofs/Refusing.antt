@@ -67,7 +67,7 @@ module _ {F : Type 0} (P : F → Type 0) where
   unless-first None value h = tt
   unless-first (Some f) value h = h
 
--- a fault of the rows, which isn't want of memory
+-- a fault of the rows, other than that memory ran out
 abbrev IsUnread : RowFault → Type 0
 IsUnread unread.BadHeader = Unit {0}
 IsUnread (unread.BadRow line) = Unit {0}
@@ -99,7 +99,7 @@ rows-report columns page = headed (records_in page)
     headed (header ∷ records) = by (is_header (columns_of columns) header) (rows_from 2 records)
 
 module _ (file : File) where
-  -- a refusal by a check of the file, which isn't want of memory
+  -- a refusal by a check of the file, other than that memory ran out
   abbrev pub IsFaultBy : BookFault → Type 0
   IsFaultBy (refused.At line number) = IsCheckNumber file number
   IsFaultBy refused.Memory = ⊥
@@ -204,7 +204,7 @@ limits-report zones borders runs = book-states Limits (limit_grammar zones borde
     (λ earlier row. (Own limit.BadField refl, (Own limit.UnknownRun refl, (Own limit.UnknownBorder refl, (Own limit.Repeated refl, (Own limit.Range refl, tt))))))
     (λ rows. tt)
 
--- a fault of the calendar, which isn't want of memory
+-- a fault of the calendar, other than that memory ran out
 abbrev IsReported : CalendarFault → Type 0
 IsReported calendar.BadDate = Unit {0}
 IsReported calendar.BadZoneText = Unit {0}

@@ -26,7 +26,7 @@ check_of calendar.OutOfRange = Fails OutOfRange
 check_of calendar.NotWholeQuarters = Fails NotWholeQuarters
 check_of calendar.Memory = Memory
 
--- the day of a record whose date has so many quarter hours, or its refusal
+-- the day of a record whose date has `quarters` quarter hours, or its refusal
 abbrev pub day_by : Row → Result ℕ CalendarFault → Result CalendarDay BookFault
 day_by row (Ok quarters) = Ok (record { date = field_of row 0; quarters = quarters })
 day_by row (Err fault) = Err (refusal_at date_check_number (check_of fault) row.line)

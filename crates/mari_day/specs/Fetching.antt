@@ -33,13 +33,13 @@ abbrev pub FetchesPage : {T : Type 0} → (before now : ℕ) → Result T PagesF
 FetchesPage before now (Ok x) = now ≡ counted before
 FetchesPage before now (Err fault) = FetchedOne before now fault
 
--- at most so many files were fetched, each once
+-- at most `most` files were fetched, each once
 pub record SomeFetched (most before now : ℕ) : Type 0 where
   pub count : ℕ
   pub within : count ≤ most
   pub fetched : now ≡ counted_by count before
 
--- how many fetches the pages of so many files take: one for each, and where a file's page can't be had one for it and
+-- how many fetches the pages of `count` files take: one for each, and where a file's page can't be had one for it and
 -- each before it
 abbrev pub FetchedUpTo : (count before now : ℕ) → PagesFault → Type 0
 FetchedUpTo count before now NoMemory = SomeFetched count before now
@@ -49,7 +49,7 @@ abbrev pub FetchesPages : (count before now : ℕ) → Result (List (List ℕ)) 
 FetchesPages count before now (Ok texts) = (length texts ≡ count) × (now ≡ counted_by count before)
 FetchesPages count before now (Err fault) = FetchedUpTo count before now fault
 
--- so many files a folder has: seven, or eight with limits.csv; where its pages are reported, they state which
+-- a folder has `count` files: seven, or eight with limits.csv; where its pages are reported, they state which
 pub record HasFiles (pages : Option Pages) (folder : List ℕ) (count : ℕ) : Type 0 where
   pub seven_or_eight : (count ≡ 7) ⊎ (count ≡ 8)
   pub reported : (reported : Pages) → pages ≡ Some reported → count ≡ length (files_in reported folder)

@@ -2,8 +2,7 @@
 use Rattle.std.specs.Prelude.{◌≡◌, ℕ, List, Option, length}
 use Rattle.mari_units.specs.declared.numbers.Cents.{Cents}
 use Rattle.mari_market.specs.declared.clearing.Clearing.{Clearing}
-use Rattle.mari_market.specs.declared.clearing.Spent.{Spent}
-use Rattle.mari_market.specs.Clearing.{IsClearing, IsSpent}
+use Rattle.mari_market.specs.Clearing.{IsClearing, IsUnpublished}
 use Rattle.mari_lines.specs.declared.line.Heading.{Heading}
 use Rattle.mari_publish.specs.declared.publication.Block.{Block}
 use Rattle.mari_publish.specs.declared.publication.Block.TheVariants as block
@@ -38,12 +37,10 @@ pub record IsPublishedOf (books : Books) (budget run : ℕ) (made : RunMarket) (
 abbrev pub IsPublishedRun : Books → (budget : ℕ) → (before : List Block) → FullBlock → Type 0
 IsPublishedRun books budget before b = IsPublishedOf books budget (run_after before) (market_after books before) (also_after books before) b
 
--- a run that isn't published: its search tree has more nodes than the budget, and `count` of them were made
+-- a run whose market isn't published: that of the market after the blocks printed before
 pub record IsUnpublishedRun (books : Books) (budget : ℕ) (before : List Block) (heading : Heading) (count : ℕ) : Type 0 where
   pub is_of : heading ≡ heading_of books (run_after before)
-  pub spent : Spent
-  pub is_spent : IsSpent (market_after books before).market budget spent
-  pub counted : count ≡ length spent.items
+  pub spent : IsUnpublished (market_after books before).market budget count
 
 -- the block of the run after the blocks printed before
 abbrev pub IsBlock : Books → (budget : ℕ) → (before : List Block) → Block → Type 0

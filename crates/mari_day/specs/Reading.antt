@@ -58,7 +58,7 @@ books_at pages =
     limits_of_pages zones borders (length runs.runs) pages >>> λ limits.
     Ok (record { date = day.date; quarters = day.quarters; zones = zones; borders = borders; bids = bids; links = links; runs = runs; demands = demands; limits = limits })
 
--- this is what was to be read, or its refusal, unless it ran out of memory
+-- this is what was to be read, or its refusal, unless memory ran out
 abbrev pub ReadsAs : {X : Type 0} → Result X BooksFault → Result X Refusal → Type 0
 ReadsAs (Ok x) read = read ≡ Ok x
 ReadsAs (Err (why.Refused refusal)) read = read ≡ Err refusal
@@ -100,7 +100,7 @@ IsFetchFault fault (Err (why.Fetch number f)) = f ≡ fault
 IsFetchFault fault (Err (why.Refused refusal)) = ⊥
 IsFetchFault fault (Err why.Memory) = ⊥
 
--- how many fetches reading so many files takes: one for each, and where a file's page can't be had one for it and each
+-- how many fetches reading `count` files takes: one for each, and where a file's page can't be had one for it and each
 -- before it; limits.csv, the ninth by its number, is the eighth that is fetched
 abbrev pub FetchesBooks : (count before now : ℕ) → Result Books BooksFault → Type 0
 FetchesBooks count before now (Ok books) = (count ≡ (if is_some books.limits then 8 else 7)) × (now ≡ counted_by count before)

@@ -12,7 +12,7 @@ use Rattle.mari_day.specs.Day.{part_text, then_took, IsDay, TookPart}
 use Rattle.mari_day.specs.Published.{IsBlock}
 use Rattle.mari_day.specs.Progress.{IsDayProgress}
 
--- the text was written, or a first part of it, or it ran out of memory and nothing was
+-- the text was written, or a first part of it, or memory ran out and nothing was
 abbrev pub Writes : (text : List ℕ) → (before after : Option (List ℕ)) → Result (Unit {0}) Stop → Type 0
 Writes text before after (Ok done) = after ≡ then_took before text
 Writes text before after (Err Sink) = TookPart before after text
@@ -30,7 +30,7 @@ pub record BrokeOff (books : Books) (budget : ℕ) (blocks : List Block) (before
   pub is_block : IsBlock books budget blocks block
   pub taken : TookPart before after (block_text_of block)
 
--- the block was written, or a first part of it, or it ran out of memory and nothing was
+-- the block was written, or a first part of it, or memory ran out and nothing was
 abbrev pub Stepped : Books → (budget : ℕ) → (blocks : List Block) → (kept : Progress) → (before after : Option (List ℕ)) → Result (Unit {0}) Stop → Type 0
 Stepped books budget blocks kept before after (Ok done) = WroteBlock books budget blocks kept before after
 Stepped books budget blocks kept before after (Err Sink) = BrokeOff books budget blocks before after

@@ -72,10 +72,10 @@ impl CalendarDay {
         ensures facts { IfOk result IsCalendarDay }
     {
         let mut records = read_rows(alloc, page, COLUMNS)?;
-        let Some(row) = records.next(alloc)? else {
+        let Some(row) = records.next()? else {
             return Err(not_one(1));
         };
-        match records.next(alloc)? {
+        match records.next()? {
             Some(second) => Err(not_one(second.line)),
             None => calendar_day_of(alloc, &row),
         }

@@ -27,8 +27,13 @@ use std::alloc::Global;
 /// How a day ended.
 #[derive(Clone, Copy, Debug, PartialEq, Eq)]
 pub enum DayEnd {
-    /// It was written whole: how many of its runs are published, and how many are not.
-    Done { published: u32, unpublished: u32 },
+    /// It was written whole.
+    Done {
+        /// How many of its runs are published.
+        published: u32,
+        /// How many of its runs aren't.
+        unpublished: u32,
+    },
     /// A write failed.
     WriteFault,
     /// Out of memory.

@@ -112,8 +112,7 @@ fn fetch_seven<S: Shelf>(
     shelf: &mut S,
     folder: &str,
 ) -> Result<Items<Items<u8>>, PagesFault>
-    // As many fetches are counted as there are files, up to the first whose page can't be had; out of memory, no
-    // more than that.
+    // One fetch is counted for each file, up to the first whose page can't be had; out of memory, no more than that.
     ensures same { S.pages shelf.new ≡ S.pages shelf.old }
     ensures small { IfOk result (All (λ (page : List ℕ). length page ≤ MOST_PAGE)) }
     ensures fetched { FetchesPages 7 (S.fetches shelf.old) (S.fetches shelf.new) result }
@@ -173,8 +172,7 @@ pub fn fetch_pages<S: Shelf>(
     shelf: &mut S,
     folder: &str,
 ) -> Result<Folder, PagesFault>
-    // As many fetches are counted as there are files, up to the first whose page can't be had; out of memory, no
-    // more than that.
+    // One fetch is counted for each file, up to the first whose page can't be had; out of memory, no more than that.
     ensures same { S.pages shelf.new ≡ S.pages shelf.old }
     ensures fetched { FetchesFolder (S.pages shelf.old) folder.now (S.fetches shelf.old) (S.fetches shelf.new) result }
 

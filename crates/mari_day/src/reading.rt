@@ -223,8 +223,8 @@ fn books_of(alloc: Global, folder: &Folder) -> Result<Books, BooksFault>
 pub fn read_books<S: Shelf>(alloc: Global, shelf: &mut S, folder: &str) -> Result<Books, BooksFault>
     ensures same { S.pages shelf.new ≡ S.pages shelf.old }
 
-    // As many fetches are counted as the folder has files, up to the first whose page can't be had; out of
-    // memory no more than that.
+    // One fetch is counted for each file of the folder, up to the first whose page can't be had; out of memory no
+    // more than that.
     ensures fetched { FetchesFiles (S.pages shelf.old) folder.now (S.fetches shelf.old) (S.fetches shelf.new) result }
 
     // What was read.

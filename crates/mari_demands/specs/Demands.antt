@@ -16,7 +16,7 @@ use Rattle.mari_demands.specs.declared.demands.Demand.{Demand}
 use Rattle.mari_demands.specs.declared.demands.DemandBook.{DemandBook}
 use Rattle.mari_demands.specs.declared.demands.DemandCheck.TheVariants.{BadField, Range, TooMany, UnknownRun, UnknownZone}
 
--- a line's run, which is one of so many
+-- a line's run, which is from 1 to `runs`
 abbrev pub run_in : ℕ → Row → Option ℕ
 run_in runs row = number_in 1 runs (field_of row 0)
 
@@ -74,7 +74,7 @@ demand_book zones runs rows = record { demands = map (demand_of zones runs) rows
 unfoldable pub demand_columns : List ℕ
 demand_columns = codes "run,zone,mw,price"
 
--- what makes a page a book of demands in these zones, for so many runs
+-- what makes a page a book of demands in these zones, for `runs` runs
 abbrev pub demand_grammar : ZoneBook → ℕ → Grammar DemandBook
 demand_grammar zones runs = record {
   columns = demand_columns;
@@ -83,7 +83,7 @@ demand_grammar zones runs = record {
   book = demand_book zones runs;
 }
 
--- a demand of one of so many runs, in a zone of the day, with its quantity and its price in range
+-- a demand of a run from 1 to `runs`, in a zone of the day, with its quantity and its price in range
 pub record IsDemand (zones : ZoneBook) (runs : ℕ) (demand : Demand) : Type 0 where
   pub first_run : 1 ≤ demand.run
   pub last_run : demand.run ≤ runs

@@ -25,7 +25,7 @@ table_of runs borders flat = map (λ run. map (λ border. limits_there flat (pla
 abbrev pub limits_in : List (List Limits) → (run border : ℕ) → Limits
 limits_in table run border = get_or (get_or table (run - 1) []) border no_limits
 
--- a table of limits in range, for so many runs and borders
+-- a table of limits in range, for `runs` runs and `borders` borders
 pub record IsLimitTable (runs borders : ℕ) (table : List (List Limits)) : Type 0 where
   pub runs_there : length table ≡ runs
   pub borders_there : (run : ℕ) → run < runs → length (get_or table run []) ≡ borders

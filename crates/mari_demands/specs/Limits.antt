@@ -78,7 +78,7 @@ module _ (zones : ZoneBook) (borders : BorderBook) (runs : ℕ) where
 unfoldable pub limit_columns : List ℕ
 limit_columns = codes "run,from,to,limit,back"
 
--- what makes a page a book of limits for these borders and so many runs
+-- what makes a page a book of limits for these borders and `runs` runs
 abbrev pub limit_grammar : ZoneBook → BorderBook → ℕ → Grammar (List (List Limits))
 limit_grammar zones borders runs = record {
   columns = limit_columns;

@@ -25,7 +25,7 @@ scheduled_word = codes "scheduled"
 abbrev pub is_direct : Row → Option Bool
 is_direct row = is_first_of direct_word scheduled_word (field_of row 2)
 
--- a line's quarter, which is one of so many
+-- a line's quarter, which is from 1 to `quarters`
 abbrev pub quarter_in : ℕ → Row → Option ℕ
 quarter_in quarters row = number_in 1 quarters (field_of row 1)
 
@@ -79,11 +79,11 @@ run_book quarters rows = record { runs = map (run_of quarters) rows }
 unfoldable pub run_columns : List ℕ
 run_columns = codes "run,quarter,kind,reference"
 
--- what makes a page a book of runs, on a day of so many quarters
+-- what makes a page a book of runs, on a day of `quarters` quarter hours
 abbrev pub run_grammar : ℕ → Grammar RunBook
 run_grammar quarters = record { columns = run_columns; line_checks = run_checks quarters; file_checks = λ rows. []; book = run_book quarters }
 
--- a run in one of so many quarters, with its reference price in range
+-- a run in a quarter from 1 to `quarters`, with its reference price in range
 pub record IsRun (quarters : ℕ) (run : Run) : Type 0 where
   pub first_quarter : 1 ≤ run.quarter
   pub last_quarter : run.quarter ≤ quarters

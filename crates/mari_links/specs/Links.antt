@@ -192,7 +192,7 @@ is_repeated bids said row kind = list_any (is_same_link (link_of bids row kind))
 abbrev pub of_kind : (LinkKind → Bool) → Row → Bool
 of_kind test row = option_map_or test (kind_of row) false
 
--- a line is refused for a kind that is none, for a group whose name is none, and for a name of no bid
+-- a line is refused for a kind that isn't one, for a group whose name isn't a name, and for a name of no bid
 abbrev pub name_checks : BidBook → Row → Checks
 name_checks bids row =
     (not (is_some (kind_of row)), link_check_number BadKind)

@@ -17,7 +17,7 @@ use Rattle.mari_settle.specs.Conditions.{IsSmall}
 pub money : (q : Quarters) → IsSmall q → IsMoney q
 money q small = omega (arith, small)
 
--- first orders of at most 9,999 MW run at most as much
+-- the first `count` orders run at most 9,999 MW each, where their greatest is at most that
 module _ (m : Market) (a : Activation) where
   up-to : (count : ℕ) (os : List Order) (qs : List ℕ)
       → AllZip (λ (o : Order) (q : ℕ). IsWithin (own_bounds m a o) q) os qs

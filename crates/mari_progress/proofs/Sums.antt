@@ -52,7 +52,7 @@ nets-together [] (m ∷ ms) e = absurd (omega (arith, e))
 nets-together (l ∷ ls) [] e = absurd (omega (arith, e))
 nets-together (l ∷ ls) (m ∷ ms) e = let more = nets-together ls ms (omega (arith, e)) in omega (arith, ints, more)
 
--- an amount of so many quarter-cents
+-- an amount of `v` quarter-cents
 abbrev money-of : ℤ → Quarters
 money-of v = record { 0 = v }
 

@@ -24,7 +24,7 @@ by-quarter bids n = ap (λ (f : ℕ → List ℕ). map f (range_with_len 0 n)) (
 pub by-run : (demands : List Demand) (n : ℕ) → map (places_of (map (λ (d : Demand). d.run) demands)) (range_with_len 0 n) ≡ map (numbers_of_run demands) (range_with_len 0 n)
 by-run demands n = ap (λ (f : ℕ → List ℕ). map f (range_with_len 0 n)) (fun_ext (λ key. places-map (λ (d : Demand). d.run) key 0 demands))
 
--- as many times the same
+-- `n` times the same, as made at each of `n` numbers
 pub same-all : {X : Type 0} (x : X) (a n : ℕ) → replicate n x ≡ map (λ k. x) (range_with_len a n)
 same-all x a zero = refl
 same-all x a (suc n) = ap (λ xs. x ∷ xs) (same-all x (a + 1) n)

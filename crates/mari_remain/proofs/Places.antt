@@ -45,7 +45,7 @@ module _ {X : Type 0} (p : X → Bool) where
   length-kept k [] = refl
   length-kept k (x ∷ xs) = same (p x) x k (places_from p (k + 1) xs) (filter p xs) (length-kept (k + 1) xs)
 
-  -- there are as many as items that pass
+  -- there are as many places as items that pass
   pub length-places : (k : ℕ) (xs : List X) → length (places_from p k xs) ≡ count_by p xs
   length-places k xs = length-kept k xs ∙ length-filter p xs
 

@@ -41,7 +41,7 @@ short-lines zones is (x ∷ xs) =
     let here : length line ≤ 34 = omega (arith, length-line (name_at zones.zones x.from) (name_at zones.zones x.to ∷ []), short-zone zones is x.from, short-zone zones is x.to) in
     rw (length-append line rest) (omega (arith, here, short-lines zones is xs))
 
--- so many lines of at most 51 bytes
+-- `count` lines of at most 51 bytes
 some-lines : (fields : ℕ → List (List ℕ)) (first count : ℕ) → ((k : ℕ) → first ≤ k → k < first + count → length (line_of (fields k)) ≤ 51)
     → length (flat_map line_of (map fields (range_with_len first count))) ≤ 51 * count
 some-lines fields first zero short = omega arith

@@ -36,12 +36,12 @@ use Rattle.mari_remain.specs.RunMarket.{at_least_0, bid_order, border_left, dema
 use Rattle.mari_remain.proofs.Places.{IsPlace, places-filter, places-within, places-rise, length-places}
 use Rattle.mari_remain.proofs.Gates.{gate-at, gate-is, gate-less}
 
--- a number that is no less than minus so much and no more than so much, is no more where it is 0 or above
+-- where a number is at most `most`, so is what `at_least_0` makes of it
 at_least_0-most : (z : ℤ) (most : ℕ) → z ≤ℤ pos most → at_least_0 z ≤ most
 at_least_0-most (pos n) most l = omega (arith, ints, l)
 at_least_0-most (negsuc n) most l = omega arith
 
--- what is left of limits up to 99,999 after a flow of at most as much is within the limits of a run
+-- what is left of limits of up to 99,999 MW, after a flow of at most 99,999 MW, is within the limits of a run
 border : (zones : ZoneBook) (b : BorderEnds) (limits : Limits) (flow : ℤ) → IsBorder zones b → limits.limit ≤ 99999 → limits.back ≤ 99999 → unsigned_abs flow ≤ 99999
     → IsValidBorder (length zones.zones) (border_left b limits flow)
 border zones b limits flow h limit back small = record {

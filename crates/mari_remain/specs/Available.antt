@@ -70,7 +70,7 @@ abbrev pub parent_allows : (is_available : ℕ → Bool) → Taken → Option �
 parent_allows is_available taken None = true
 parent_allows is_available taken (Some parent) = is_used taken parent || is_available parent
 
--- available, by itself and so many parents up
+-- available, by a chain of at most `n` bids: the bid itself, its parent, the parent of that, and so on
 abbrev pub is_available_up : Books → Taken → Run → ℕ → ℕ → Bool
 is_available_up books taken run zero i = false
 is_available_up books taken run (suc n) i = may_run books taken run i && parent_allows (is_available_up books taken run n) taken (parent_at books.links.links i)

@@ -38,7 +38,7 @@ abbrev pub greatest_left : Option ℕ → (offer taken : ℕ) → ℕ
 greatest_left None offer taken = offer - taken
 greatest_left (Some gate) offer taken = offer
 
--- the order of a bid of which earlier blocks took so much
+-- the order of a bid of which earlier blocks took `taken` MW
 abbrev pub bid_order : Bid → Option ℕ → ℕ → Order
 bid_order b gate taken = record { zone = b.zone; side = side_of b.up; price = b.price; least = least_left gate b.least; greatest = greatest_left gate b.greatest taken; gate = gate }
 
@@ -54,6 +54,7 @@ abbrev pub demand_order : Demand → Order
 demand_order d = record { zone = d.zone; side = demand_side d.mw; price = unwrap_or d.price (inelastic_price d.mw); least = 0; greatest = unsigned_abs d.mw; gate = None }
 
 -- the demands of a run
+-- The demands themselves, for the orders; `numbers_of_run` has their numbers, as the code keeps them.
 abbrev pub demands_of_run : List Demand → ℕ → List Demand
 demands_of_run demands run = filter (λ (d : Demand). d.run == run) demands
 
@@ -79,7 +80,7 @@ abbrev pub at_least_0 : ℤ → ℕ
 at_least_0 (pos n) = n
 at_least_0 (negsuc n) = 0
 
--- a border over which so much flowed before: what is left of its limits, which is nothing where the flow is past them
+-- a border over which `flow` MW flowed before: what is left of its limits, which is nothing where the flow is past them
 abbrev pub border_left : BorderEnds → Limits → ℤ → Border
 border_left ends limits flow = record {
   from = ends.from;
@@ -93,7 +94,7 @@ border_left ends limits flow = record {
 abbrev pub gate_at : List BidLinks → List ℕ → ℕ → GateInfo
 gate_at links gated i = record { group = group_at links i; parent = option_and_then (gate_of gated) (parent_at links i) }
 
--- the orders of these bids, of which so much was taken, and then of the demands
+-- the orders of these bids, where `taken i` MW of bid i were taken before, and then of the demands
 abbrev pub orders_of : List Bid → (taken : ℕ → ℕ) → (numbers gated : List ℕ) → List Demand → List Order
 orders_of bids taken numbers gated demands = map (λ i. bid_order (bid_numbered bids i) (gate_of gated i) (taken i)) numbers ++ map demand_order demands
 

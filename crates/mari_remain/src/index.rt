@@ -47,7 +47,7 @@ impl Numbers {
     }
 }
 
-/// So many empty lists.
+/// `keys` empty lists.
 fn empty(alloc: Global, keys: u32) -> Result<Vec<Numbers>, Memory>
     ensures { IfOk result (λ made. made.items ≡ map (λ key. []) (range_with_len 0 keys)) }
 {

@@ -5,6 +5,7 @@ ghost use Rattle.std.specs.List.{All, range_with_len};
 ghost use Rattle.mari_bids.specs.Bids.{bid_numbered};
 ghost use Rattle.mari_market.specs.Market.{IsValid};
 ghost use Rattle.mari_market.specs.Optimal.{IsFeasible};
+ghost use Rattle.mari_market.specs.Sides.{side_of as side_of_direction};
 ghost use Rattle.mari_remain.specs.Accepted.{IsAccepted};
 ghost use Rattle.mari_remain.specs.Blocks.{PastBlock};
 ghost use Rattle.mari_remain.specs.FirstBlocks.{StandsFor, block_of, taken_in};
@@ -77,6 +78,13 @@ fn place_among(numbers: &[u32], number: u32) -> Option<usize>
     numbers.iter().position(|other| *other == number)
 }
 
+/// The side of what is upward, which gives energy, or downward, which takes it.
+fn side_of(up: bool) -> Side
+    ensures { result ≡ side_of_direction up }
+{
+    if up { Side::Inject } else { Side::Withdraw }
+}
+
 /// The order of a bid of which `taken` MW were taken: upward it gives energy and downward it takes it. One with a gate
 /// runs at least 1 MW where it runs, and is offered whole.
 pub fn bid_order(bid: Bid, gate: Option<u32>, taken: u32) -> Order
@@ -84,7 +92,7 @@ pub fn bid_order(bid: Bid, gate: Option<u32>, taken: u32) -> Order
 {
     Order {
         zone: bid.zone,
-        side: if bid.up { Side::Inject } else { Side::Withdraw },
+        side: side_of(bid.up),
         price: bid.price,
         least: match gate {
             None => 0,
@@ -113,11 +121,7 @@ fn demand_order(demand: &Demand) -> Order
 {
     Order {
         zone: demand.zone,
-        side: if demand.mw < 0 {
-            Side::Inject
-        } else {
-            Side::Withdraw
-        },
+        side: side_of(demand.mw < 0),
         price: demand.price.unwrap_or(inelastic_price(demand.mw)),
         least: 0,
         greatest: demand.mw.unsigned_abs() as u32,

@@ -1,22 +1,58 @@
 -- Steps that every book takes.
-use Rattle.std.proofs.Common.{◌≡◌, ◌∙◌, ℕ, Bool, true, false, if◌then◌else◌, Option, List, [], ◌∷◌, ◌++◌, Some, None, Result, Ok, Err, refl, sym, ap}
-use Rattle.mari_rows.specs.Books.{Checks, Grammar, book_in, book_of_read, book_of_rows, first_failing, line_refusal}
-use Rattle.std.specs.Prelude.{option_map}
+use Rattle.std.proofs.Common.{◌≡◌, ◌∙◌, append_assoc, ℕ, Bool, true, false, if◌then◌else◌, Option, List, [], ◌∷◌, ◌++◌, Some, None, Result, Ok, Err, refl, sym, ap}
+use Rattle.mari_rows.specs.Books.{Checks, Grammar, GivesBook, book_in, book_of_read, book_of_rows, first_failing, line_refusal, refusal_of}
+use Rattle.std.specs.Prelude.{option_map, unwrap_or}
 use Rattle.std.specs.Option.{option_or}
 use Rattle.mari_rows.specs.First.{HasNoFault, first_fault, first_fault_after, unless_fault}
 use Rattle.mari_rows.proofs.FirstMeaning.{none-means}
-use Rattle.mari_rows.specs.Rows.{rows_in}
+use Rattle.mari_rows.specs.Rows.{rows_in, IsFaultOf}
+use Rattle.mari_rows.specs.Checks.{TakesLine, refusal_at}
+use Rattle.mari_rows.specs.declared.checks.LineFault.{LineFault}
+use Rattle.mari_rows.specs.declared.checks.LineFault.TheVariants as line_fault
 use Rattle.mari_rows.specs.declared.faults.BookFault.{BookFault}
 use Rattle.mari_rows.specs.declared.faults.BookFault.TheVariants as refused
 use Rattle.mari_rows.specs.declared.faults.RowFault.{RowFault}
+use Rattle.mari_rows.specs.declared.faults.RowFault.TheVariants.{BadHeader, BadRow, NotUtf8, Memory}
 use Rattle.mari_rows.specs.declared.rows.Row.{Row}
-use Rattle.mari_rows.proofs.FirstLemmas.{first_fault-go}
+use Rattle.mari_rows.proofs.FirstLemmas.{first_fault-go, first_fault-here}
+use Rattle.mari_rows.proofs.RowLemmas.{fault-reported}
 
 module _ {Book : Type 0} (g : Grammar Book) where
   -- these earlier lines of all are not refused, and these are left
   pub record IsReadTo (earlier lines all : List Row) : Type 0 where
     pub refusal : first_fault_after (line_refusal g) earlier lines ≡ first_fault (line_refusal g) all
     pub whole : earlier ++ lines ≡ all
+
+  module _ (earlier lines rest all : List Row) (line : Row) (read : IsReadTo earlier lines all) (next : lines ≡ line ∷ rest) where
+    -- one more line that isn't refused
+    pub read-on : first_failing (g.line_checks earlier line) ≡ None → IsReadTo (earlier ++ line ∷ []) rest all
+    read-on none = record {
+      refusal = first_fault-go (line_refusal g) earlier lines rest line next (ap (option_map (λ number. refused.At line.line number)) none) ∙ read.refusal;
+      whole = append_assoc earlier (line ∷ []) rest ∙ ap (λ l. earlier ++ l) (sym next) ∙ read.whole;
+    }
+
+    -- a line that is refused
+    pub line-refused : {C X : Type 0} (number : C → ℕ) (fault : LineFault C) (Holds : X → Type 0)
+        → TakesLine number (Err fault) (first_failing (g.line_checks earlier line)) Holds
+        → GivesBook {Book = Book} (Err (refusal_at number fault line.line)) (book_of_rows g all)
+    line-refused number (line_fault.Fails check) Holds fails =
+        let here : line_refusal g earlier line ≡ Some (refused.At line.line (number check)) = ap (option_map (λ number. refused.At line.line number)) fails in
+        rw (sym read.refusal, first_fault-here (line_refusal g) earlier lines rest line next here) refl
+    line-refused number line_fault.Memory Holds fails = tt
+
+  -- a fault of the rows is the first refusal
+  pub fault-refused : (read : Result (List Row) RowFault) (fault : RowFault) → IsFaultOf read fault
+      → GivesBook {Book = Book} (Err (refusal_of fault)) (book_of_read g read)
+  fault-refused read BadHeader there = ap (book_of_read g) there
+  fault-refused read (BadRow line) there = ap (book_of_read g) there
+  fault-refused read (NotUtf8 line) there = ap (book_of_read g) there
+  fault-refused read Memory there = tt
+
+  -- a line is refused, and of the rows after it one may have a fault by itself
+  pub later-refused : (later : Option RowFault) (rows : List Row) (refusal : BookFault) → GivesBook {Book = Book} (Err refusal) (book_of_rows g rows)
+      → GivesBook {Book = Book} (Err (unwrap_or (option_map refusal_of later) refusal)) (book_of_read g (unless_fault later rows))
+  later-refused None rows refusal is = is
+  later-refused (Some fault) rows refusal is = fault-refused (Err fault) fault (fault-reported (Err fault) fault refl)
 
   -- the lines of a book: none of them is refused, nor all together, and the book is what they say
   pub record IsBookOf (rows : List Row) (book : Book) : Type 0 where

@@ -1,6 +1,6 @@
 -- Rows, their fields and the first fault among them.
-use Rattle.std.proofs.Common.{◌≡◌, ◌≤◌, ◌+◌, ◌==◌, ℕ, suc, zero, ◌&&◌, Bool, true, false, List, [], ◌∷◌, ◌++◌, Option, Some, None, Result, Ok, Err, take, length, refl, sym, arith, IsUtf8, All, if◌then◌else◌}
-use Rattle.std.specs.Prelude.{IfErr, MatchResult, is_ok}
+use Rattle.std.proofs.Common.{◌≡◌, ◌≤◌, ◌+◌, ◌==◌, ℕ, suc, zero, ◌&&◌, Bool, true, false, List, [], ◌∷◌, ◌++◌, Option, Some, None, Result, Ok, Err, take, length, refl, sym, ap, ◌∙◌, arith, IsUtf8, All, if◌then◌else◌}
+use Rattle.std.specs.Prelude.{MatchResult, is_ok, slice_get}
 use Rattle.std.specs.List.{list_all}
 use Rattle.std.specs.Option.{option_or}
 use Rattle.std.specs.Str.{bytes_eq, is_utf8}
@@ -9,14 +9,14 @@ use Rattle.std.proofs.lemmas.List.Elements.{All-cons, All-nil}
 use Rattle.std.proofs.lemmas.List.Folds.{list_all-append}
 use Rattle.std.proofs.lemmas.Str.{IsUtf8-from_is_utf8, is_utf8-from_IsUtf8}
 use Rattle.csv.specs.Records.{field_at}
-use Rattle.mari_rows.specs.First.{first_fault_after}
+use Rattle.mari_rows.specs.First.{first_fault_after, unless_fault}
 use Rattle.mari_rows.specs.Records.{records_in}
 use Rattle.mari_rows.specs.Rows.{columns_of, fault_of_row, first_row_fault, is_header, rows_after_header, rows_checked, rows_from, rows_in, rows_of_width, IsFaultOf}
 use Rattle.mari_rows.proofs.RecordLemmas.{length-records_in}
 use Rattle.mari_rows.specs.declared.faults.RowFault.{RowFault}
 use Rattle.mari_rows.specs.declared.faults.RowFault.TheVariants.{BadHeader, BadRow, NotUtf8, Memory}
 use Rattle.mari_rows.specs.declared.rows.Row.{Row}
-use Rattle.mari_rows.proofs.FirstLemmas.{value-no-fault}
+use Rattle.mari_rows.proofs.FirstLemmas.{first_fault-go, first_fault-here, value-no-fault}
 
 -- the test of a text, from what `from_utf8` says
 pub tested : {A E : Type 0} (P : A → Type 0) (Q : E → Type 0) (bytes : List ℕ) (r : Result A E)
@@ -37,6 +37,13 @@ take-field (f ∷ fs) zero x at = rw (some-same at) refl
     some-same : {a b : List ℕ} → Some a ≡ Some b → a ≡ b
     some-same e = cc e
 take-field (f ∷ fs) (suc i) x at = grind (arith, take-field fs i x at)
+
+-- the field at a place, as a slice gives it
+pub field_is : (fields : List (List ℕ)) (i : ℕ) → field_at fields i ≡ slice_get fields i
+unfolding field_at
+field_is [] i = refl
+field_is (f ∷ fs) zero = refl
+field_is (f ∷ fs) (suc i) = field_is fs i
 
 -- one field more that is text, and one that isn't
 pub text_more : (fields : List (List ℕ)) (i : ℕ) (x : List ℕ) → field_at fields i ≡ Some x → list_all is_utf8 (take i fields) ≡ true → is_utf8 x ≡ true
@@ -71,10 +78,32 @@ fault-checked width read (BadRow line) there = rw there refl
 fault-checked width read (NotUtf8 line) there = rw there refl
 fault-checked width read Memory there = tt
 
-pub faults-checked : {X : Type 0} (width : ℕ) (read : Result (List Row) RowFault) (given : Result X RowFault) → IfErr given (IsFaultOf read)
-    → IfErr given (IsFaultOf (rows_checked width read))
-faults-checked width read (Ok value) there = tt
-faults-checked width read (Err fault) there = fault-checked width read fault there
+-- a fault that is reported
+pub fault-reported : (read : Result (List Row) RowFault) (fault : RowFault) → read ≡ Err fault → IsFaultOf read fault
+fault-reported read BadHeader there = there
+fault-reported read (BadRow line) there = there
+fault-reported read (NotUtf8 line) there = there
+fault-reported read Memory there = tt
+
+-- the first fault among rows
+pub fault-among : (width : ℕ) (rows : List Row) (fault : RowFault) → first_row_fault width rows ≡ Some fault → IsFaultOf (rows_of_width width rows) fault
+fault-among width rows fault found = fault-reported (rows_of_width width rows) fault (ap (λ (o : Option RowFault). unless_fault o rows) found)
+
+-- a row's fault is its own, whatever stands before it
+later-faults : (width : ℕ) (earlier rows : List Row) → first_fault_after (λ earlier row. fault_of_row width row) earlier rows ≡ first_row_fault width rows
+later-faults width earlier [] = refl
+later-faults width earlier (row ∷ rows) =
+    ap (option_or (fault_of_row width row)) (later-faults width (earlier ++ row ∷ []) rows ∙ sym (later-faults width (row ∷ []) rows))
+
+module _ (width : ℕ) (row : Row) (rows rest : List Row) (next : rows ≡ row ∷ rest) where
+  -- the first fault lies after a row that has none
+  pub fault-later : (first : Option RowFault) → fault_of_row width row ≡ None → first_row_fault width rows ≡ first → first_row_fault width rest ≡ first
+  fault-later first none is =
+      sym (later-faults width (row ∷ []) rest) ∙ first_fault-go (λ earlier row. fault_of_row width row) [] rows rest row next none ∙ is
+
+  -- and is that of the row, where it has one
+  pub fault-here : {fault : RowFault} → fault_of_row width row ≡ Some fault → first_row_fault width rows ≡ Some fault
+  fault-here found = first_fault-here (λ earlier row. fault_of_row width row) [] rows rest row next found
 
 -- a row without a fault has as many fields as are wanted
 pub width-of : (width : ℕ) (row : Row) → fault_of_row width row ≡ None → length row.fields ≡ width
@@ -114,19 +143,26 @@ pub length-rows_from : (line : ℕ) (records : List (List (List ℕ))) → lengt
 length-rows_from line [] = refl
 length-rows_from line (fields ∷ records) = rw (length-rows_from (line + 1) records) refl
 
--- a page has no more rows than bytes
-pub length-rows_in : (columns page : List ℕ) (rows : List Row) → rows_in columns page ≡ Ok rows → length rows ≤ length page
-length-rows_in columns page rows read = by (records_in page) (length-records_in page) read
+-- a page has no more rows below its header than bytes
+pub length-rows_after : (columns : List (List ℕ)) (page : List ℕ) (rows : List Row) → rows_after_header columns (records_in page) ≡ Ok rows
+    → length rows ≤ length page
+length-rows_after columns page rows read = by (records_in page) (length-records_in page) read
   where
-    checked : (all : List Row) → rows_of_width (length (columns_of columns)) all ≡ Ok rows → rows ≡ all
-    checked all e = (value-no-fault (first_row_fault (length (columns_of columns)) all) all rows (sym e)).1
-
-    by : (records : List (List (List ℕ))) → length records ≤ length page + 1
-        → rows_checked (length (columns_of columns)) (rows_after_header (columns_of columns) records) ≡ Ok rows → length rows ≤ length page
+    by : (records : List (List (List ℕ))) → length records ≤ length page + 1 → rows_after_header columns records ≡ Ok rows → length rows ≤ length page
     by [] few e = cc e
-    by (header ∷ records) few e = headed (is_header (columns_of columns) header) e
+    by (header ∷ records) few e = headed (is_header columns header) e
       where
-        headed : (b : Bool) → rows_checked (length (columns_of columns)) (if b then Ok (rows_from 2 records) else Err BadHeader) ≡ Ok rows
-            → length rows ≤ length page
+        headed : (b : Bool) → (if b then Ok (rows_from 2 records) else Err BadHeader) ≡ Ok rows → length rows ≤ length page
         headed false e = cc e
-        headed true e = rw (checked (rows_from 2 records) e, length-rows_from 2 records) (omega (arith, few))
+        headed true e =
+            let same : rows ≡ rows_from 2 records = cc e in
+            rw (same, length-rows_from 2 records) (omega (arith, few))
+
+-- and no more that have no fault
+pub length-rows_in : (columns page : List ℕ) (rows : List Row) → rows_in columns page ≡ Ok rows → length rows ≤ length page
+length-rows_in columns page rows read = by (rows_after_header (columns_of columns) (records_in page)) (length-rows_after (columns_of columns) page) read
+  where
+    by : (below : Result (List Row) RowFault) → ((all : List Row) → below ≡ Ok all → length all ≤ length page)
+        → rows_checked (length (columns_of columns)) below ≡ Ok rows → length rows ≤ length page
+    by (Err fault) few e = cc e
+    by (Ok all) few e = rw (value-no-fault (first_row_fault (length (columns_of columns)) all) all rows (sym e)).1 (few all refl)

@@ -1,18 +1,18 @@
 -- Rows of very many fields.
-use Rattle.std.proofs.Common.{◌≡◌, ◌≤◌, ◌<◌, ◌+◌, ◌∙◌, ℕ, Bool, true, false, List, [], ◌∷◌, Option, Some, None, Ok, Err, eqb, length, refl, ap, arith, if◌then◌else◌}
+use Rattle.std.proofs.Common.{◌≡◌, ◌≤◌, ◌<◌, ◌+◌, ◌∙◌, ℕ, Bool, true, false, List, [], ◌∷◌, Option, Some, None, Result, Ok, Err, eqb, length, refl, sym, ap, arith, IfOk, MatchOption, OnOk, if◌then◌else◌}
 use Rattle.std.specs.Prelude.{nat_lt}
 use Rattle.std.specs.Cmp.Lexicographic.{as_long}
 use Rattle.std.specs.Option.{option_eq}
 use Rattle.std.specs.Str.{bytes_eq}
 use Rattle.std.proofs.lemmas.Bool.{eqb-true, le-ltb, ltb-true, ne_eqb}
-use Rattle.mari_rows.specs.First.{first_fault_after}
 use Rattle.mari_rows.specs.Headers.{is_headed}
-use Rattle.mari_rows.specs.Rows.{fault_of_row, is_header, rows_after_header, rows_from}
-use Rattle.mari_rows.specs.Widths.{first_wide}
+use Rattle.mari_rows.specs.Rows.{fault_of_row, first_row_fault, is_header, rows_after_header, rows_from}
+use Rattle.mari_rows.specs.Widths.{first_wide, KnowsWide}
+use Rattle.mari_rows.specs.declared.faults.RowFault.{RowFault}
 use Rattle.mari_rows.specs.declared.faults.RowFault.TheVariants.{BadHeader, BadRow}
 use Rattle.mari_rows.specs.declared.rows.Row.{Row}
-use Rattle.mari_rows.proofs.FirstLemmas.{first_fault-here}
-use Rattle.mari_rows.proofs.RowLemmas.{no_header, width-of}
+use Rattle.mari_rows.specs.declared.tested_rows.TestedRows.{TestedRows}
+use Rattle.mari_rows.proofs.RowLemmas.{fault-here, no_header, width-of}
 
 -- what the test of a line states
 pub equal-some : (o : Option ℕ) (k : ℕ) → option_eq eqb o (Some k) ≡ true → o ≡ Some k
@@ -53,19 +53,33 @@ wide-fault : (width most line : ℕ) (fields : List (List ℕ)) → width ≤ mo
     → fault_of_row width (record { line = line; fields = fields }) ≡ Some (BadRow line)
 wide-fault width most line fields few wide = rw (ne_eqb (length fields) width (λ same. absurd (omega (arith, same, few, wide)))) refl
 
--- the first wide row is the first faulty one, where none before it is
-pub wide-first : (width most line : ℕ) (earlier rows : List Row) (records : List (List (List ℕ))) → width ≤ most → rows ≡ rows_from line records
-    → Some line ≡ first_wide most rows → first_fault_after (λ earlier row. fault_of_row width row) earlier rows ≡ Some (BadRow line)
-wide-first width most line earlier rows records few from e =
+-- the first wide row is faulty
+pub wide-first : (width most line : ℕ) (rows : List Row) (records : List (List (List ℕ))) → width ≤ most → rows ≡ rows_from line records
+    → Some line ≡ first_wide most rows → first_row_fault width rows ≡ Some (BadRow line)
+wide-first width most line rows records few from e =
     let next = wide-next most line records (e ∙ ap (first_wide most) from) in
-    first_fault-here (λ earlier row. fault_of_row width row) earlier rows (rows_from (line + 1) next.1) (record { line = line; fields = next.0 })
+    fault-here width (record { line = line; fields = next.0 }) rows (rows_from (line + 1) next.1)
     (from ∙ ap (rows_from line) next.2) (wide-fault width most line next.0 few next.3)
 
 -- a row of the width that is wanted isn't wide
-pub narrow-row : (width most : ℕ) (row : Row) (rows : List Row) → width ≤ most → fault_of_row width row ≡ None → first_wide most (row ∷ rows) ≡ first_wide most rows
+narrow-row : (width most : ℕ) (row : Row) (rows : List Row) → width ≤ most → fault_of_row width row ≡ None → first_wide most (row ∷ rows) ≡ first_wide most rows
 narrow-row width most row rows few none = rw (le-ltb most (length row.fields) (omega (arith, width-of width row none, few))) refl
 
--- and no header is
+-- what is known after one more row that has no fault
+pub known-later : (rows : TestedRows) (rest : List Row) (row : Row) → KnowsWide rows → rows.rows ≡ row ∷ rest → fault_of_row rows.width row ≡ None
+    → KnowsWide (record rows { rows = rest })
+known-later rows rest row known next none =
+    (known.0, known.1, known.2 ∙ ap (first_wide known.0) next ∙ narrow-row rows.width known.0 row rest known.1 none)
+
+-- and after the read of the next row
+pub known-after : (rows : TestedRows) (rest : List Row) (read : Result (Option Row) RowFault) → KnowsWide rows
+    → IfOk read (λ next. MatchOption next ((rows.rows ≡ []) × (rest ≡ [])) (λ row. (rows.rows ≡ row ∷ rest) × (fault_of_row rows.width row ≡ None)))
+    → OnOk read (KnowsWide (record rows { rows = rest }))
+known-after rows rest (Ok (Some row)) known next = known-later rows rest row known next.0 next.1
+known-after rows rest (Ok None) known next = (known.0, known.1, known.2 ∙ ap (first_wide known.0) (next.0 ∙ sym next.1))
+known-after rows rest (Err fault) known next = tt
+
+-- no header is wide
 pub narrow-header : (most : ℕ) (columns : List (List ℕ)) (records : List (List (List ℕ))) (rows : List Row) → length columns ≤ most
     → rows_after_header columns records ≡ Ok rows → first_wide most (rows_from 1 records) ≡ first_wide most rows
 narrow-header most columns [] rows few read = cc read

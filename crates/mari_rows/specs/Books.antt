@@ -59,7 +59,7 @@ module _ {Book : Type 0} (g : Grammar Book) where
   abbrev pub book_in : List ℕ → Result Book BookFault
   book_in page = book_of_read (rows_in g.columns page)
 
--- this is the book that was to be read or its first refusal, unless it ran out of memory
+-- this is the book that was to be read or its first refusal, unless memory ran out
 abbrev pub GivesBook : {Book : Type 0} → Result Book BookFault → Result Book BookFault → Type 0
 GivesBook (Ok book) read = read ≡ Ok book
 GivesBook (Err refused.Memory) read = ⊤

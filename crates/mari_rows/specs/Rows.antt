@@ -35,28 +35,22 @@ field_of row place = unwrap_or (slice_get row.fields place) []
 abbrev pub is_header : List (List ℕ) → List (List ℕ) → Bool
 is_header columns fields = pointwise bytes_eq fields columns
 
--- what the test of a record states, of this line and where so many fields are wanted
-abbrev pub StatesRecord : (width line : ℕ) → List (List ℕ) → TestedRecord → Type 0
-StatesRecord width line fields End = ⊥
-StatesRecord width line fields Fine = fault_of_row width (record { line = line; fields = fields }) ≡ None
-StatesRecord width line fields (Faulty fault) = fault_of_row width (record { line = line; fields = fields }) ≡ Some fault
+-- the test of the next record, of those that are left before and after it
+abbrev pub TestsNext : (width line : ℕ) → (old new : List (List (List ℕ))) → TestedRecord → Type 0
+TestsNext width line old new End = (old ≡ []) × (new ≡ [])
+TestsNext width line old new Fine = (fields : List (List ℕ)) × (old ≡ fields ∷ new) × (fault_of_row width (record { line = line; fields = fields }) ≡ None)
+TestsNext width line old new (Faulty fault) = (fields : List (List ℕ)) × (old ≡ fields ∷ new) × (fault_of_row width (record { line = line; fields = fields }) ≡ Some fault)
 
--- what the test of the next record states, of those that are left before and after it
-abbrev pub StatesNext : (width line : ℕ) → (old new : List (List (List ℕ))) → TestedRecord → Type 0
-StatesNext width line old new End = (old ≡ []) × (new ≡ [])
-StatesNext width line old new Fine = (fields : List (List ℕ)) × (old ≡ fields ∷ new) × StatesRecord width line fields Fine
-StatesNext width line old new (Faulty fault) = (fields : List (List ℕ)) × (old ≡ fields ∷ new) × StatesRecord width line fields (Faulty fault)
-
--- and of the rows that are left
-abbrev pub StatesRow : (width : ℕ) → (old new : List Row) → TestedRecord → Type 0
-StatesRow width old new End = (old ≡ []) × (new ≡ [])
-StatesRow width old new Fine = (row : Row) × (old ≡ row ∷ new) × (fault_of_row width row ≡ None)
-StatesRow width old new (Faulty fault) = (row : Row) × (old ≡ row ∷ new) × (fault_of_row width row ≡ Some fault)
+-- the same of the rows that are left
+abbrev pub TestsRow : (width : ℕ) → (old new : List Row) → TestedRecord → Type 0
+TestsRow width old new End = (old ≡ []) × (new ≡ [])
+TestsRow width old new Fine = (row : Row) × (old ≡ row ∷ new) × (fault_of_row width row ≡ None)
+TestsRow width old new (Faulty fault) = (row : Row) × (old ≡ row ∷ new) × (fault_of_row width row ≡ Some fault)
 
 -- whether the next record is these columns, of the records that are left before and after it
-abbrev pub StatesHeader : (columns : List (List ℕ)) → (old new : List (List (List ℕ))) → Option Bool → Type 0
-StatesHeader columns old new None = (old ≡ []) × (new ≡ [])
-StatesHeader columns old new (Some found) = (fields : List (List ℕ)) × (old ≡ fields ∷ new) × (found ≡ is_header columns fields)
+abbrev pub TestsHeader : (columns : List (List ℕ)) → (old new : List (List (List ℕ))) → Option Bool → Type 0
+TestsHeader columns old new None = (old ≡ []) × (new ≡ [])
+TestsHeader columns old new (Some found) = (fields : List (List ℕ)) × (old ≡ fields ∷ new) × (found ≡ is_header columns fields)
 
 -- the first row with a fault by itself
 abbrev pub first_row_fault : ℕ → List Row → Option RowFault
@@ -79,7 +73,7 @@ rows_checked width (Err fault) = Err fault
 abbrev pub rows_in : List ℕ → List ℕ → Result (List Row) RowFault
 rows_in columns page = rows_checked (length (columns_of columns)) (rows_after_header (columns_of columns) (records_in page))
 
--- this fault is there, or it ran out of memory
+-- this fault is there, or memory ran out
 abbrev pub IsFaultOf : Result (List Row) RowFault → RowFault → Type 0
 IsFaultOf read BadHeader = read ≡ Err BadHeader
 IsFaultOf read (BadRow line) = read ≡ Err (BadRow line)

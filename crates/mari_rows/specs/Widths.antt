@@ -1,10 +1,11 @@
 -- Records by the number of their fields.
-use Rattle.std.specs.Prelude.{ℕ, List, [], ◌∷◌, Option, Some, None, nat_lt, length, if◌then◌else◌}
+use Rattle.std.specs.Prelude.{◌≡◌, ◌≤◌, ℕ, List, [], ◌∷◌, Option, Some, None, nat_lt, length, if◌then◌else◌}
 use Rattle.csv.specs.declared.parser.Action.{Action}
 use Rattle.csv.specs.declared.parser.Action.TheVariants as act
 use Rattle.csv.specs.declared.parser.State.{State}
 use Rattle.csv.specs.declared.parser.State.TheVariants as st
 use Rattle.mari_rows.specs.declared.rows.Row.{Row}
+use Rattle.mari_rows.specs.declared.tested_rows.TestedRows.{TestedRows}
 use Rattle.mari_rows.specs.declared.widths.Ended.{Ended}
 use Rattle.mari_rows.specs.declared.widths.Ended.TheVariants as ended
 use Rattle.mari_rows.specs.declared.widths.Place.{Place}
@@ -14,6 +15,10 @@ use Rattle.mari_rows.specs.declared.widths.Place.TheVariants as place
 abbrev pub first_wide : (most : ℕ) → List Row → Option ℕ
 first_wide most [] = None
 first_wide most (row ∷ rows) = if nat_lt most (length row.fields) then Some row.line else first_wide most rows
+
+-- the wide line is that of the first row with more than so many fields, at least as many as are wanted
+abbrev pub KnowsWide : TestedRows → Type 0
+KnowsWide rows = (most : ℕ) × (rows.width ≤ most) × (rows.wide ≡ first_wide most rows.rows)
 
 -- the state in which csv is at a place
 abbrev pub state_of : Place → State

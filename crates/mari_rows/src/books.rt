@@ -1,13 +1,16 @@
 //! Reading a book from its page, line by line.
-ghost use Rattle.std.specs.Prelude.{◌≡◌, ◌≤◌, ◌<◌, ◌++◌, ◌∷◌, [], List, length};
-ghost use Rattle.mari_rows.specs.Books.{book_in, book_of_rows, first_failing, Grammar, GivesBook};
+ghost use Rattle.std.specs.Prelude.{◌≡◌, ◌≤◌, ◌<◌, ◌++◌, ◌∷◌, [], List, length, option_map, unwrap_or, IfOk};
+ghost use Rattle.mari_rows.specs.Books.{book_in, book_of_read, first_failing, refusal_of, Grammar, GivesBook};
 ghost use Rattle.mari_rows.specs.Checks.{TakesLine};
+ghost use Rattle.mari_rows.specs.Rows.{first_row_fault, rows_of_width};
+ghost use Rattle.mari_rows.specs.Widths.{KnowsWide};
 ghost use Rattle.mari_rows.specs.declared.rows.Row.{Row as Line};
 
 use crate::checks::{FileCheck, LineFault};
 use crate::faults::BookFault;
-use crate::rows::{Row, RowReader, read_rows};
-use mari_units::MOST_PAGE;
+use crate::rows::Row;
+use crate::tested_rows::TestedRows;
+use mari_units::{MOST_PAGE, Memory};
 use std::alloc::Global;
 
 /// What keeps the book of the lines so far.
@@ -38,19 +41,32 @@ pub trait BookSoFar {
             → TakesLine Self.Check.number result (first_failing ((grammar self).file_checks lines)) (λ book. book ≡ (grammar self).book lines) };
 }
 
-/// The book of these lines, or their first refusal.
+/// The first refusal, where a line before these rows is refused: the fault of a row by itself comes before it.
+fn first_refusal(rows: &mut TestedRows<'_>, refused: BookFault) -> Result<BookFault, Memory>
+    requires { KnowsWide rows.old }
+    ensures { IfOk result (λ first. first ≡ unwrap_or (option_map refusal_of (first_row_fault rows.old.width rows.old.rows)) refused) }
+{
+    match rows.first_fault()? {
+        Some(fault) => Ok(BookFault::from(fault)),
+        None => Ok(refused),
+    }
+}
+
+/// The book of these lines, or their first refusal. Where a line is refused, the rows after it are only tested.
 fn book_of<S: BookSoFar + Drop>(
     alloc: Global,
-    lines: &mut RowReader<'_>,
+    lines: &mut TestedRows<'_>,
     mut so_far: S,
 ) -> Result<S::Book, BookFault>
-    requires lines { length lines.old ≤ MOST_PAGE }
+    requires lines { length lines.old.rows ≤ MOST_PAGE }
+    requires wide { KnowsWide lines.old }
     requires none { S.Holds so_far [] }
-    ensures { GivesBook result (book_of_rows (S.grammar so_far) lines.old) }
+    ensures { GivesBook result (book_of_read (S.grammar so_far) (rows_of_width lines.old.width lines.old.rows)) }
 {
-    'lines: while let Some(line) = lines.next(alloc)? {
+    'lines: while let Some(line) = lines.next()? {
         if let Err(fault) = so_far.take(alloc, &line) {
-            return Err(fault.at(line.line));
+            let first = first_refusal(lines, fault.at(line.line))?;
+            return Err(first);
         }
     }
     match so_far.end(alloc) {
@@ -59,7 +75,8 @@ fn book_of<S: BookSoFar + Drop>(
     }
 }
 
-/// Reads the book of a page with these columns, whose names stand between the commas, or reports its first refusal.
+/// Reads the book of a page with these columns, whose names stand between the commas, or reports its first refusal. The
+/// page is read once.
 pub fn read_book<S: BookSoFar + Drop>(
     alloc: Global,
     page: &[u8],
@@ -71,6 +88,6 @@ pub fn read_book<S: BookSoFar + Drop>(
     requires none { S.Holds so_far [] }
     ensures { GivesBook result (book_in (S.grammar so_far) page.now) }
 {
-    let mut lines = read_rows(alloc, page, columns)?;
+    let mut lines = TestedRows::of(alloc, page, columns)?;
     book_of(alloc, &mut lines, so_far)
 }

@@ -89,6 +89,18 @@ impl NameIndex {
         self.names.contains(name)
     }
 
+    /// Puts a name after the others that is none of them, and gives its place.
+    pub fn add_new(&mut self, alloc: Global, name: &[u8]) -> Result<u32, Memory>
+        requires room { length self.old < u32.MAX }
+        requires name { is_name name.now ≡ true }
+        requires new { is_among self.old name.now ≡ false }
+        ensures place { IfOk result (λ place. place ≡ length self.old) }
+        ensures added { IfOk result (λ place. self.new ≡ self.old ++ name.now ∷ []) }
+        ensures err { OnErr result (self.new ≡ self.old) }
+    {
+        self.push(name.to_vec(alloc)?)
+    }
+
     /// The place of a name, which goes after the others where it is new.
     pub fn find_or_add(&mut self, alloc: Global, name: &[u8]) -> Result<u32, Memory>
         requires room { length self.old < u32.MAX }
@@ -100,7 +112,7 @@ impl NameIndex {
         if let Some(place) = self.find(name) {
             return Ok(place);
         }
-        self.push(name.to_vec(alloc)?)
+        self.add_new(alloc, name)
     }
 
     /// The place of a name, counted from 0.

@@ -1,14 +1,14 @@
 //! The records of a page, one after the other.
-ghost use Rattle.std.specs.Prelude.{◌≡◌, ◌∷◌, [], map, IfOk, OnErr, MatchOption};
+ghost use Rattle.std.specs.Prelude.{◌≡◌, ◌∷◌, [], map, IfErr, IfOk, OnErr, MatchOption};
 ghost use Rattle.std.specs.List.{list_all};
 ghost use Rattle.std.specs.Str.{is_utf8 as is_utf8_of};
 ghost use Rattle.csv.specs.Reading.{error_kind, NotLengths};
 ghost use Rattle.csv.specs.Records.{fields_of};
 ghost use Rattle.mari_rows.specs.Records.{records_in, IsBetweenRecords, ReadsRecord};
-ghost use Rattle.mari_rows.specs.Rows.{is_header as is_header_of, StatesHeader, StatesNext, StatesRecord};
+ghost use Rattle.mari_rows.specs.Rows.{fault_of_row, is_header as is_header_of, rows_from, rows_of_width, IsFaultOf, TestsHeader, TestsNext};
 
 use crate::faults::RowFault;
-use crate::field::Field;
+use crate::record_fields::Fields;
 use csv::{ByteRecord, Error, ErrorKind, Reader, ReaderBuilder};
 use mari_units::Memory;
 use std::alloc::{AllocError, Global};
@@ -76,56 +76,41 @@ fn all_text(row: &ByteRecord) -> bool
 }
 
 /// What is wrong with a record of this line by itself, where `width` fields are wanted. No field is copied.
-fn test(row: &ByteRecord, line: u32, width: usize) -> TestedRecord
-    ensures { StatesRecord width line (fields_of row.now) result }
+fn fault_of(row: &ByteRecord, line: u32, width: usize) -> Option<RowFault>
+    ensures { result ≡ fault_of_row width (record { line = line; fields = fields_of row.now }) }
 {
     if row.len() != width {
-        TestedRecord::Faulty(RowFault::BadRow(line))
+        Some(RowFault::BadRow(line))
     } else if !all_text(row) {
-        TestedRecord::Faulty(RowFault::NotUtf8(line))
+        Some(RowFault::NotUtf8(line))
     } else {
-        TestedRecord::Fine
+        None
     }
-}
-
-/// The fields of a record, copied.
-fn fields_from(alloc: Global, row: &ByteRecord) -> Result<Vec<Field>, Memory>
-    ensures { IfOk result (λ v. v.items ≡ fields_of row.now) }
-{
-    let mut fields = Vec::new(alloc);
-    for i in 0..row.len() {
-        if let Some(field) = row.get(i) {
-            fields.push(Field::of(field.to_vec(alloc)?))?;
-        }
-    }
-    Ok(fields)
 }
 
 /// The bytes of each field, lent.
-fn texts_of(alloc: Global, fields: &[Field]) -> Result<Vec<&[u8]>, AllocError>
-    ensures { IfOk result (λ v. map (λ x. x.now) v.items ≡ fields.now) }
+fn texts_of(alloc: Global, row: &ByteRecord) -> Result<Vec<&[u8]>, AllocError>
+    ensures { IfOk result (λ v. map (λ x. x.now) v.items ≡ fields_of row.now) }
 {
-    fields.iter().map(|field| field.as_slice()).collect(alloc)
+    let mut texts = Vec::with_capacity(alloc, row.len())?;
+    for i in 0..row.len() {
+        if let Some(field) = row.get(i) {
+            texts.push(field)?;
+        }
+    }
+    Ok(texts)
 }
 
-/// Whether the fields are the column names.
-fn is_header(alloc: Global, fields: &[Field], columns: &[&[u8]]) -> Result<bool, Memory>
-    ensures { IfOk result (λ r. r ≡ is_header_of (map (λ c. c.now) columns.now) fields.now) }
-{
-    let texts = texts_of(alloc, fields)?;
-    Ok(texts.as_slice() == columns)
-}
-
-/// Whether a record is the column names. One of another number of fields isn't copied.
+/// Whether a record is the column names. One of another number of fields isn't looked at.
 #[tactic(auto, using(crate::proofs::RowLemmas::no_header))]
-fn is_header_record(alloc: Global, row: &ByteRecord, columns: &[&[u8]]) -> Result<bool, Memory>
+fn is_header(alloc: Global, row: &ByteRecord, columns: &[&[u8]]) -> Result<bool, Memory>
     ensures { IfOk result (λ r. r ≡ is_header_of (map (λ c. c.now) columns.now) (fields_of row.now)) }
 {
     if row.len() != columns.len() {
         return Ok(false);
     }
-    let fields = fields_from(alloc, row)?;
-    is_header(alloc, fields.as_slice(), columns)
+    let texts = texts_of(alloc, row)?;
+    Ok(texts.as_slice() == columns)
 }
 
 /// What stops a reader that takes records of any number of fields is that memory runs out.
@@ -167,8 +152,8 @@ impl<'a> Records<'a> {
     }
 
     /// The fields of the next record. After `Memory` there are no more.
-    pub(crate) fn next(&mut self, alloc: Global) -> Result<Option<Vec<Field>>, Memory>
-        ensures next { IfOk result (λ next. MatchOption next ((self.old ≡ []) × (self.new ≡ [])) (λ fields. self.old ≡ fields.items ∷ self.new)) }
+    pub(crate) fn next(&mut self) -> Result<Option<Fields>, Memory>
+        ensures next { IfOk result (λ next. MatchOption next ((self.old ≡ []) × (self.new ≡ [])) (λ fields. self.old ≡ fields ∷ self.new)) }
         ensures err { OnErr result (self.new ≡ []) }
     {
         if self.has_ended {
@@ -178,7 +163,33 @@ impl<'a> Records<'a> {
         if !read_record(&mut self.reader, &mut self.row)? {
             return Ok(None);
         }
-        let fields = fields_from(alloc, &self.row)?;
+        let record = self.row.clone()?;
+        self.has_ended = false;
+        Ok(Some(Fields::of(record)))
+    }
+
+    /// The fields of the next record, of this line, which is tested by itself, where `width` fields are wanted. One with a
+    /// fault isn't copied. After an error there are no more.
+    pub(crate) fn next_tested(
+        &mut self,
+        line: u32,
+        width: usize,
+    ) -> Result<Option<Fields>, RowFault>
+        ensures next { IfOk result (λ next. MatchOption next ((self.old ≡ []) × (self.new ≡ [])) (λ fields. (self.old ≡ fields ∷ self.new) × (fault_of_row width (record { line = line; fields = fields }) ≡ None))) }
+        ensures fault { IfErr result (IsFaultOf (rows_of_width width (rows_from line self.old))) }
+        ensures err { OnErr result (self.new ≡ []) }
+    {
+        if self.has_ended {
+            return Ok(None);
+        }
+        self.has_ended = true;
+        if !read_record(&mut self.reader, &mut self.row)? {
+            return Ok(None);
+        }
+        if let Some(fault) = fault_of(&self.row, line, width) {
+            return Err(fault);
+        }
+        let fields = Fields::of(self.row.clone()?);
         self.has_ended = false;
         Ok(Some(fields))
     }
@@ -189,7 +200,7 @@ impl<'a> Records<'a> {
         alloc: Global,
         columns: &[&[u8]],
     ) -> Result<Option<bool>, Memory>
-        ensures next { IfOk result (StatesHeader (map (λ c. c.now) columns.now) self.old self.new) }
+        ensures next { IfOk result (TestsHeader (map (λ c. c.now) columns.now) self.old self.new) }
         ensures err { OnErr result (self.new ≡ []) }
     {
         if self.has_ended {
@@ -199,14 +210,14 @@ impl<'a> Records<'a> {
         if !read_record(&mut self.reader, &mut self.row)? {
             return Ok(None);
         }
-        let is_header = is_header_record(alloc, &self.row, columns)?;
+        let is_header = is_header(alloc, &self.row, columns)?;
         self.has_ended = false;
         Ok(Some(is_header))
     }
 
     /// Tests the next record, of this line, where `width` fields are wanted. After `Memory` there are no more.
     pub(crate) fn test_next(&mut self, line: u32, width: usize) -> Result<TestedRecord, Memory>
-        ensures tested { IfOk result (StatesNext width line self.old self.new) }
+        ensures tested { IfOk result (TestsNext width line self.old self.new) }
         ensures err { OnErr result (self.new ≡ []) }
     {
         if self.has_ended {
@@ -217,6 +228,9 @@ impl<'a> Records<'a> {
             return Ok(TestedRecord::End);
         }
         self.has_ended = false;
-        Ok(test(&self.row, line, width))
+        match fault_of(&self.row, line, width) {
+            Some(fault) => Ok(TestedRecord::Faulty(fault)),
+            None => Ok(TestedRecord::Fine),
+        }
     }
 }

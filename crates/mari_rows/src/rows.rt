@@ -1,13 +1,13 @@
 //! The rows of a page: its records below the header, each with its line.
-ghost use Rattle.std.specs.Prelude.{◌≡◌, ◌≤◌, ◌<◌, ◌∷◌, [], ◌^◌, ℕ, All, List, length, map, IfOk, IfErr, OnErr, MatchOption};
+ghost use Rattle.std.specs.Prelude.{◌≡◌, ◌≤◌, ◌∷◌, [], ℕ, All, List, length, map, IfErr, IfOk, IsOk, MatchOption, OnErr, OnOk};
 ghost use Rattle.mari_rows.specs.Headers.{has_header as has_header_in};
 ghost use Rattle.mari_rows.specs.Records.{records_in};
-ghost use Rattle.mari_rows.specs.Rows.{columns_of as columns_in, field_of, first_row_fault, rows_after_header as rows_after_header_in, rows_from, rows_in, IsFaultOf, StatesRow};
-ghost use Rattle.mari_rows.specs.Widths.{first_wide};
+ghost use Rattle.mari_rows.specs.Rows.{columns_of as columns_in, fault_of_row, field_of, rows_after_header as rows_after_header_in, rows_from, rows_in, rows_of_width, IsFaultOf, TestsRow};
 
 use crate::faults::RowFault;
-use crate::field::Field;
+use crate::record_fields::Fields;
 use crate::records::{Records, TestedRecord};
+use crate::tested_rows::TestedRows;
 use crate::widths::wide_line;
 use mari_units::{Items, MOST_PAGE, Memory};
 use std::alloc::{AllocError, Global};
@@ -19,7 +19,7 @@ pub struct Row {
     /// Its number among the file's records, the header being 1.
     pub line: u32,
     /// Its fields.
-    pub fields: Items<Field>,
+    pub fields: Fields,
 }
 
 /// The records below the header, in their order.
@@ -55,8 +55,8 @@ impl Row {
     pub fn field(&self, place: usize) -> &[u8]
         ensures { result.now ≡ field_of self.now place }
     {
-        match self.fields.as_slice().get(place) {
-            Some(field) => field.as_slice(),
+        match self.fields.get(place) {
+            Some(field) => field,
             None => &[],
         }
     }
@@ -64,33 +64,46 @@ impl Row {
 
 impl<'a> RowReader<'a> {
     /// The next row. After `Memory` there are no more.
-    pub fn next(&mut self, alloc: Global) -> Result<Option<Row>, Memory>
+    pub fn next(&mut self) -> Result<Option<Row>, Memory>
         ensures next { IfOk result (λ next. MatchOption next ((self.old ≡ []) × (self.new ≡ [])) (λ row. self.old ≡ row ∷ self.new)) }
         ensures err { OnErr result (self.new ≡ []) }
     {
-        match self.records.next(alloc)? {
+        match self.records.next()? {
             None => Ok(None),
             Some(fields) => {
                 let line = self.line;
                 self.line += 1;
-                Ok(Some(Row {
-                    line,
-                    fields: Items::of(fields),
-                }))
+                Ok(Some(Row { line, fields }))
+            }
+        }
+    }
+
+    /// The next row, which is tested by itself, where `width` fields are wanted. After an error there are no more.
+    pub(crate) fn next_tested(&mut self, width: usize) -> Result<Option<Row>, RowFault>
+        ensures next { IfOk result (λ next. MatchOption next ((self.old ≡ []) × (self.new ≡ [])) (λ row. (self.old ≡ row ∷ self.new) × (fault_of_row width row ≡ None))) }
+        ensures fault { IfErr result (IsFaultOf (rows_of_width width self.old)) }
+        ensures err { OnErr result (self.new ≡ []) }
+    {
+        match self.records.next_tested(self.line, width)? {
+            None => Ok(None),
+            Some(fields) => {
+                let line = self.line;
+                self.line += 1;
+                Ok(Some(Row { line, fields }))
             }
         }
     }
 
     /// The line of the next row, if there is one.
-    fn next_line(&self) -> u32
+    pub(crate) fn next_line(&self) -> u32
         ensures { (records : List (List (List ℕ))) × (self.now ≡ rows_from result records) }
     {
         self.line
     }
 
     /// Tests the next row, where `width` fields are wanted.
-    fn test_next(&mut self, width: usize) -> Result<TestedRecord, Memory>
-        ensures tested { IfOk result (StatesRow width self.old self.new) }
+    pub(crate) fn test_next(&mut self, width: usize) -> Result<TestedRecord, Memory>
+        ensures tested { IfOk result (TestsRow width self.old self.new) }
         ensures err { OnErr result (self.new ≡ []) }
     {
         let tested = self.records.test_next(self.line, width)?;
@@ -102,7 +115,7 @@ impl<'a> RowReader<'a> {
 }
 
 /// The texts between the commas.
-fn columns_of(alloc: Global, columns: &str) -> Result<Vec<&[u8]>, AllocError>
+pub(crate) fn columns_of(alloc: Global, columns: &str) -> Result<Vec<&[u8]>, AllocError>
     ensures { IfOk result (λ v. map (λ x. x.now) v.items ≡ columns_in columns.now) }
 {
     columns
@@ -125,7 +138,7 @@ pub fn has_header(alloc: Global, page: &[u8], columns: &str) -> Result<bool, Mem
 }
 
 /// The rows of a page whose header is these columns.
-fn rows_after_header<'a>(
+pub(crate) fn rows_after_header<'a>(
     alloc: Global,
     page: &'a [u8],
     columns: &[&[u8]],
@@ -141,26 +154,16 @@ fn rows_after_header<'a>(
     }
 }
 
-/// The first row with a fault by itself, where the row of the line `wide` is the first of very many fields. No row is
-/// copied, and that one isn't read.
-fn first_fault_of(
-    rows: &mut RowReader<'_>,
-    width: usize,
-    wide: Option<usize>,
-) -> Result<Option<RowFault>, Memory>
-    requires { (most : ℕ) × (width ≤ most) × (wide ≡ first_wide most rows.old) }
-    ensures { IfOk result (λ fault. fault ≡ first_row_fault width rows.old) }
+/// Tests each row of a page with these columns by itself, or reports the first fault.
+fn test_rows(alloc: Global, page: &[u8], columns: &str) -> Result<(), RowFault>
+    requires { length page.now ≤ MOST_PAGE }
+    ensures fine { OnOk result (IsOk (rows_in columns.now page.now)) }
+    ensures fault { IfErr result (IsFaultOf (rows_in columns.now page.now)) }
 {
-    'rows: loop {
-        let line = rows.next_line();
-        if wide == Some(line as usize) {
-            return Ok(Some(RowFault::BadRow(line)));
-        }
-        match rows.test_next(width)? {
-            TestedRecord::Fine => {}
-            TestedRecord::Faulty(fault) => return Ok(Some(fault)),
-            TestedRecord::End => return Ok(None),
-        }
+    let mut rows = TestedRows::of(alloc, page, columns)?;
+    match rows.first_fault()? {
+        Some(fault) => Err(fault),
+        None => Ok(()),
     }
 }
 
@@ -176,17 +179,13 @@ pub fn read_rows<'a>(
     ensures rows { IfOk result (λ rows. rows_in columns.now page.now ≡ Ok rows) }
     ensures fault { IfErr result (IsFaultOf (rows_in columns.now page.now)) }
 {
-    let columns = columns_of(alloc, columns)?;
-    let width = columns.len();
-    let wide = wide_line(page, width);
-    if wide == Some(1) {
-        return Err(RowFault::BadHeader);
-    }
-    let mut rows = rows_after_header(alloc, page, columns.as_slice())?;
-    match first_fault_of(&mut rows, width, wide)? {
-        Some(fault) => Err(fault),
-        None => rows_after_header(alloc, page, columns.as_slice()),
-    }
+    test_rows(alloc, page, columns)?;
+    let TestedRows {
+        rows,
+        width: _,
+        wide: _,
+    } = TestedRows::of(alloc, page, columns)?;
+    Ok(rows)
 }
 
 /// The rows of a page with these columns, whose names stand between the commas.
@@ -198,7 +197,7 @@ pub fn rows_of(alloc: Global, bytes: &[u8], columns: &str) -> Result<Rows, RowFa
 {
     let mut left = read_rows(alloc, bytes, columns)?;
     let mut rows = Vec::new(alloc);
-    'rows: while let Some(row) = left.next(alloc)? {
+    'rows: while let Some(row) = left.next()? {
         rows.push(row)?;
     }
     Ok(Rows {

@@ -157,7 +157,7 @@ demand-size i x few = by (draw 2 3 x == 2)
     by true = demand-by i x (printed_cents (pos (5000 + draw 3 10000 x))) few (of-price (pos (5000 + draw 3 10000 x)) (omega (arith, elastic-small x)))
     by false = demand-by i x [] few (omega arith)
 
--- a header and so many lines
+-- a header and `n` lines
 page-short : (header : List ℕ) (line : ℕ → ℕ → Drawn) (n x : ℕ) → length header ≤ 1000 → n ≤ 1000 → ((i x : ℕ) → i < n → length (line i x).text ≤ 250)
     → length (header ++ (lines line n x).text) ≤ 268435456
 page-short header line n x head few all = omega (arith, length-append header (lines line n x).text, size-lines line n all n x (omega arith))

@@ -38,7 +38,7 @@ pub record IsOfDaySize (zones : ZoneBook) (borders : BorderBook) (bids : BidBook
 
 -- the day's page has one record, of a date and a rule by which the day has 96 quarter hours; each other file's grammar
 -- accepts its page, with the books of the files before it; the borders' is of the form that states the limits itself;
--- and so many zones, borders, bids and runs are there, with at most eight gated bids in a quarter
+-- the numbers of zones, borders, bids and runs are those of `IsOfDaySize`; and a quarter has at most eight gated bids
 pub record AreAccepted (pages : Pages) : Type 0 where
   pub zones : ZoneBook
   pub borders : BorderBook

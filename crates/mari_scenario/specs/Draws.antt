@@ -9,7 +9,7 @@ next x = (1103515245 * x + 12345) % 2147483648
 abbrev pub below : (bound state : ℕ) → ℕ
 below bound x = (x / 65536) % bound
 
--- the state after so many draws
+-- the state after `draws` draws
 abbrev pub after : (draws state : ℕ) → ℕ
 after zero x = x
 after (suc n) x = next (after n x)

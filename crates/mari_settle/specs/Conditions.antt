@@ -21,7 +21,7 @@ use Rattle.mari_settle.specs.declared.ledger.Ledger.{Ledger}
 abbrev pub HasProviders : BidBook → Type 0
 HasProviders bids = All (λ (bid : Bid). bid.provider < length bids.providers) bids.bids
 
--- a bid of one of so many zones, whose provider is one of the book
+-- a bid of one of the first `zones` zones, whose provider is one of the book
 pub record IsPayable (bids : BidBook) (zones : ℕ) (bid : Bid) : Type 0 where
   pub zone : bid.zone < zones
   pub provider : bid.provider < length bids.providers
@@ -67,13 +67,13 @@ pub record LinesAddUp (a b : OperatorLine) : Type 0 where
   pub payment : AddUp a.payment b.payment
   pub rent : AddUp a.rent b.rent
 
--- and those of two ledgers, which have as many lines, amounts and rents
+-- and those of two ledgers, which have equal numbers of lines, amounts and rents
 pub record LedgersAddUp (a b : Ledger) : Type 0 where
   pub operators : AllZip LinesAddUp a.operators b.operators
   pub providers : AllZip AddUp a.providers b.providers
   pub rents : AllZip AddUp a.rents b.rents
 
--- an amount within so many quarter-cents of 0
+-- an amount within `most` quarter-cents of 0
 abbrev pub MoneyIsWithin : ℕ → Quarters → Type 0
 MoneyIsWithin most a = Within most a.0
 

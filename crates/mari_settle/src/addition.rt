@@ -50,8 +50,8 @@ fn add_lines(lines: &mut [OperatorLine], others: &[OperatorLine])
 impl Ledger {
     /// Adds another ledger to this one, number by number.
     ///
-    /// Both are of the same books and the same borders, so that they have as many lines, amounts and rents. Each sum
-    /// lies within 10^30 quarter-cents.
+    /// Both are of the same books and the same borders, so that they have equal numbers of lines, amounts and rents.
+    /// Each sum lies within 10^30 quarter-cents.
     pub fn add(&mut self, other: &Ledger)
         requires { LedgersAddUp self.old other.now }
         ensures operators { self.new.operators ≡ map_along lines_together self.old.operators other.now.operators }

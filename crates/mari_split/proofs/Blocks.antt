@@ -12,7 +12,7 @@ use Rattle.mari_market.specs.declared.certificate.TreeItem.{TreeItem}
 use Rattle.mari_market.specs.declared.clearing.Clearing.{Clearing}
 use Rattle.mari_market.specs.declared.clearing.Spent.{Spent}
 use Rattle.mari_market.specs.declared.market.Market.{Market}
-use Rattle.mari_market.specs.Clearing.{IsSpent}
+use Rattle.mari_market.specs.Clearing.{IsSpent, IsUnpublished}
 use Rattle.mari_market.specs.Market.{IsValid}
 use Rattle.mari_lines.specs.declared.line.Heading.{Heading}
 use Rattle.mari_publish.specs.declared.publication.FullBlock.{FullBlock}
@@ -30,7 +30,7 @@ use Rattle.mari_islands.specs.Part.{part_of}
 use Rattle.mari_islands.proofs.Numbers.{few_numbers}
 use Rattle.mari_split.specs.declared.split.SplitBlock.{SplitBlock}
 use Rattle.mari_split.specs.declared.split.SplitRun.{SplitRun}
-use Rattle.mari_split.specs.Split.{IsSpentOn, IsSplitOf, IsSplitRun, IsUnsplitOf, IsUnsplitRun, blocks_of, joined_in}
+use Rattle.mari_split.specs.Split.{IsSplitOf, IsSplitRun, IsUnpublishedSplitOf, IsUnpublishedSplitRun, blocks_of, joined_in}
 use Rattle.mari_split.specs.Steps.{RunFits}
 
 -- there are no more islands than zones
@@ -60,10 +60,11 @@ spent_below islands budget k part is = let s = spent_at islands budget k part is
 pub spent_few : (islands : List Island) (budget k : ℕ) (part : Spent) → IsIslandSpent islands budget k part → length part.items ≤ budget
 spent_few islands budget k part is = (spent_at islands budget k part is).spent.within_budget
 
-pub unsplit : (books : Books) (budget run : ℕ) (made : RunMarket) (islands : List Island) (k : ℕ) (part : Spent) → AreIslands made.market islands → IsIslandSpent islands budget k part
-    → IsUnsplitOf books budget run made (heading_of books run) (k + 1) (length part.items)
-unsplit books budget run made islands k part are is =
+pub unpublished_split : (books : Books) (budget run : ℕ) (made : RunMarket) (islands : List Island) (k : ℕ) (part : Spent) → AreIslands made.market islands → IsIslandSpent islands budget k part
+    → IsUnpublishedSplitOf books budget run made (heading_of books run) (k + 1) (length part.items)
+unpublished_split books budget run made islands k part are is =
     let s = spent_at islands budget k part is in
+    let here : IsUnpublished s.island.market budget (length part.items) = record { spent = part; is_spent = s.spent; counted = refl } in
     record {
       is_of = refl;
       place = k;
@@ -71,7 +72,7 @@ unsplit books budget run made islands k part are is =
       islands = islands;
       are_islands = are;
       earlier = is.earlier;
-      spent = subst (λ (o : Option Island). IsSomeAnd o (IsSpentOn budget (length part.items))) (sym s.at) (part, s.spent, refl);
+      spent = subst (λ (o : Option Island). IsSomeAnd o (λ (i : Island). IsUnpublished i.market budget (length part.items))) (sym s.at) here;
     }
 
 -- ---- what is
@@ -122,8 +123,8 @@ module _ (books : Books) (budget : ℕ) (blocks : List SplitBlock) (made : RunMa
       let A : Option (List Cents) → Type 0 = λ a. IsSplitOf books budget (run_after (blocks_of blocks)) (market_after books (blocks_of blocks)) a r in
       subst A f (subst M e (subst R is h))
 
-  pub unsplit_after : (heading : Heading) (island count : ℕ) → IsUnsplitOf books budget run made heading island count → IsUnsplitRun books budget blocks heading island count
+  pub unsplit_after : (heading : Heading) (island count : ℕ) → IsUnpublishedSplitOf books budget run made heading island count → IsUnpublishedSplitRun books budget blocks heading island count
   unsplit_after heading island count h =
-      let R : ℕ → Type 0 = λ n. IsUnsplitOf books budget n made heading island count in
-      let M : RunMarket → Type 0 = λ m. IsUnsplitOf books budget (run_after (blocks_of blocks)) m heading island count in
+      let R : ℕ → Type 0 = λ n. IsUnpublishedSplitOf books budget n made heading island count in
+      let M : RunMarket → Type 0 = λ m. IsUnpublishedSplitOf books budget (run_after (blocks_of blocks)) m heading island count in
       subst M e (subst R is h)

@@ -5,6 +5,7 @@ use Rattle.std.specs.Option.{IsSomeAnd}
 use Rattle.std.specs.List.{All}
 use Rattle.std.proofs.lemmas.List.{length-take-le, take-take}
 use Rattle.std.proofs.lemmas.Option.{get_or_from_slice_get, slice_get_within}
+use Rattle.mari_market.specs.Clearing.{IsUnpublished}
 use Rattle.mari_market.proofs.SearchTrees.{larger_than_budget}
 use Rattle.mari_day.proofs.Enough.{get-first}
 use Rattle.mari_publish.specs.Lines.{unpublished_in}
@@ -12,7 +13,7 @@ use Rattle.mari_remain.specs.declared.books.Books.{Books}
 use Rattle.mari_islands.specs.declared.islands.Island.{Island}
 use Rattle.mari_split.specs.declared.split.SplitBlock.{SplitBlock}
 use Rattle.mari_split.specs.declared.split.SplitBlock.TheVariants as split
-use Rattle.mari_split.specs.Split.{HoldsIslands, IsSplitBlock, IsSplitDay, IsSplitPart, IsSpentOn, IsWithin, blocks_of}
+use Rattle.mari_split.specs.Split.{HoldsIslands, IsSplitBlock, IsSplitDay, IsSplitPart, IsWithin, blocks_of}
 
 -- a first part of a day part is one
 pub part_of : (books : Books) (budget : ℕ) (blocks : List SplitBlock) (n : ℕ) → IsSplitPart books budget blocks → n ≤ length blocks → IsSplitPart books budget (take n blocks)
@@ -24,14 +25,14 @@ part_of books budget blocks n part l = record {
 }
 
 -- the budget can't be spent on an island whose search tree it holds
-none_spent : (budget count k : ℕ) (islands : List Island) → All (IsWithin budget) islands → IsSomeAnd (slice_get islands k) (IsSpentOn budget count) → ⊥
+none_spent : (budget count k : ℕ) (islands : List Island) → All (IsWithin budget) islands → IsSomeAnd (slice_get islands k) (λ (i : Island). IsUnpublished i.market budget count) → ⊥
 none_spent budget count k islands all h = by (slice_get islands k) refl h
   where
-    by : (o : Option Island) → slice_get islands k ≡ o → IsSomeAnd o (IsSpentOn budget count) → ⊥
+    by : (o : Option Island) → slice_get islands k ≡ o → IsSomeAnd o (λ (i : Island). IsUnpublished i.market budget count) → ⊥
     by None e h = h
-    by (Some i) e (spent, is, counted) =
+    by (Some i) e is =
         let size : IsWithin budget i = subst (IsWithin budget) (get_or_from_slice_get islands k i i e) (all k i (slice_get_within islands k i e)) in
-        omega (arith, size.2, larger_than_budget i.market size.0 budget size.1 is.larger)
+        omega (arith, size.2, larger_than_budget i.market size.0 budget size.1 is.is_spent.larger)
 
 abbrev IsOut : SplitBlock → Type 0
 IsOut (split.Published r) = ⊤

@@ -10,8 +10,7 @@ use Rattle.mari_publish.specs.declared.publication.Block.TheVariants as block
 use Rattle.mari_publish.specs.declared.publication.FullBlock.{FullBlock}
 use Rattle.mari_remain.specs.declared.books.Books.{Books}
 use Rattle.mari_remain.specs.declared.market.RunMarket.{RunMarket}
-use Rattle.mari_market.specs.declared.clearing.Spent.{Spent}
-use Rattle.mari_market.specs.Clearing.{IsSpent}
+use Rattle.mari_market.specs.Clearing.{IsUnpublished}
 use Rattle.mari_market.specs.SearchTree.{HasSize}
 use Rattle.mari_progress.specs.After.{also_after, market_after, run_after}
 use Rattle.mari_progress.specs.Money.{HasLedger}
@@ -54,29 +53,26 @@ blocks_of blocks = map block_of blocks
 abbrev pub IsSplitRun : Books → (budget : ℕ) → (before : List SplitBlock) → SplitRun → Type 0
 IsSplitRun books budget before r = IsSplitOf books budget (run_after (blocks_of before)) (market_after books (blocks_of before)) (also_after books (blocks_of before)) r
 
--- the budget is spent on an island: its search tree is larger, and so many of its nodes were made
-abbrev pub IsSpentOn : (budget count : ℕ) → Island → Type 0
-IsSpentOn budget count i = (spent : Spent) × IsSpent i.market budget spent × (count ≡ length spent.items)
-
 -- a run of a market that isn't published: the islands before the one of this number, counted from 1, can be cleared
 -- within the budget, which is spent on that one
-pub record IsUnsplitOf (books : Books) (budget run : ℕ) (made : RunMarket) (heading : Heading) (island count : ℕ) : Type 0 where
+-- `IsIslandSpent` says it of a search, with the part of the tree that it made; a block has no more than the count.
+pub record IsUnpublishedSplitOf (books : Books) (budget run : ℕ) (made : RunMarket) (heading : Heading) (island count : ℕ) : Type 0 where
   pub is_of : heading ≡ heading_of books run
   pub place : ℕ
   pub numbered : island ≡ place + 1
   pub islands : List Island
   pub are_islands : AreIslands made.market islands
   pub earlier : All (IsClearable budget) (take place islands)
-  pub spent : IsSomeAnd (slice_get islands place) (IsSpentOn budget count)
+  pub spent : IsSomeAnd (slice_get islands place) (λ (i : Island). IsUnpublished i.market budget count)
 
 -- one of the market after the blocks printed before
-abbrev pub IsUnsplitRun : Books → (budget : ℕ) → (before : List SplitBlock) → Heading → (island count : ℕ) → Type 0
-IsUnsplitRun books budget before heading island count = IsUnsplitOf books budget (run_after (blocks_of before)) (market_after books (blocks_of before)) heading island count
+abbrev pub IsUnpublishedSplitRun : Books → (budget : ℕ) → (before : List SplitBlock) → Heading → (island count : ℕ) → Type 0
+IsUnpublishedSplitRun books budget before heading island count = IsUnpublishedSplitOf books budget (run_after (blocks_of before)) (market_after books (blocks_of before)) heading island count
 
 -- the block of the run after the blocks printed before
 abbrev pub IsSplitBlock : Books → (budget : ℕ) → (before : List SplitBlock) → SplitBlock → Type 0
 IsSplitBlock books budget before (split.Published r) = IsSplitRun books budget before r
-IsSplitBlock books budget before (split.Unpublished heading island count) = IsUnsplitRun books budget before heading island count
+IsSplitBlock books budget before (split.Unpublished heading island count) = IsUnpublishedSplitRun books budget before heading island count
 
 -- the blocks of the first runs in order, each after the blocks printed before it
 pub record IsSplitPart (books : Books) (budget : ℕ) (blocks : List SplitBlock) : Type 0 where

@@ -69,7 +69,7 @@ fn write_runs<C: Clearer, K: Sink>(
     Ok(progress)
 }
 
-/// Writes the last line, after the blocks of all runs, of which so many are published.
+/// Writes the last line, after the blocks of all runs; `published` is the number of published ones.
 fn close<K: Sink>(alloc: Global, books: &Books, published: u32, sink: &mut K) -> Result<(), Stop>
     requires accepted { IsAccepted books.now }
     requires stands { (budget : ℕ) × (blocks : List PrintedBlock) × (kept : KeptProgress) × IsSplitProgress books.now budget blocks kept × (kept.published ≡ published) × (length blocks ≡ length books.now.runs.runs) }

@@ -55,7 +55,7 @@ abbrev pub is_between_same : BorderEnds → BorderEnds → Bool
 is_between_same a b = ((a.from == b.from) && (a.to == b.to)) || ((a.from == b.to) && (a.to == b.from))
 
 -- a line is refused after `MOST_BORDERS` others, for an unknown zone, for one zone at both ends, for the zones of an
--- earlier line, and for a limit that is none
+-- earlier line, and for a limit that isn't one
 abbrev pub border_checks : ZoneBook → (version : ℕ) → List Row → Row → Checks
 border_checks zones version earlier row =
     (nat_le MOST_BORDERS (length earlier), border_check_number TooManyBorders)

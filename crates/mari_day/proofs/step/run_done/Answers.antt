@@ -1,7 +1,6 @@
 use Rattle.std.proofs.Common.{◌≡◌, ◌∙◌, ℕ, List, Option, refl, sym, ap, subst, arith}
 use Rattle.mari_units.specs.declared.numbers.Cents.{Cents}
-use Rattle.mari_market.specs.Clearing.{IsSpent}
-use Rattle.mari_market.specs.declared.clearing.Spent.{Spent}
+use Rattle.mari_market.specs.Clearing.{IsUnpublished}
 use Rattle.mari_lines.specs.declared.line.Heading.{Heading}
 use Rattle.mari_lines.specs.Ranges.{IsHeading}
 use Rattle.mari_publish.specs.declared.publication.Block.{Block}
@@ -25,8 +24,8 @@ module _ (books : Books) (budget : ℕ) (blocks : List Block) (made : RunMarket)
       let A : Option (List Cents) → Type 0 = λ a. IsPublishedOf books budget (run_after blocks) (market_after books blocks) a b in
       subst A f (subst M e (subst R is h))
 
-  spent-after : (spent : Spent) → IsSpent made.market budget spent → IsSpent (market_after books blocks).market budget spent
-  spent-after spent h = let M : RunMarket → Type 0 = λ m. IsSpent m.market budget spent in subst M e h
+  unpublished-after : (count : ℕ) → IsUnpublished made.market budget count → IsUnpublished (market_after books blocks).market budget count
+  unpublished-after count h = let M : RunMarket → Type 0 = λ m. IsUnpublished m.market budget count in subst M e h
 
 pub market_of-requires-clause-after : goal.market_of-requires-clause-after
 market_of-requires-clause-after g c = let s = c.requires.stands in (s.0, s.1.kept, s.2)
@@ -64,9 +63,8 @@ returns-in-Spent-clause-done g c = λ blocks progress is.
     record {
       block = record {
         is_of = c.heading.ensures ∙ ap (heading_of books) is;
-        spent = c.in-Spent.spent;
-        is_spent = spent-after books c.args.budget blocks c.in_ok-made.made made c.in-Spent.spent c.in-Spent.ensures.law;
-        counted = rw c.as_slice.ensures refl;
+        spent = unpublished-after books c.args.budget blocks c.in_ok-made.made made _
+            (record { spent = c.in-Spent.spent; is_spent = c.in-Spent.ensures.law; counted = rw c.as_slice.ensures refl });
       };
       settled = tt;
     }

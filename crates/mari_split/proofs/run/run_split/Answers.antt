@@ -3,7 +3,7 @@ use Rattle.mari_progress.proofs.Progressing.{settled-after}
 use Rattle.mari_islands.specs.declared.islands.Island.{Island}
 use Rattle.mari_split.specs.Split.{IsSplitRun, blocks_of}
 use Rattle.mari_split.specs.Steps.{RunFits}
-use Rattle.mari_split.proofs.Blocks.{few_islands, run_fits, spent_below, split, split_after, unsplit, unsplit_after}
+use Rattle.mari_split.proofs.Blocks.{few_islands, run_fits, spent_below, split, split_after, unpublished_split, unsplit_after}
 use Rattle.mari_split.proofs.run.run_split.Goals as goal
 
 pub market_of-requires-clause-after : goal.market_of-requires-clause-after
@@ -48,7 +48,7 @@ returns-in-Spent-clause-done g c = λ blocks progress is.
     let same = c.in_ok-made.ensures.market (blocks_of blocks) progress.kept is in
     let islands = c.in_ok-islands.islands.items in
     let law = rw c.deref.ensures.value at c.in-Spent.ensures.law in
-    let own = unsplit books c.args.budget c.args.run made islands c.in-Spent.island c.in-Spent.spent c.in_ok-islands.ensures.islands law in
+    let own = unpublished_split books c.args.budget c.args.run made islands c.in-Spent.island c.in-Spent.spent c.in_ok-islands.ensures.islands law in
     record {
       block = rw (c.heading.ensures, c.as_slice.ensures) (unsplit_after books c.args.budget blocks made same c.args.run is _ _ _ own);
       settled = tt;

@@ -45,7 +45,7 @@ returns-clause-takes c = λ earlier holds.
     let yes : c.count_one.result ≡ true = search rules in
     let room = rw (c.deref_mut.ensures.value, quarter, counted) at (sym c.count_one.ensures.room ∙ yes) in
     let counts = rw (c.deref_mut.ensures.value, quarter) at (c.count_one.ensures.counted yes) in
-    let id = rw (c.field.ensures, c.in-Ok.ensures.new) at c.in_ok-find_or_add.ensures.names in
+    let id = rw c.field.ensures at c.in_ok-add_new.ensures.added in
     let names = rw c.field-2.ensures at c.in_ok-bid.ensures.names in
     let place = rw c.field-2.ensures at c.in_ok-bid.ensures.place in
     let pushed : c.push.new.self.items ≡ so_far.bids.items ++ record c.in-Ok.bid { provider = c.in_ok-bid.field-0 } ∷ [] = search rules in
@@ -63,12 +63,12 @@ returns-clause-takes c = λ earlier holds.
       },
     )
 
-pub find_or_add-requires-clause-room : goal.find_or_add-requires-clause-room
-find_or_add-requires-clause-room c =
+pub add_new-requires-clause-room : goal.add_new-requires-clause-room
+add_new-requires-clause-room c =
     let earlier = c.requires.0 in
     rw c.requires.1.ids (omega (arith, length-map earlier id_of, c.requires.2))
 
-pub find_or_add-requires-2-clause-room : goal.find_or_add-requires-2-clause-room
-find_or_add-requires-2-clause-room c =
+pub find_or_add-requires-clause-room : goal.find_or_add-requires-clause-room
+find_or_add-requires-clause-room c =
     let earlier = c.requires.0 in
     rw c.requires.1.providers (omega (arith, length-distinct (map provider_of earlier), length-map earlier provider_of, c.requires.2))

@@ -27,15 +27,25 @@ pub(crate) const ONE_DEMAND: &str = "run,zone,mw,price\n1,Z,60,\n";
 /// The pages of folder F that differ from case to case. The publication is in parts.
 #[derive(Clone, Copy)]
 pub(crate) struct Folder<'a> {
+    /// day.csv.
     pub(crate) day: &'a str,
+    /// zones.csv.
     pub(crate) zones: &'a str,
+    /// borders.csv.
     pub(crate) borders: &'a str,
+    /// bids.csv.
     pub(crate) bids: &'a str,
+    /// links.csv.
     pub(crate) links: &'a str,
+    /// runs.csv.
     pub(crate) runs: &'a str,
+    /// demands.csv.
     pub(crate) demands: &'a str,
+    /// limits.csv, if the folder has it.
     pub(crate) limits: Option<&'a str>,
+    /// blocks.csv, if the folder has it.
     pub(crate) blocks: Option<&'a str>,
+    /// The parts of publication.txt, if the folder has it.
     pub(crate) publication: Option<&'a [&'a str]>,
 }
 
@@ -109,7 +119,9 @@ pub(crate) const TWO_ZONES_DAY: &[&str] = &[HEAD, BLOCK, TOTALS];
 /// What is wanted of a printed text: that it is these parts, or that it has each of these lines.
 #[derive(Clone, Copy)]
 pub(crate) enum Printed<'a> {
+    /// The whole text, in its parts.
     Whole(&'a [&'a str]),
+    /// Lines that the text has.
     Lines(&'a [&'a str]),
 }
 

@@ -20,7 +20,7 @@ const SIZES: &[Size] = &[
     ("513 demands", 0, 0, 0, 513, true),
 ];
 
-/// So many borders of 17 zones.
+/// `count` borders of 17 zones.
 fn borders(alloc: Global, count: u32) -> Result<String, Fail> {
     let mut borders = String::from_str(alloc, "from,to,limit,back\n")?;
     let mut left = count;
@@ -35,7 +35,7 @@ fn borders(alloc: Global, count: u32) -> Result<String, Fail> {
     Ok(borders)
 }
 
-/// So many bids and gated bids, by turns in the first and the second quarter.
+/// `plain` bids without a gate and `gated` bids with one, by turns in the first and the second quarter.
 fn bids(alloc: Global, plain: u32, gated: u32) -> Result<String, Fail> {
     let mut bids = String::from_str(alloc, BIDS)?;
     for (count, least) in [(plain, 0u32), (gated, 5)] {
@@ -50,7 +50,7 @@ fn bids(alloc: Global, plain: u32, gated: u32) -> Result<String, Fail> {
     Ok(bids)
 }
 
-/// So many demands of nothing, by turns in the first and the second run.
+/// `count` demands of 0 MW, by turns in the first and the second run.
 fn demands(alloc: Global, count: u32) -> Result<String, Fail> {
     let mut demands = String::from_str(alloc, DEMANDS)?;
     for demand in 0..count {

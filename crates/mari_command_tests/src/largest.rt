@@ -5,7 +5,7 @@ use crate::cases::{BIDS, DEMANDS, Folder, ONE_ZONE, ROOM, compare, shelf, sink};
 use std::alloc::Global;
 use std::test::Fail;
 
-/// As many bids as a folder may have, which pay for their power.
+/// 4,096 bids, the most that a folder may have, which pay for their power.
 fn bids(alloc: Global) -> Result<String, Fail> {
     let mut bids = String::from_str(alloc, BIDS)?;
     for bid in 0..4096 {

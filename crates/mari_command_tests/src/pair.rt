@@ -6,11 +6,11 @@ ghost use Rattle.mari_market.specs.Market.{IsValid};
 ghost use Rattle.mari_market.specs.Prefix.{word_of, IsFeasiblePrefix};
 ghost use Rattle.mari_market.specs.Price.{ArePrices};
 
-use mari_market::{Activation, Conflict, Finding, Leaf, Market, Prefix, Prices, Relaxed};
+use mari_market::{Conflict, Finding, Leaf, Market, Prefix, Prices, Relaxed};
 use mari_node::examine;
 use mari_proofs::{check_leaf, dual_value};
 use mari_units::{Cents, Items, Memory, Quarters};
-use mari_workers::Turnstile;
+use mari_workers::{Root, Turnstile};
 use std::alloc::{AllocError, Global};
 use std::sync::atomic::{AtomicBool, AtomicU64, Ordering};
 use std::thread;
@@ -18,9 +18,13 @@ use std::thread;
 /// Holds the first worker at a leaf until another has come to one, for a number of turns, and counts who comes.
 #[derive(Drop)]
 pub(crate) struct Pair {
+    /// How many times a worker came to the root.
     pub at_the_root: AtomicU64,
+    /// How many times a worker came to a leaf.
     pub at_leaves: AtomicU64,
+    /// Whether a worker was let go before the other came.
     pub ran_out: AtomicBool,
+    /// A bit for each of the two workers that came to a leaf.
     came: AtomicU64,
 }
 
@@ -146,7 +150,7 @@ impl Turnstile for Pair {
         worker: u32,
         market: &Market,
         prefix: &Prefix,
-        _start: &mut Option<Activation>,
+        _root: &Root,
     ) -> Result<Finding, Memory> {
         if prefix.length == 0 {
             self.at_the_root.fetch_add(1, Ordering::SeqCst);

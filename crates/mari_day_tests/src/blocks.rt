@@ -99,7 +99,7 @@ const NINE_QUARTERS: Pages = Pages {
     ..ONE_ZONE
 };
 
-/// The order of a bid that is at so many cents, from its least to its greatest, of a gate or none.
+/// The order of a bid at `cents` cents per MWh, from its least to its greatest MW, of a gate or none.
 fn bid(zone: u32, cents: i64, least: u32, greatest: u32, gate: Option<u32>) -> Order {
     Order {
         zone,
@@ -111,12 +111,16 @@ fn bid(zone: u32, cents: i64, least: u32, greatest: u32, gate: Option<u32>) -> O
     }
 }
 
-/// A folder, the page of its blocks, and the first and the last quarter.
+/// A folder whose quarters are cleared as one market.
 #[derive(Clone, Copy)]
 pub(crate) struct Case {
+    /// The pages of the folder.
     pub folder: Pages,
+    /// blocks.csv.
     pub blocks: &'static [u8],
+    /// The first quarter, from 1.
     pub first: u32,
+    /// The last quarter.
     pub last: u32,
 }
 
@@ -128,7 +132,7 @@ pub(crate) const ONE_BLOCK: Case = Case {
     last: 2,
 };
 
-/// The pair where the plain bid of the second quarter costs as much, so that the block loses in neither.
+/// The pair where the plain bid of the second quarter costs 30.00, as the block does, so that this loses in neither.
 pub(crate) const PAYING_BLOCK: Case = Case {
     folder: Pages {
         bids: b"id,provider,zone,quarter,direction,price,least,greatest,kind\n\
@@ -254,7 +258,7 @@ fn a_block_with_a_bid_that_is_not_available_is_left_out(rt: HostRuntime) -> Resu
     Ok(())
 }
 
-/// No blocks in the first so many quarters of a folder.
+/// No blocks in the quarters of a folder from 1 to `last`.
 pub(crate) const fn no_blocks(folder: Pages, last: u32) -> Case {
     Case {
         folder,

@@ -9,7 +9,7 @@ const DAYS: &[(&str, &str, Result<u32, CalendarFault>)] = &[
     ("2025-03-30", CET, Ok(92)),
     ("2025-03-12", CET, Ok(96)),
     ("2025-10-26", CET, Ok(100)),
-    // dates that are none, which is reported before the rule is read
+    // what isn't a date, which is reported before the rule is read
     ("2025-02-29", CET, Err(CalendarFault::BadDate)),
     ("2025-13-01", CET, Err(CalendarFault::BadDate)),
     ("2025-00-10", CET, Err(CalendarFault::BadDate)),

@@ -13,7 +13,9 @@ use std::test::Fail;
 
 /// A folder, and the lines of its day.
 pub(crate) struct Day {
+    /// The pages of the folder.
     pub folder: Pages,
+    /// The lines of its day.
     pub lines: &'static [&'static str],
 }
 

@@ -14,13 +14,21 @@ use std::test::Fail;
 /// The pages of folder F that differ from test to test.
 #[derive(Clone, Copy)]
 pub(crate) struct Pages {
+    /// day.csv.
     pub day: &'static [u8],
+    /// zones.csv.
     pub zones: &'static [u8],
+    /// borders.csv.
     pub borders: &'static [u8],
+    /// bids.csv.
     pub bids: &'static [u8],
+    /// links.csv.
     pub links: &'static [u8],
+    /// runs.csv.
     pub runs: &'static [u8],
+    /// demands.csv.
     pub demands: &'static [u8],
+    /// limits.csv, if the folder has it.
     pub limits: Option<&'static [u8]>,
 }
 

@@ -11,7 +11,7 @@ use mari_flow::solve;
 use mari_gates::prefix_feasible;
 use mari_io::MemoryShelf;
 use mari_market::{Activation, Market, Prefix};
-use mari_paths::solve_from;
+use mari_paths::{SolveFault, Solved, WarmStart, solve_from};
 use mari_remain::{Books, Remaining};
 use mari_scenario::scenario_pages;
 use mari_units::Items;
@@ -75,18 +75,34 @@ const ROOT: Prefix = Prefix {
     bits: [0; 8],
 };
 
-/// The welfare that the fast solver finds at the root from a start.
-fn welfare_from(alloc: Global, market: &Market, start: Option<&Activation>) -> Option<u64>
-    requires { IsValid market.now }
-{
-    if !prefix_feasible(market, &ROOT) {
-        return None;
-    }
-    match solve_from(alloc, market, &ROOT, start) {
+/// The welfare that a solver finds, if there is an optimum.
+fn welfare_of(found: Result<Solved, SolveFault>) -> Option<u64> {
+    match found {
         Ok(solved) => Some(solved.welfare),
         Err(_fault) => None,
     }
 }
+
+/// The welfare that the fast solver finds at the root from a start, and from a warm start that is made from it.
+fn welfare_from(
+    alloc: Global,
+    market: &Market,
+    start: Option<&Activation>,
+) -> Result<[Option<u64>; 2], Fail>
+    requires { IsValid market.now }
+{
+    if !prefix_feasible(market, &ROOT) {
+        return Err("the first prefix is feasible".into());
+    }
+    let warm = WarmStart::of(alloc, market, start)?;
+    Ok([
+        welfare_of(solve_from(alloc, market, &ROOT, start)),
+        welfare_of(warm.solve(alloc, market, &ROOT)),
+    ])
+}
+
+/// What the fast solver finds from each start.
+type Fast = [[Option<u64>; 2]; 4];
 
 /// The welfare that the plain solver finds at the root, and those that the fast one finds from no start, from the
 /// plain one's, and from these.
@@ -95,7 +111,7 @@ fn welfares(
     market: &Market,
     first: &Activation,
     second: &Activation,
-) -> Result<(u64, [Option<u64>; 4]), Fail>
+) -> Result<(u64, Fast), Fail>
     requires { IsValid market.now }
 {
     if !prefix_feasible(market, &ROOT) {
@@ -105,10 +121,10 @@ fn welfares(
         return Err("there is an optimum".into());
     };
     let fast = [
-        welfare_from(alloc, market, None),
-        welfare_from(alloc, market, Some(&plain.activation)),
-        welfare_from(alloc, market, Some(first)),
-        welfare_from(alloc, market, Some(second)),
+        welfare_from(alloc, market, None)?,
+        welfare_from(alloc, market, Some(&plain.activation))?,
+        welfare_from(alloc, market, Some(first))?,
+        welfare_from(alloc, market, Some(second))?,
     ];
     let welfare = plain.welfare;
     drop(plain);
@@ -116,7 +132,7 @@ fn welfares(
 }
 
 /// Those welfares, where the last two starts are too short, and run too much.
-fn reported(alloc: Global, market: &Market) -> Result<(u64, [Option<u64>; 4]), Fail>
+fn reported(alloc: Global, market: &Market) -> Result<(u64, Fast), Fail>
     requires { IsValid market.now }
 {
     let orders = market.orders.as_slice().len();
@@ -135,6 +151,6 @@ fn both_solvers_agree_from_any_start(rt: HostRuntime) -> Result<(), Fail> {
     let reported = reported(rt.alloc(), &market);
     drop(market);
     let (welfare, fast) = reported?;
-    same(&rt, fast, [Some(welfare); 4]);
+    same(&rt, fast, [[Some(welfare); 2]; 4]);
     Ok(())
 }

@@ -118,7 +118,7 @@ const OF_SPENT: &[Row] = &[
     ),
 ];
 
-/// The values of a text that comes in pieces of so many bytes.
+/// What `more` MW more on each limit are worth, of a text that comes in pieces of `piece` bytes.
 fn reported_of(
     alloc: Global,
     books: &Books,

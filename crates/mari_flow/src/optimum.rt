@@ -17,7 +17,7 @@ ghost use Rattle.mari_network.specs.Solving.{NoneWithin, OfCut, IsAnswer};
 use crate::run::run;
 use crate::start::{first_amounts, with_stand_ins};
 use mari_market::{Market, Prefix};
-use mari_network::{Slot, SolveFault, Solved, answer, network_of, order_slots};
+use mari_network::{Slot, SolveFault, Solved, answer, network_of, order_slots, places_of};
 use std::alloc::Global;
 
 /// The relaxed optimum of a market whose orders may run within these slots, or a cut.
@@ -26,8 +26,10 @@ fn solve_slots(alloc: Global, market: &Market, reals: &[Slot]) -> Result<Solved,
     requires reals { AreOrderSlots market.now.zones market.now.orders reals.now }
     ensures { (spans : Order → Span) → reals.now ≡ slots_of spans market.now.orders → IsAnswer spans market.now result }
 {
-    let slots = with_stand_ins(alloc, reals)?;
-    let network = network_of(alloc, market, &slots)?;
+    let all = with_stand_ins(alloc, reals)?;
+    let slots = all.as_slice();
+    let places = places_of(alloc, market, slots)?;
+    let network = network_of(market, slots, &places);
     let mut amounts = first_amounts(alloc, reals)?;
     let mut flows = vec![in alloc; 0i64; network.borders.len()]?;
     let prices = run(alloc, &network, &mut amounts, &mut flows)?;

@@ -62,7 +62,7 @@ order_slots_fine spans n gates os v f =
           (can_puts (get_or os k no_order).side (spans (get_or os k no_order)) (f k no_order l)));
     }
 
-slot_small : (s : Slot) (n : ℕ) → IsOrderSlot n s → IsSmallSlot s
+pub slot_small : (s : Slot) (n : ℕ) → IsOrderSlot n s → IsSmallSlot s
 slot_small s n f = record { low = omega (arith, ints, f.low); high = omega (arith, ints, f.high); cheap = omega (arith, ints, f.price.low); dear = omega (arith, ints, f.price.high) }
 
 pub slots_ordered : (n : ℕ) (slots : List Slot) → All (IsOrderSlot n) slots → All (λ (s : Slot). s.low ≤ℤ s.high) slots

@@ -6,9 +6,11 @@ use Rattle.std.proofs.lemmas.Bool.{cases_eq, cases_lt}
 use Rattle.std.proofs.lemmas.List.{get_or_append_left, get_or_push, length_push}
 use Rattle.mari_network.specs.declared.slots.Slot.{Slot}
 use Rattle.mari_network.specs.declared.margins.Margin.{Margin}
+use Rattle.mari_network.specs.declared.network.Places.{Places}
+use Rattle.mari_market.specs.declared.market.Border.{Border}
 use Rattle.mari_market.specs.Sums.{int_at}
 use Rattle.mari_network.specs.Slots.{slot_at, zone_of, price_of, CanLess, CanMore}
-use Rattle.mari_network.specs.Network.{place_at, AreMembers}
+use Rattle.mari_network.specs.Network.{place_at, AreMembers, ArePlaces}
 use Rattle.mari_network.specs.Spread.{is_marked}
 use Rattle.mari_network.specs.Margins.{no_margin, dearest_at, cheapest_at, IsAbove, IsBelow, IsDearestAmong, IsCheapestAmong, IsDearestIn, IsCheapestIn, IsMarginOf, IsMoved, AreMargins, IsDearest, NoneLess, IsCheaper, NoneCheaper, IsDearestOf}
 
@@ -187,18 +189,46 @@ module _ (slots : List Slot) (old new : List ℤ) (sink source : ℕ) (moved : I
     all = λ k l can e. more_before c k l (λ is. away (sym (ap (zone_of slots) is) ∙ e)) can e;
   }
 
--- the marginal slots of a zone whose slots' amounts stay
-pub margin_stays : (slots : List Slot) (old new : List ℤ) (z : ℕ) (m : Margin) → ((k : ℕ) → zone_of slots k ≡ z → int_at new k ≡ int_at old k) → IsMarginOf slots old z m → IsMarginOf slots new z m
-margin_stays slots old new z m same a = record {
+above_stays : (before after : List Slot) (v : ℤ) (best : Option ℕ) → ((i : ℕ) → best ≡ Some i → slot_at after i ≡ slot_at before i) → IsAbove before v best → IsAbove after v best
+above_stays before after v None same a = a
+above_stays before after v (Some i) same a = subst (λ (s : Slot). v ≤ℤ s.price) (sym (same i refl)) a
+
+below_stays : (before after : List Slot) (v : ℤ) (best : Option ℕ) → ((i : ℕ) → best ≡ Some i → slot_at after i ≡ slot_at before i) → IsBelow before v best → IsBelow after v best
+below_stays before after v None same a = a
+below_stays before after v (Some i) same a = subst (λ (s : Slot). s.price ≤ℤ v) (sym (same i refl)) a
+
+less_stays : (before after : List Slot) (old new : List ℤ) (k : ℕ) → length before ≡ length after → slot_at before k ≡ slot_at after k → int_at old k ≡ int_at new k → CanLess before old k → CanLess after new k
+less_stays before after old new k long s x can = (omega (arith, long, can.0), subst (λ (y : ℤ). (slot_at after k).low <ℤ y) x (subst (λ (t : Slot). t.low <ℤ int_at old k) s can.1))
+
+more_stays : (before after : List Slot) (old new : List ℤ) (k : ℕ) → length before ≡ length after → slot_at before k ≡ slot_at after k → int_at old k ≡ int_at new k → CanMore before old k → CanMore after new k
+more_stays before after old new k long s x can = (omega (arith, long, can.0), subst (λ (y : ℤ). y <ℤ (slot_at after k).high) x (subst (λ (t : Slot). int_at old k <ℤ t.high) s can.1))
+
+-- the marginal slots of a zone whose slots and amounts stay, where no slot changes its zone
+pub margin_stays_among : (before after : List Slot) (old new : List ℤ) (z : ℕ) (m : Margin) → length after ≡ length before
+    → ((k : ℕ) → zone_of after k ≡ zone_of before k) → ((k : ℕ) → zone_of before k ≡ z → slot_at after k ≡ slot_at before k)
+    → ((k : ℕ) → zone_of before k ≡ z → int_at new k ≡ int_at old k) → IsMarginOf before old z m → IsMarginOf after new z m
+margin_stays_among before after old new z m long zones slots amounts a = record {
   dearest = record {
-    one = λ i e. let o = a.dearest.one i e in ((o.0.0, subst (λ (x : ℤ). (slot_at slots i).low <ℤ x) (sym (same i o.1)) o.0.1), o.1);
-    all = λ k l can e. a.dearest.all k l (can.0, subst (λ (x : ℤ). (slot_at slots k).low <ℤ x) (same k e) can.1) e;
+    one = λ i e. let o = a.dearest.one i e in (less_stays before after old new i (sym long) (sym (slots i o.1)) (sym (amounts i o.1)) o.0, zones i ∙ o.1);
+    all = λ k l can e.
+        let here : zone_of before k ≡ z = sym (zones k) ∙ e in
+        subst (λ (s : Slot). IsAbove after s.price m.dearest) (sym (slots k here))
+        (above_stays before after (price_of before k) m.dearest (λ i f. slots i (a.dearest.one i f).1)
+        (a.dearest.all k (omega (arith, long, l)) (less_stays after before new old k long (slots k here) (amounts k here) can) here));
   };
   cheapest = record {
-    one = λ i e. let o = a.cheapest.one i e in ((o.0.0, subst (λ (x : ℤ). x <ℤ (slot_at slots i).high) (sym (same i o.1)) o.0.1), o.1);
-    all = λ k l can e. a.cheapest.all k l (can.0, subst (λ (x : ℤ). x <ℤ (slot_at slots k).high) (same k e) can.1) e;
+    one = λ i e. let o = a.cheapest.one i e in (more_stays before after old new i (sym long) (sym (slots i o.1)) (sym (amounts i o.1)) o.0, zones i ∙ o.1);
+    all = λ k l can e.
+        let here : zone_of before k ≡ z = sym (zones k) ∙ e in
+        subst (λ (s : Slot). IsBelow after s.price m.cheapest) (sym (slots k here))
+        (below_stays before after (price_of before k) m.cheapest (λ i f. slots i (a.cheapest.one i f).1)
+        (a.cheapest.all k (omega (arith, long, l)) (more_stays after before new old k long (slots k here) (amounts k here) can) here));
   };
 }
+
+-- the marginal slots of a zone whose slots' amounts stay
+pub margin_stays : (slots : List Slot) (old new : List ℤ) (z : ℕ) (m : Margin) → ((k : ℕ) → zone_of slots k ≡ z → int_at new k ≡ int_at old k) → IsMarginOf slots old z m → IsMarginOf slots new z m
+margin_stays slots old new z m same a = margin_stays_among slots slots old new z m refl (λ k. refl) (λ k e. refl) same a
 
 pub margins_at : (slots : List Slot) (xs : List ℤ) (zones : ℕ) (margins : List Margin) (z : ℕ)
     → AreMargins slots xs zones (length slots) margins → z < zones
@@ -284,4 +314,16 @@ members_skip slots n z places other a = record {
     | inl b ↦ a.all k b h
     | inr b ↦ let same : n ≡ k = omega arith in absurd (other (ap (zone_of slots) same ∙ h))
   ];
+}
+
+-- no slot changes its zone
+pub members_stay : (before after : List Slot) (n z : ℕ) (places : List ℕ) → ((k : ℕ) → zone_of after k ≡ zone_of before k) → AreMembers before n z places → AreMembers after n z places
+members_stay before after n z places same a = record { there = a.there; zone = λ j l. same (place_at places j) ∙ a.zone j l; all = λ k l e. a.all k l (sym (same k) ∙ e) }
+
+pub places_stay : (zones : ℕ) (before after : List Slot) (bs : List Border) (p : Places) → length after ≡ length before → ((k : ℕ) → zone_of after k ≡ zone_of before k) → ArePlaces zones before bs p → ArePlaces zones after bs p
+places_stay zones before after bs p long same a = record {
+  members_long = a.members_long;
+  meeting_long = a.meeting_long;
+  members = λ z v l. subst (λ (n : ℕ). AreMembers after n z (get_or p.members.items z v).items) (sym long) (members_stay before after (length before) z (get_or p.members.items z v).items same (a.members z v l));
+  meeting = a.meeting;
 }

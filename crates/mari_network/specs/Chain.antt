@@ -32,7 +32,7 @@ abbrev pub room_of : Bool → Border → ℤ → ℤ
 room_of true b f = pos b.limit -ℤ f
 room_of false b f = f +ℤ pos b.back
 
--- what so much more that way adds to a flow
+-- what an amount more that way adds to a flow
 abbrev pub more_flow : Bool → ℤ → ℤ
 more_flow true d = d
 more_flow false d = neg_ℤ d
@@ -52,7 +52,7 @@ pub record IsTrace (bs : List Border) (hops : List Hop) : Type 0 where
   pub each : (k : ℕ) → 0 < k → k < length hops → IsHop bs hops k
   pub apart : (j k : ℕ) → 0 < j → j < k → k < length hops → (hop_at hops j).border ≢ (hop_at hops k).border
 
--- each hop from a place back to the first has room for so much
+-- each hop from a place back to the first has room for an amount
 pub data HasRoom (bs : List Border) (fs : List ℤ) (hops : List Hop) (d : ℤ) : ℕ → Type 0 where
   begins : HasRoom bs fs hops d 0
   goes_on : (k : ℕ) → 0 < k → d ≤ℤ hop_room bs fs (hop_at hops k) → HasRoom bs fs hops d (hop_at hops k).before → HasRoom bs fs hops d k

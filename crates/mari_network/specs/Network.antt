@@ -5,6 +5,7 @@ use Rattle.mari_market.specs.declared.market.Border.{Border}
 use Rattle.mari_market.specs.Market.{IsBetween}
 use Rattle.mari_network.specs.declared.slots.Slot.{Slot}
 use Rattle.mari_network.specs.declared.network.Network.{Network}
+use Rattle.mari_network.specs.declared.network.Places.{Places}
 use Rattle.mari_network.specs.Slots.{zone_of, IsSmallSlot, IsRunning}
 
 abbrev pub no_border : Border
@@ -31,15 +32,22 @@ pub record AreMembers (slots : List Slot) (n z : ℕ) (places : List ℕ) : Type
   pub zone : (j : ℕ) → j < length places → zone_of slots (place_at places j) ≡ z
   pub all : (k : ℕ) → k < n → zone_of slots k ≡ z → (j : ℕ) × (j < length places) × (place_at places j ≡ k)
 
+-- for each of the zones the places of its slots, and those of the borders that meet it
+pub record ArePlaces (zones : ℕ) (slots : List Slot) (bs : List Border) (p : Places) : Type 0 where
+  pub members_long : length p.members.items ≡ zones
+  pub meeting_long : length p.meeting.items ≡ zones
+  pub members : (z : ℕ) (v : _) → z < zones → AreMembers slots (length slots) z (slice_index_or p.members.items z v).items
+  pub meeting : (z : ℕ) (v : _) → z < zones → AreMeeting bs z (slice_index_or p.meeting.items z v).items
+
 -- slots with small numbers and borders, all between the network's zones
 pub record IsNetwork (n : Network) : Type 0 where
   pub small : All IsSmallSlot n.slots.now
-  pub zones : All (λ (s : Slot). s.zone < length n.meeting.items) n.slots.now
-  pub ends : All (IsBetween (length n.meeting.items)) n.borders.now
-  pub as_many : length n.members.items ≡ length n.meeting.items
-  pub members : (z : ℕ) (v : _) → z < length n.meeting.items → AreMembers n.slots.now (length n.slots.now) z (slice_index_or n.members.items z v).items
-  pub meeting : (z : ℕ) (v : _) → z < length n.meeting.items → AreMeeting n.borders.now z (slice_index_or n.meeting.items z v).items
+  pub zones : All (λ (s : Slot). s.zone < length n.meeting.now) n.slots.now
+  pub ends : All (IsBetween (length n.meeting.now)) n.borders.now
+  pub as_many : length n.members.now ≡ length n.meeting.now
+  pub members : (z : ℕ) (v : _) → z < length n.meeting.now → AreMembers n.slots.now (length n.slots.now) z (slice_index_or n.members.now z v).items
+  pub meeting : (z : ℕ) (v : _) → z < length n.meeting.now → AreMeeting n.borders.now z (slice_index_or n.meeting.now z v).items
 
 -- amounts and flows within their bounds, with each zone in balance
 abbrev pub Runs : Network → (amounts flows : List ℤ) → Type 0
-Runs n xs fs = IsRunning (length n.meeting.items) n.slots.now n.borders.now xs fs
+Runs n xs fs = IsRunning (length n.meeting.now) n.slots.now n.borders.now xs fs

@@ -67,7 +67,7 @@ abbrev pub CanPut : Side → ℤ → Type 0
 CanPut Inject x = (pos 0 ≤ℤ x) × (x ≤ℤ pos MOST_MW)
 CanPut Withdraw x = (neg_ℤ (pos MOST_MW) ≤ℤ x) × (x ≤ℤ pos 0)
 
--- a slot of an order of one of so many zones
+-- a slot of an order of one of the zones
 pub record IsOrderSlot (zones : ℕ) (s : Slot) : Type 0 where
   pub zone : s.zone < zones
   pub low : neg_ℤ (pos MOST_MW) ≤ℤ s.low

@@ -10,7 +10,7 @@ use Rattle.mari_network.specs.Levels.{AreTight}
 
 -- a price for each zone, at least the least of all, and all tight
 pub record AreTightPrices (n : NetworkRecord) (xs fs prices : List ℤ) : Type 0 where
-  pub one_each : length prices ≡ length n.meeting.items
+  pub one_each : length prices ≡ length n.meeting.now
   pub least : (z : ℕ) → z < length prices → neg_ℤ BEYOND ≤ℤ int_at prices z
   pub tight : AreTight n.slots.now n.borders.now xs fs (int_at prices)
 

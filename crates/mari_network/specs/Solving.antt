@@ -45,7 +45,7 @@ IsAnswer spans m (Err fault) = OfCut fault (IsCut spans m)
 
 -- the network has the market's zones and borders, and slots of its orders before others
 pub record IsNetworkOf (m : Market) (n : NetworkRecord) : Type 0 where
-  pub zones : length n.meeting.items ≡ m.zones
+  pub zones : length n.meeting.now ≡ m.zones
   pub borders : n.borders.now ≡ m.borders
   pub orders : AllZip (λ (o : Order) (s : Slot). CanPut o.side s.low × CanPut o.side s.high) m.orders (take (length m.orders) n.slots.now)
 

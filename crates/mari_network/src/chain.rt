@@ -125,7 +125,7 @@ fn room(borders: &[Border], flows: &[i64], hops: &[Hop], at: usize, most: i64) -
     requires within { AllZip IsWithinLimits borders.now flows.now }
     requires some { HasRoom borders.now flows.now hops.now (pos 1) at }
 
-    // There is so much room, and at least a MW.
+    // There is room for the answer, which is at least a MW.
     ensures some { pos 1 ≤ℤ result }
     ensures most { result ≤ℤ most }
     ensures room { HasRoom borders.now flows.now hops.now result at }
@@ -142,7 +142,7 @@ fn room(borders: &[Border], flows: &[i64], hops: &[Hop], at: usize, most: i64) -
 
 /// Moves energy along a chain back to its first zone.
 fn push_chain(borders: &[Border], flows: &mut [i64], hops: &[Hop], at: usize, most: i64)
-    // Flows that may be, and a chain that has so much room.
+    // Flows that may be, and a chain that has room for `most`.
     requires lengths { length flows.old ≡ length borders.now }
     requires at { at < length hops.now }
     requires most { pos 0 ≤ℤ most }

@@ -26,7 +26,7 @@ pub fn first_short(amounts: &[i64], from: usize) -> Option<usize>
     None
 }
 
-/// The quantity of an order that puts in so much.
+/// The quantity of an order of this side that puts in `amount` MW.
 fn quantity(side: Side, amount: i64) -> u32
     requires { CanPut side amount }
     ensures puts { amount ≡ put_in side result }
@@ -82,7 +82,7 @@ pub fn cut_zones(alloc: Global, side: CutSide, prices: &[i64]) -> Result<Vec<u32
     Ok(zones)
 }
 
-/// What so many MW of an order add to the welfare, in quarter-cents, in 64 bits.
+/// What `mw` MW of an order add to the welfare, in quarter-cents, in 64 bits.
 fn gain_of(order: &Order, mw: u32) -> i64
     requires price { IsPrice order.now.price.0 }
     requires small { mw ≤ MOST_MW }
@@ -93,7 +93,7 @@ fn gain_of(order: &Order, mw: u32) -> i64
     order.gain(mw) as i64
 }
 
-/// The quantities of orders that put in so much, and what they add to the welfare together, in quarter-cents.
+/// The quantities of orders that put in these amounts, and what they add to the welfare together, in quarter-cents.
 pub fn quantities(
     alloc: Global,
     orders: &[Order],

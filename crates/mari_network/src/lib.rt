@@ -15,8 +15,8 @@ mod search;
 mod slots;
 
 pub use chain::{Chain, Hop, has_room, improve};
-pub use margins::{Margin, margins_of, renew};
-pub use network::{Network, network_of};
+pub use margins::{Margin, margin_among, margins_of, renew};
+pub use network::{Network, Places, network_of, places_of};
 pub use optimum::{SolveFault, Solved, answer};
 pub use search::{Found, find_chain};
-pub use slots::{BEYOND, Slot, order_slots, stand_in};
+pub use slots::{BEYOND, Slot, order_slots, slot_from, stand_in};

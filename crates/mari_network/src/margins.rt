@@ -111,8 +111,8 @@ fn cheapest_with(slots: &[Slot], amounts: &[i64], best: Option<usize>, slot: usi
     cheaper(slots, best, slot)
 }
 
-/// The marginal slots of the slots at these places.
-fn margin_among(slots: &[Slot], amounts: &[i64], places: &[usize]) -> Margin
+/// The marginal slots of the slots at these places: of two that cost the same, the one whose place is listed first.
+pub fn margin_among(slots: &[Slot], amounts: &[i64], places: &[usize]) -> Margin
     requires lengths { length amounts.now ≡ length slots.now }
     requires there { (j : ℕ) → j < length places.now → place_at places.now j < length slots.now }
     ensures dearest { IsDearestAmong slots.now amounts.now places.now (length places.now) result.dearest }
@@ -131,7 +131,7 @@ fn margin_among(slots: &[Slot], amounts: &[i64], places: &[usize]) -> Margin
 fn margin_of(network: &Network, amounts: &[i64], zone: usize) -> Margin
     requires network { IsNetwork network.now }
     requires amounts { length amounts.now ≡ length network.now.slots.now }
-    requires zone { zone < length network.now.meeting.items }
+    requires zone { zone < length network.now.meeting.now }
     ensures { IsMarginOf network.now.slots.now amounts.now zone result }
 {
     margin_among(network.slots, amounts, members_at(network, zone))
@@ -175,7 +175,7 @@ fn dearest_after(
 ) -> Option<usize>
     requires network { IsNetwork network.now }
     requires amounts { length amounts.now ≡ length network.now.slots.now }
-    requires zone { zone < length network.now.meeting.items }
+    requires zone { zone < length network.now.meeting.now }
     requires sink { sink < length network.now.slots.now }
     requires source { source < length network.now.slots.now }
     requires before { (i : ℕ) → before ≡ Some i → i < length network.now.slots.now }
@@ -204,7 +204,7 @@ fn cheapest_after(
 ) -> Option<usize>
     requires network { IsNetwork network.now }
     requires amounts { length amounts.now ≡ length network.now.slots.now }
-    requires zone { zone < length network.now.meeting.items }
+    requires zone { zone < length network.now.meeting.now }
     requires sink { sink < length network.now.slots.now }
     requires source { source < length network.now.slots.now }
     requires before { (i : ℕ) → before ≡ Some i → i < length network.now.slots.now }
@@ -237,8 +237,8 @@ pub fn renew(
     requires source { source < length network.now.slots.now }
 
     // One of the zones, each of which has an entry that names slots.
-    requires zone { zone < length network.now.meeting.items }
-    requires long { length margins.old ≡ length network.now.meeting.items }
+    requires zone { zone < length network.now.meeting.now }
+    requires long { length margins.old ≡ length network.now.meeting.now }
     requires dearest { (i : ℕ) → dearest_at margins.old zone ≡ Some i → i < length network.now.slots.now }
     requires cheapest { (i : ℕ) → cheapest_at margins.old zone ≡ Some i → i < length network.now.slots.now }
 
@@ -263,7 +263,7 @@ pub fn margins_of(
 ) -> Result<Vec<Margin>, AllocError>
     requires network { IsNetwork network.now }
     requires amounts { length amounts.now ≡ length network.now.slots.now }
-    ensures { IfOk result (λ v. AreMargins network.now.slots.now amounts.now (length network.now.meeting.items) (length network.now.slots.now) v.items) }
+    ensures { IfOk result (λ v. AreMargins network.now.slots.now amounts.now (length network.now.meeting.now) (length network.now.slots.now) v.items) }
 {
     let mut margins = Vec::with_capacity(alloc, network.meeting.len())?;
     for zone in 0..network.meeting.len() {

@@ -4,7 +4,7 @@ ghost use Rattle.std.specs.Prelude.{◌≡◌, ◌≢◌, ◌<◌, ◌++◌, ◌
 ghost use Rattle.std.specs.List.{All, AllZip};
 ghost use Rattle.mari_market.specs.Market.{IsValid, IsBetween};
 ghost use Rattle.mari_network.specs.Fits.{IsNetworkSlot};
-ghost use Rattle.mari_network.specs.Network.{AreMeeting, AreMembers, IsNetwork};
+ghost use Rattle.mari_network.specs.Network.{AreMeeting, AreMembers, ArePlaces, IsNetwork};
 ghost use Rattle.mari_network.specs.Orders.{CanPut};
 ghost use Rattle.mari_network.specs.Solving.{IsNetworkOf};
 
@@ -20,12 +20,21 @@ pub struct Network<'a> {
     /// The market's borders.
     pub borders: &'a [Border],
     /// For each zone the places of its slots.
+    pub members: &'a [Vec<usize>],
+    /// For each zone the places of the borders that meet it.
+    pub meeting: &'a [Vec<usize>],
+}
+
+/// For each zone the places of its slots and borders, which a network lends.
+#[derive(Drop)]
+pub struct Places {
+    /// For each zone the places of its slots.
     pub members: Vec<Vec<usize>>,
     /// For each zone the places of the borders that meet it.
     pub meeting: Vec<Vec<usize>>,
 }
 
-/// As many empty lists, each with room for `room` places.
+/// An empty list for each zone, with room for `room` places.
 fn no_places(alloc: Global, zones: usize, room: usize) -> Result<Vec<Vec<usize>>, AllocError>
     ensures long { IfOk result (λ v. length v.items ≡ zones) }
     ensures none { IfOk result (λ v. (z : ℕ) (d : _) → z < zones → (slice_index_or v.items z d).items ≡ []) }
@@ -82,34 +91,44 @@ fn slots_by_zone(alloc: Global, slots: &[Slot], zones: usize) -> Result<Vec<Vec<
     Ok(members)
 }
 
-/// The network of a market's borders and of these slots, of which the first are those of its orders.
-pub fn network_of<'a>(
-    alloc: Global,
-    market: &'a Market,
-    slots: &'a [Slot],
-) -> Result<Network<'a>, AllocError>
+/// The places by zone of these slots and of a market's borders. They rest on the slots' zones alone.
+pub fn places_of(alloc: Global, market: &Market, slots: &[Slot]) -> Result<Places, AllocError>
     requires market { IsValid market.now }
     requires slots { All (IsNetworkSlot market.now.zones) slots.now }
-    requires sides { AllZip (λ o s. CanPut o.side s.low × CanPut o.side s.high) market.now.orders (take (length market.now.orders) slots.now) }
-    ensures network { IfOk result (λ n. IsNetwork n) }
-    ensures same { IfOk result (λ n. IsNetworkOf market.now n) }
-    ensures slots { IfOk result (λ n. n.slots.now ≡ slots.now) }
+    ensures { IfOk result (ArePlaces market.now.zones slots.now market.now.borders) }
 {
     let borders = market.borders.as_slice();
     let members = slots_by_zone(alloc, slots, market.zones as usize)?;
     let meeting = meeting_borders(alloc, borders, market.zones as usize)?;
-    Ok(Network {
+    Ok(Places { members, meeting })
+}
+
+/// The network of a market's borders and of these slots, of which the first are those of its orders, with the places
+/// of both.
+pub fn network_of<'a>(market: &'a Market, slots: &'a [Slot], places: &'a Places) -> Network<'a>
+    requires market { IsValid market.now }
+    requires slots { All (IsNetworkSlot market.now.zones) slots.now }
+    requires sides { AllZip (λ o s. CanPut o.side s.low × CanPut o.side s.high) market.now.orders (take (length market.now.orders) slots.now) }
+    requires places { ArePlaces market.now.zones slots.now market.now.borders places.now }
+    ensures network { IsNetwork result }
+    ensures same { IsNetworkOf market.now result }
+    ensures slots { result.slots.now ≡ slots.now }
+{
+    let borders = market.borders.as_slice();
+    let members = places.members.as_slice();
+    let meeting = places.meeting.as_slice();
+    Network {
         slots,
         borders,
         members,
         meeting,
-    })
+    }
 }
 
 /// The places of a zone's slots.
 pub fn members_at<'a>(network: &'a Network, zone: usize) -> &'a [usize]
     requires network { IsNetwork network.now }
-    requires zone { zone < length network.now.meeting.items }
+    requires zone { zone < length network.now.meeting.now }
     ensures { AreMembers network.now.slots.now (length network.now.slots.now) zone result.now }
 {
     network.members[zone].as_slice()
@@ -118,7 +137,7 @@ pub fn members_at<'a>(network: &'a Network, zone: usize) -> &'a [usize]
 /// The places of the borders that meet a zone.
 pub fn meeting_at<'a>(network: &'a Network, zone: u32) -> &'a [usize]
     requires network { IsNetwork network.now }
-    requires zone { zone < length network.now.meeting.items }
+    requires zone { zone < length network.now.meeting.now }
     ensures { AreMeeting network.now.borders.now zone result.now }
 {
     network.meeting[zone as usize].as_slice()

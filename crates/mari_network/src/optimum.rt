@@ -60,7 +60,8 @@ impl From<Memory> for SolveFault {
     }
 }
 
-/// The side of the cut where so much stands in: too much energy where it is taken away, too little where it is given.
+/// The side of the cut where a stand-in has this amount: too much energy where it is taken away, too little where it is
+/// given.
 fn side_of(amount: i64) -> CutSide
     ensures out { amount <ℤ pos 0 → result ≡ CutSide.Out }
     ensures into { pos 0 ≤ℤ amount → result ≡ CutSide.In }

@@ -125,9 +125,9 @@ fn look(
 ) -> Result<(), AllocError>
     // One of the hops that were found.
     requires network { IsNetwork network.now }
-    requires marks { length marked.old ≡ length network.now.meeting.items }
+    requires marks { length marked.old ≡ length network.now.meeting.now }
     requires at { at < length hops.old.items }
-    requires zone { (hop_at hops.old.items at).zone < length network.now.meeting.items }
+    requires zone { (hop_at hops.old.items at).zone < length network.now.meeting.now }
 
     // Flows that may be.
     requires flows { length flows.now ≡ length network.now.borders.now }
@@ -175,7 +175,7 @@ fn spread(
 ) -> Result<Vec<Hop>, AllocError>
     // A zone to begin from.
     requires network { IsNetwork network.now }
-    requires marks { length marked.old ≡ length network.now.meeting.items }
+    requires marks { length marked.old ≡ length network.now.meeting.now }
     requires start { start < length marked.old }
     requires fresh { is_marked marked.old start ≡ false }
 
@@ -247,12 +247,12 @@ fn chain_by_levels(
 ) -> Result<Option<Chain>, AllocError>
     // A network, what its slots and borders run at, and how far each slot may still go.
     requires network { IsNetwork network.now }
-    requires margins { AreMargins network.now.slots.now amounts.now (length network.now.meeting.items) (length network.now.slots.now) margins.now }
+    requires margins { AreMargins network.now.slots.now amounts.now (length network.now.meeting.now) (length network.now.slots.now) margins.now }
     requires runs { Runs network.now amounts.now flows.now }
 
     // A place for each zone, of which none is marked.
-    requires marks { length marked.old ≡ length network.now.meeting.items }
-    requires prices { length prices.old ≡ length network.now.meeting.items }
+    requires marks { length marked.old ≡ length network.now.meeting.now }
+    requires prices { length prices.old ≡ length network.now.meeting.now }
     requires fresh { (z : ℕ) → is_marked marked.old z ≡ false }
 
     // Prices that show that nothing improves, or a chain that does.
@@ -286,7 +286,7 @@ pub fn find_chain(
     margins: &[Margin],
 ) -> Result<Found, AllocError>
     requires network { IsNetwork network.now }
-    requires margins { AreMargins network.now.slots.now amounts.now (length network.now.meeting.items) (length network.now.slots.now) margins.now }
+    requires margins { AreMargins network.now.slots.now amounts.now (length network.now.meeting.now) (length network.now.slots.now) margins.now }
     requires runs { Runs network.now amounts.now flows.now }
     ensures { IfOk result (IsFound network.now amounts.now flows.now) }
 {

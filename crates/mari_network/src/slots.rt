@@ -19,7 +19,7 @@ use std::alloc::{AllocError, Global};
 pub const BEYOND: i64 = 20_000_000;
 
 /// What may put energy into a zone at a price, or take it out where the amount is negative.
-#[derive(Clone, Copy, Drop)]
+#[derive(Clone, Copy, Drop, PartialEq, Eq)]
 pub struct Slot {
     /// The place of the zone.
     pub zone: u32,
@@ -90,8 +90,8 @@ pub fn stand_in(zone: u32, short: i64) -> Slot
     }
 }
 
-/// What an order may put into its zone within bounds.
-fn slot_from(order: &Order, least: u32, greatest: u32) -> Slot
+/// What an order may put into its zone within bounds, in MW.
+pub fn slot_from(order: &Order, least: u32, greatest: u32) -> Slot
     ensures { (s : Span) → s.lo ≡ least → s.hi ≡ greatest → result ≡ slot_of s order.now }
 {
     match order.side {

@@ -3,24 +3,55 @@ use Rattle.std.proofs.Common.{◌≡◌, ◌≢◌, Bool, true, false, not, ℕ,
 use Rattle.std.proofs.lemmas.Int.{ints, clamps}
 use Rattle.std.proofs.lemmas.List.FromFn.{length-map-range_with_len}
 use Rattle.std.specs.Int.{int_max}
-use Rattle.std.specs.Prelude.{◌↔◌, ◌<◌, Option, IsTrue, MatchOption, is_some, Result, Ok, Err, IfOk}
+use Rattle.std.specs.Prelude.{◌↔◌, ◌<◌, Option, IsTrue, MatchOption, is_some, Result, Ok, Err, IfOk, IfErr}
 use Rattle.mari_market.specs.declared.market.Market.{Market}
+use Rattle.mari_market.specs.declared.market.Order.{Order}
 use Rattle.mari_market.specs.declared.market.GateInfo.{GateInfo}
 use Rattle.mari_market.specs.declared.prefix.Prefix.{Prefix}
 use Rattle.mari_market.specs.declared.activation.Activation.{Activation}
 use Rattle.mari_market.specs.Activation.{welfare_of}
+use Rattle.mari_market.specs.Bounds.{Span}
 use Rattle.mari_market.specs.Conflict.{IsConflict, IsContradictoryChain}
-use Rattle.mari_market.specs.Dual.{dual_value_of}
+use Rattle.mari_market.specs.Cut.{IsCut}
+use Rattle.mari_market.specs.Dual.{IsTight, dual_value_of}
 use Rattle.mari_market.specs.Finding.{IsAttained, IsRelaxedFinding}
 use Rattle.mari_market.specs.Market.{IsValid}
 use Rattle.mari_market.specs.Optimal.{IsAdmissible, IsFeasible}
 use Rattle.mari_market.specs.Prefix.{bit_of, bounds_of_word, word_of, IsFeasiblePrefix}
-use Rattle.mari_market.specs.Relaxation.{IsRelaxedWelfare}
+use Rattle.mari_market.specs.Price.{ArePrices}
+use Rattle.mari_market.specs.Relaxation.{IsRelaxed, IsRelaxedWelfare, IsWithinBounds}
 use Rattle.mari_market.proofs.Conflicts.{conflict_refutes, chain_refutes, price_in_cap}
 use Rattle.mari_market.proofs.Surplus.{welfare_at_least_0}
 use Rattle.mari_network.specs.declared.optimum.Solved.{Solved}
-use Rattle.mari_node.specs.Nodes.{best_found, bound_found, conflict_found, IsRelaxedOptimum, IsLastNode, IsInnerNode}
+use Rattle.mari_network.specs.declared.optimum.SolveFault.{SolveFault}
+use Rattle.mari_network.specs.Solving.{OfCut, IsAnswer}
+use Rattle.mari_node.specs.Nodes.{best_found, bound_found, conflict_found, left_by, optimum_in, IsRelaxedOptimum, IsLastNode, IsInnerNode}
 use Rattle.mari_node.proofs.Decided.{has_word, decided_feasible, decided_tight}
+
+-- what the solver answers, by what it ensures of each part
+pub answered : (spans : Order → Span) (m : Market) (solved : Result Solved SolveFault)
+    → IfOk solved (λ s. IsWithinBounds spans m s.activation) → IfOk solved (λ s. IsRelaxed spans m (welfare_of m s.activation))
+    → IfOk solved (λ s. dual_value_of spans m s.potentials.cents ≡ welfare_of m s.activation) → IfOk solved (λ s. IsTight spans m s.activation s.potentials.cents)
+    → IfOk solved (λ s. ArePrices m s.potentials.cents) → IfOk solved (λ s. pos s.welfare ≡ int_max (pos 0) (welfare_of m s.activation))
+    → IfErr solved (λ fault. OfCut fault (IsCut spans m)) → IsAnswer spans m solved
+answered spans m (Ok s) within relaxed dual tight potentials stated cut = record {
+  within = within;
+  relaxed = relaxed;
+  dual = dual;
+  tight = tight;
+  potentials = potentials;
+  stated = stated;
+}
+answered spans m (Err fault) within relaxed dual tight potentials stated cut = cut
+
+-- what is left to start with: the optimum where there is one, and else what there was
+pub left_there : (solved : Result Solved SolveFault) (optimum old : Option Activation) → optimum ≡ optimum_in solved → is_some optimum ≡ true → left_by solved old ≡ optimum
+left_there (Ok s) optimum old e some = sym e
+left_there (Err fault) optimum old e some = absurd (cc)
+
+pub left_as_it_was : (solved : Result Solved SolveFault) (optimum old : Option Activation) → optimum ≡ optimum_in solved → is_some optimum ≡ false → left_by solved old ≡ old
+left_as_it_was (Ok s) optimum old e none = absurd (cc)
+left_as_it_was (Err fault) optimum old e none = refl
 
 -- the greater of 0 and a number, the other way round
 greater_of_0 : (n : ℕ) (v w : ℤ) → pos n ≡ int_max (pos 0) w → v ≡ w → pos n ≡ int_max v (pos 0)

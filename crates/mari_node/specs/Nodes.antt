@@ -1,5 +1,5 @@
 -- A node of the search with the relaxed optimum that the solver gives.
-use Rattle.std.specs.Prelude.{◌≡◌, ◌<◌, Bool, true, ℕ, List, length, Option, Some, None, IsSomeAnd, is_some}
+use Rattle.std.specs.Prelude.{◌≡◌, ◌<◌, Bool, true, ℕ, List, length, Option, Some, None, IsSomeAnd, is_some, Result, Ok, Err}
 use Rattle.mari_market.specs.declared.market.Market.{Market}
 use Rattle.mari_market.specs.declared.activation.Activation.{Activation}
 use Rattle.mari_market.specs.declared.finding.Relaxed.{Relaxed}
@@ -10,6 +10,7 @@ use Rattle.mari_market.specs.Relaxation.{IsWithinBounds, IsRelaxedWelfare}
 use Rattle.mari_market.specs.declared.finding.Finding.{Finding}
 use Rattle.mari_market.specs.declared.finding.Finding.TheVariants.{Empty, Relaxed as RelaxedFinding}
 use Rattle.mari_network.specs.declared.optimum.Solved.{Solved}
+use Rattle.mari_network.specs.declared.optimum.SolveFault.{SolveFault}
 use Rattle.mari_network.specs.Solving.{NoneWithin, IsSolution}
 
 -- the solved optimum as the best activation of its node
@@ -59,3 +60,13 @@ pub record IsOptimumOf (m : Market) (word : List Bool) (r : Relaxed) (a : Activa
 abbrev pub IsLeft : Market → List Bool → Finding → (old new : Option Activation) → Type 0
 IsLeft m word (Empty cut) old new = new ≡ old
 IsLeft m word (RelaxedFinding r) old new = IsSomeAnd new (IsOptimumOf m word r)
+
+-- the optimum that the solver answers, if it does
+abbrev pub optimum_in : Result Solved SolveFault → Option Activation
+optimum_in (Ok s) = Some s.activation
+optimum_in (Err fault) = None
+
+-- what is left to start with by that answer
+abbrev pub left_by : Result Solved SolveFault → Option Activation → Option Activation
+left_by (Ok s) start = Some s.activation
+left_by (Err fault) start = start

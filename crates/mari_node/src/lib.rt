@@ -8,4 +8,4 @@ mod admissibility;
 mod gates;
 mod node;
 
-pub use node::{examine, examine_from};
+pub use node::{examine, examine_from, examine_warm};

@@ -1,3 +1,5 @@
+pub mod Bounded
+pub mod Changed
 pub mod Merits
 pub mod Shortages
 pub mod Starts

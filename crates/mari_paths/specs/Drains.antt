@@ -9,7 +9,7 @@ use Rattle.mari_network.specs.Slots.{price_of}
 use Rattle.mari_network.specs.Margins.{cheapest_at}
 use Rattle.mari_network.specs.Chain.{hop_at, IsTrace}
 
--- hops between so many zones
+-- hops between these zones
 pub record AreHops (zones : ℕ) (bs : List Border) (hops : List Hop) : Type 0 where
   pub trace : IsTrace bs hops
   pub some : 0 < length hops

@@ -1,3 +1,4 @@
 pub mod Starts
 pub mod Drains
 pub mod Merit
+pub mod Warm

@@ -1,11 +1,15 @@
 -- What stands in for what a start leaves out of balance.
-use Rattle.std.specs.Prelude.{◌≡◌, ℕ, ◌+◌, ◌<◌, ◌≤◌, ℤ, pos, ◌-ℤ◌, neg_ℤ, ◌≤ℤ◌, List, [], ◌∷◌, length}
+use Rattle.std.specs.Prelude.{◌≡◌, ℕ, ◌+◌, ◌<◌, ◌≤◌, ℤ, pos, ◌-ℤ◌, neg_ℤ, ◌≤ℤ◌, List, [], ◌∷◌, length, slice_index_or}
+use Rattle.std.specs.List.{All, AllZip}
 use Rattle.mari_market.specs.declared.market.Border.{Border}
+use Rattle.mari_market.specs.declared.market.Market.{Market}
+use Rattle.mari_market.specs.declared.market.Order.{Order}
 use Rattle.mari_market.specs.Sums.{sum_along, int_at}
 use Rattle.mari_market.specs.Activation.{carried_out}
 use Rattle.mari_network.specs.declared.slots.Slot.{Slot}
-use Rattle.mari_network.specs.Orders.{stand_in_of}
-use Rattle.mari_network.specs.Slots.{slot_into}
+use Rattle.mari_network.specs.Fits.{IsNetworkSlot}
+use Rattle.mari_network.specs.Orders.{no_order, stand_in_of, CanPut, IsOrderSlot}
+use Rattle.mari_network.specs.Slots.{slot_at, slot_into, IsWithinSlot}
 use Rattle.mari_units.specs.declared.limits.TheConstants.{MOST_FLOW}
 
 -- bounds of what a start puts in and moves, in MW, so that sums fit: above an order's quantity and a border's flow,
@@ -25,11 +29,16 @@ most_short = 700000000
 abbrev pub most_halfway : ℕ
 most_halfway = 700200000
 
+-- above what stands in for a zone after each order's slot changed once: `most_short`, and at most `most_moved` for each of
+-- `MOST_ORDERS`
+abbrev pub most_stood_in : ℕ
+most_stood_in = 2000000000
+
 -- the least of a slot is at most its greatest
 abbrev pub IsOrdered : Slot → Type 0
 IsOrdered s = s.low ≤ℤ s.high
 
--- within so much of 0
+-- at most `most` from 0
 pub record IsNear (most : ℕ) (x : ℤ) : Type 0 where
   pub low : neg_ℤ (pos most) ≤ℤ x
   pub high : x ≤ℤ pos most
@@ -47,3 +56,28 @@ stand_ins z (d ∷ ds) = stand_in_of z d ∷ stand_ins (z + 1) ds
 pub record AreShort (zones : ℕ) (slots : List Slot) (bs : List Border) (xs fs short : List ℤ) : Type 0 where
   pub long : length short ≡ zones
   pub each : (z : ℕ) → z < zones → int_at short z ≡ sum_along (carried_out z) bs fs -ℤ sum_along (slot_into z) slots xs
+
+abbrev pub order_at : Market → ℕ → Order
+order_at m k = slice_index_or m.orders k no_order
+
+-- a slot in which the order can run
+pub record FitsOrder (zones : ℕ) (o : Order) (s : Slot) : Type 0 where
+  pub fine : IsOrderSlot zones s
+  pub low : CanPut o.side s.low
+  pub high : CanPut o.side s.high
+
+-- slots of the orders, and then of what stands in for each zone, with amounts within them
+pub record AreFilled (m : Market) (slots : List Slot) (xs : List ℤ) : Type 0 where
+  pub long : length slots ≡ length m.orders + m.zones
+  pub network : All (IsNetworkSlot m.zones) slots
+  pub orders : (k : ℕ) → k < length m.orders → FitsOrder m.zones (order_at m k) (slot_at slots k)
+  pub stand_ins : (z : ℕ) → z < m.zones → slot_at slots (length m.orders + z) ≡ stand_in_of z (int_at xs (length m.orders + z))
+  pub within : AllZip IsWithinSlot slots xs
+
+-- what stands in for each zone puts in at most `most`, or takes that
+abbrev pub StandInsNear : ℕ → Market → List ℤ → Type 0
+StandInsNear most m xs = (z : ℕ) → z < m.zones → IsNear most (int_at xs (length m.orders + z))
+
+-- each zone puts in what its borders carry out
+abbrev pub AreEven : Market → List Slot → (amounts flows : List ℤ) → Type 0
+AreEven m slots xs fs = (z : ℕ) → z < m.zones → sum_along (slot_into z) slots xs ≡ sum_along (carried_out z) m.borders fs

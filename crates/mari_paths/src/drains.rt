@@ -87,8 +87,8 @@ fn go_on(
 ) -> bool
     requires network { IsNetwork network.now }
     requires runs { Runs network.now amounts.now flows.now }
-    requires margins { AreMargins network.now.slots.now amounts.now (length network.now.meeting.items) (length network.now.slots.now) margins.now }
-    requires hops { AreHops (length network.now.meeting.items) network.now.borders.now chain.old.hops.items }
+    requires margins { AreMargins network.now.slots.now amounts.now (length network.now.meeting.now) (length network.now.slots.now) margins.now }
+    requires hops { AreHops (length network.now.meeting.now) network.now.borders.now chain.old.hops.items }
     ensures hops { chain.new.hops ≡ chain.old.hops }
     ensures improving { result ≡ true → IsImproving network.now amounts.now flows.now chain.new }
 {
@@ -116,12 +116,12 @@ fn push_along(
     // What the caller knows of what runs, and of the chain.
     requires network { IsNetwork network.now }
     requires runs { Runs network.now amounts.old flows.old }
-    requires margins { AreMargins network.now.slots.now amounts.old (length network.now.meeting.items) (length network.now.slots.now) margins.old }
+    requires margins { AreMargins network.now.slots.now amounts.old (length network.now.meeting.now) (length network.now.slots.now) margins.old }
     requires chain { IsImproving network.now amounts.old flows.old chain.now }
 
     // The same of what runs then, and that it is better.
     ensures runs { Runs network.now amounts.new flows.new }
-    ensures margins { AreMargins network.now.slots.now amounts.new (length network.now.meeting.items) (length network.now.slots.now) margins.new }
+    ensures margins { AreMargins network.now.slots.now amounts.new (length network.now.meeting.now) (length network.now.slots.now) margins.new }
     ensures rises { sum_along slot_gain network.now.slots.now amounts.old <ℤ sum_along slot_gain network.now.slots.now amounts.new }
 {
     improve(network, amounts, flows, chain);
@@ -146,12 +146,12 @@ pub fn drain(
     // What the caller knows of what runs, and of the first chain.
     requires network { IsNetwork network.now }
     requires runs { Runs network.now amounts.old flows.old }
-    requires margins { AreMargins network.now.slots.now amounts.old (length network.now.meeting.items) (length network.now.slots.now) margins.old }
+    requires margins { AreMargins network.now.slots.now amounts.old (length network.now.meeting.now) (length network.now.slots.now) margins.old }
     requires chain { IsImproving network.now amounts.old flows.old chain.old }
 
     // The same of what runs then, and that it is better.
     ensures runs { Runs network.now amounts.new flows.new }
-    ensures margins { AreMargins network.now.slots.now amounts.new (length network.now.meeting.items) (length network.now.slots.now) margins.new }
+    ensures margins { AreMargins network.now.slots.now amounts.new (length network.now.meeting.now) (length network.now.slots.now) margins.new }
     ensures rises { sum_along slot_gain network.now.slots.now amounts.old <ℤ sum_along slot_gain network.now.slots.now amounts.new }
 {
     let price = network.slots[chain.sink].price;

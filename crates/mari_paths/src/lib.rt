@@ -3,14 +3,18 @@
 //! It stands on networks of slots and borders: what a search finds is pushed along as long as its hops have room, and
 //! of the margins only those of the two ends are looked at again. `solve_from` carries the promise: an activation
 //! whose welfare is both the relaxed welfare of the prefix and the dual value of its potentials, or a cut that no
-//! activation can balance, whatever the start is.
+//! activation can balance, whatever the start is. `WarmStart` promises the same for all prefixes of a search, each from
+//! one start.
 #![tactic(auto)]
 
+mod changes;
 mod drains;
 mod merit;
 mod optimum;
 mod run;
 mod start;
+mod warm;
 
 pub use mari_network::{SolveFault, Solved};
 pub use optimum::solve_from;
+pub use warm::WarmStart;

@@ -15,14 +15,45 @@ ghost use Rattle.mari_market.specs.Relaxation.{IsWithinBounds, IsRelaxedWelfare}
 ghost use Rattle.mari_network.specs.declared.slots.Slot.{Slot};
 ghost use Rattle.mari_network.specs.Fits.{IsNetworkSlot};
 ghost use Rattle.mari_network.specs.Orders.{slots_of, CanPut, AreOrderSlots};
+ghost use Rattle.mari_network.specs.Margins.{AreMargins};
+ghost use Rattle.mari_network.specs.Network.{IsNetwork, Runs};
 ghost use Rattle.mari_network.specs.Slots.{IsRunning};
-ghost use Rattle.mari_network.specs.Solving.{NoneWithin, OfCut, IsAnswer, AreSlotsOf};
+ghost use Rattle.mari_network.specs.Solving.{NoneWithin, OfCut, IsAnswer, IsNetworkOf, AreSlotsOf};
 
 use crate::run::run;
-use crate::start::{add_stand_ins, first_run, shortages};
+use crate::start::start_from;
 use mari_market::{Activation, Market, Prefix};
-use mari_network::{Slot, SolveFault, Solved, answer, margins_of, network_of, order_slots};
+use mari_network::{
+    Margin, Network, Slot, SolveFault, Solved, answer, margins_of, network_of, order_slots,
+    places_of,
+};
 use std::alloc::Global;
+
+/// The relaxed optimum of a market from what runs in a network of it, or a cut.
+pub fn solve_network(
+    alloc: Global,
+    market: &Market,
+    network: &Network,
+    amounts: &mut [i64],
+    flows: &mut [i64],
+    margins: &mut [Margin],
+) -> Result<Solved, SolveFault>
+    // The network is the market's.
+    requires market { IsValid market.now }
+    requires network { IsNetwork network.now }
+    requires same { IsNetworkOf market.now network.now }
+
+    // What runs in it, with its margins.
+    requires runs { Runs network.now amounts.old flows.old }
+    requires margins { AreMargins network.now.slots.now amounts.old (length network.now.meeting.now) (length network.now.slots.now) margins.old }
+    requires long { length market.now.orders ≤ length amounts.old }
+
+    // The answer, by whatever bounds the slots were made.
+    ensures { (spans : Order → Span) (more : List Slot) → AreSlotsOf spans market.now more network.now.slots.now → IsAnswer spans market.now result }
+{
+    let prices = run(alloc, network, amounts, flows, margins)?;
+    answer(alloc, market, network, amounts, flows, &prices)
+}
 
 /// The relaxed optimum of a market whose orders may run within these slots, from amounts and flows that balance with
 /// what stands in; or a cut.
@@ -40,10 +71,10 @@ fn solve_slots(
     requires long { length market.now.orders ≤ length amounts.old }
     ensures { (spans : Order → Span) (more : List Slot) → AreSlotsOf spans market.now more slots.now → IsAnswer spans market.now result }
 {
-    let network = network_of(alloc, market, slots)?;
+    let places = places_of(alloc, market, slots)?;
+    let network = network_of(market, slots, &places);
     let mut margins = margins_of(alloc, &network, amounts)?;
-    let prices = run(alloc, &network, amounts, flows, &mut margins)?;
-    answer(alloc, market, &network, amounts, flows, &prices)
+    solve_network(alloc, market, &network, amounts, flows, &mut margins)
 }
 
 /// The relaxed optimum of a market whose orders may run within these slots, from an activation to start with; or a
@@ -58,11 +89,14 @@ fn solve_reals(
     requires reals { AreOrderSlots market.now.zones market.now.orders reals.items }
     ensures { (spans : Order → Span) → reals.items ≡ slots_of spans market.now.orders → IsAnswer spans market.now result }
 {
-    let mut slots = reals;
-    let (mut amounts, mut flows) = first_run(alloc, market, &slots, start)?;
-    let short = shortages(alloc, market, &slots, &amounts, &flows)?;
-    add_stand_ins(&mut slots, &mut amounts, &short)?;
-    solve_slots(alloc, market, &slots, &mut amounts, &mut flows)
+    let mut begun = start_from(alloc, market, reals, start)?;
+    solve_slots(
+        alloc,
+        market,
+        &begun.slots,
+        &mut begun.amounts,
+        &mut begun.flows,
+    )
 }
 
 /// The relaxed optimum of a prefix, from an activation to start with: for every start, an activation within the

@@ -19,7 +19,7 @@ pub fn run(
 ) -> Result<Vec<i64>, AllocError>
     requires network { IsNetwork network.now }
     requires runs { Runs network.now amounts.old flows.old }
-    requires margins { AreMargins network.now.slots.now amounts.old (length network.now.meeting.items) (length network.now.slots.now) margins.old }
+    requires margins { AreMargins network.now.slots.now amounts.old (length network.now.meeting.now) (length network.now.slots.now) margins.old }
     ensures runs { Runs network.now amounts.new flows.new }
     ensures tight { IfOk result (λ prices. AreTightPrices network.now amounts.new flows.new prices.items) }
 {

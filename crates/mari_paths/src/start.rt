@@ -1,14 +1,14 @@
 //! What a search starts from: the quantities and flows of an activation, set right, or what runs at one price; and what
 //! stands in for what they leave out of balance.
 
-ghost use Rattle.std.specs.Prelude.{◌≡◌, ◌<◌, ◌≤◌, ℕ, pos, neg_ℤ, ◌+ℤ◌, ◌-ℤ◌, ◌++◌, length, slice_set, IfOk, OnOk};
+ghost use Rattle.std.specs.Prelude.{◌≡◌, ◌<◌, ◌≤◌, ℕ, pos, neg_ℤ, ◌+ℤ◌, ◌-ℤ◌, ◌++◌, length, slice_set, take, IfOk, OnOk};
 ghost use Rattle.std.specs.List.{All, AllZip};
 ghost use Rattle.mari_market.specs.Sums.{sum_along, int_at};
-ghost use Rattle.mari_market.specs.Activation.{IsWithinLimits, carried_out};
+ghost use Rattle.mari_market.specs.Activation.{IsWithinLimits, carried_out, put_in};
 ghost use Rattle.mari_market.specs.Market.{IsValid, IsBetween};
 ghost use Rattle.mari_network.specs.Orders.{IsOrderSlot, AreOrderSlots};
 ghost use Rattle.mari_network.specs.Slots.{slot_into, IsSmallSlot, IsWithinSlot};
-ghost use Rattle.mari_paths.specs.Starts.{most_halfway, most_moved, most_put_in, most_short, stand_ins, IsOrdered, IsNear, AreSmallLimits, AreShort};
+ghost use Rattle.mari_paths.specs.Starts.{most_halfway, most_moved, most_put_in, most_short, stand_ins, IsOrdered, IsNear, AreEven, AreFilled, AreSmallLimits, AreShort, StandInsNear};
 
 use crate::merit::{amounts_at, balancing_price};
 use mari_market::{Activation, Border, MOST_ORDERS, Market, Order, Side};
@@ -17,7 +17,7 @@ use mari_units::{MOST_BORDERS, MOST_ZONES};
 use std::alloc::{AllocError, Global};
 
 /// The amount that a slot may put in which is nearest to this one.
-fn nearest_within(slot: Slot, amount: i64) -> i64
+pub fn nearest_within(slot: Slot, amount: i64) -> i64
     requires order { IsOrdered slot }
     requires small { IsSmallSlot slot }
     ensures { IsWithinSlot slot result }
@@ -26,7 +26,9 @@ fn nearest_within(slot: Slot, amount: i64) -> i64
 }
 
 /// What an order of this side puts in at a quantity, in MW.
-fn put(side: Side, mw: u32) -> i64 {
+fn put(side: Side, mw: u32) -> i64
+    ensures { result ≡ put_in side mw }
+{
     match side {
         Side::Inject => i64::from(mw),
         Side::Withdraw => -i64::from(mw),
@@ -145,7 +147,7 @@ fn take_amounts(short: &mut [i64], slots: &[Slot], amounts: &[i64])
     requires within { AllZip IsWithinSlot slots.now amounts.now }
     requires none { (z : ℕ) → int_at short.old z ≡ pos 0 }
 
-    // So much each zone is short then, and flows can still be added.
+    // What each zone is short of then, and that flows can still be added.
     ensures long { length short.new ≡ length short.old }
     ensures near { (z : ℕ) → IsNear most_put_in (int_at short.new z) }
     ensures each { (z : ℕ) → int_at short.new z ≡ neg_ℤ (sum_along (slot_into z) slots.now amounts.now) }
@@ -166,7 +168,7 @@ fn add_flows(short: &mut [i64], borders: &[Border], flows: &[i64])
     // What the slots left.
     requires near { (z : ℕ) → IsNear most_put_in (int_at short.old z) }
 
-    // So much each zone is short then, and no number runs over.
+    // What each zone is short of then, and that no number runs over.
     ensures long { length short.new ≡ length short.old }
     ensures near { (z : ℕ) → IsNear most_short (int_at short.new z) }
     ensures each { (z : ℕ) → int_at short.new z ≡ int_at short.old z +ℤ sum_along (carried_out z) borders.now flows.now }
@@ -212,4 +214,45 @@ pub fn add_stand_ins(
         amounts.push(*amount)?;
     }
     Ok(())
+}
+
+/// The slots of a market's orders and of what stands in for each zone, and what runs in them, in balance.
+#[derive(Drop)]
+pub struct Start {
+    /// The orders' slots, and then those that stand in.
+    pub slots: Vec<Slot>,
+    /// What each slot puts in, in MW.
+    pub amounts: Vec<i64>,
+    /// What flows over each border, in MW.
+    pub flows: Vec<i64>,
+}
+
+/// What runs where the orders may run within these slots, as near to an activation as may be, if one is given.
+pub fn start_from(
+    alloc: Global,
+    market: &Market,
+    reals: Vec<Slot>,
+    activation: Option<&Activation>,
+) -> Result<Start, AllocError>
+    requires market { IsValid market.now }
+    requires reals { AreOrderSlots market.now.zones market.now.orders reals.items }
+
+    // The slots, with amounts within them.
+    ensures filled { IfOk result (λ s. AreFilled market.now s.slots.items s.amounts.items) }
+    ensures reals { IfOk result (λ s. take (length market.now.orders) s.slots.items ≡ reals.items) }
+    ensures near { IfOk result (λ s. StandInsNear most_short market.now s.amounts.items) }
+
+    // The flows, with which they are in balance.
+    ensures limits { IfOk result (λ s. AllZip IsWithinLimits market.now.borders s.flows.items) }
+    ensures even { IfOk result (λ s. AreEven market.now s.slots.items s.amounts.items s.flows.items) }
+{
+    let mut slots = reals;
+    let (mut amounts, flows) = first_run(alloc, market, &slots, activation)?;
+    let short = shortages(alloc, market, &slots, &amounts, &flows)?;
+    add_stand_ins(&mut slots, &mut amounts, &short)?;
+    Ok(Start {
+        slots,
+        amounts,
+        flows,
+    })
 }

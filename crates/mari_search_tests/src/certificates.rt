@@ -12,11 +12,13 @@ use mari_units::{Cents, Items, Quarters};
 use std::alloc::{AllocError, Global};
 use std::test::Fail;
 
-/// A certificate: a potential of the one zone; a cut of it; or the chain of a conflict at the price 10.00, which the
-/// indivisible bid and 30 MW of the other make.
+/// A certificate.
 enum LeafRow {
+    /// A potential of the one zone, in cents per MWh.
     Bound(i64),
+    /// A cut of the one zone, by its side.
     Cut(CutSide),
+    /// The chain of a conflict at the price 10.00, which the indivisible bid and 30 MW of the other make.
     Conflict(&'static [u32]),
 }
 
@@ -198,7 +200,7 @@ const TWO_EQUAL: MarketRow = MarketRow {
     gates: &[(None, None), (None, None)],
 };
 
-/// A market, a tree of certificates and branches, a cutoff, the word of so many gates that has these bits, and the
+/// A market, a tree of certificates and branches, a cutoff, the word of `gates` gates with these `bits`, and the
 /// verdict on the tree for that word.
 struct TreeCase {
     name: &'static str,

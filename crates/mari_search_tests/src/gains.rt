@@ -15,7 +15,7 @@ use mari_node::examine;
 use std::alloc::Global;
 use std::test::Fail;
 
-/// A market with one border, the gate word of so many gates that has these bits, which of the border's limits is raised
+/// A market with one border, the gate word of `length` gates with these `bits`, which of the border's limits is raised
 /// and by how many MW, and the word's welfare before and after, in quarter-cents.
 struct Case {
     name: &'static str,

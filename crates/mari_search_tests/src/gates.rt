@@ -35,8 +35,8 @@ const FAMILY: MarketRow = MarketRow {
     gates: &[(None, None), (None, Some(0))],
 };
 
-/// A market, the prefix of so many gates that has this word of bits, and the bounds of one order there, or none where
-/// the prefix is not feasible.
+/// A market, the prefix of `length` gates with the word `bits`, and the bounds of one order there, or none where the
+/// prefix is not feasible.
 struct Case {
     name: &'static str,
     market: MarketRow,

@@ -11,12 +11,15 @@ use std::test::Fail;
 /// The zones, borders, orders and gates of an island, by their numbers.
 type IslandRow = [Few; 4];
 
-/// A market: how many zones there are; the ends of each border with its limits there and back; its orders; and the
-/// group and the parent of each gate.
+/// A market.
 pub(crate) struct NetworkRow {
+    /// How many zones there are.
     pub zones: u32,
+    /// The ends of each border, with its limits there and back, in MW.
     pub borders: &'static [(u32, u32, u32, u32)],
+    /// The orders.
     pub orders: &'static [OrderRow],
+    /// The group and the parent of each gate.
     pub gates: &'static [(Option<u32>, Option<u32>)],
 }
 

@@ -46,4 +46,6 @@ mod tickets;
 #[cfg(test)]
 mod ties;
 #[cfg(test)]
+mod walks;
+#[cfg(test)]
 mod welfare;

@@ -81,7 +81,7 @@ fn made_of_oversized<R: Wait>(rt: &R, alloc: Global, welfare: u64) -> Result<Rep
     reported
 }
 
-// 30 MW of demand at 99,999.00, less as much at 30.00, bounds the root by 299,907,000 quarter-cents.
+// 30 MW of demand at 99,999.00, less 30 MW at 30.00, bounds the root by 299,907,000 quarter-cents.
 #[test]
 fn a_worker_closes_its_node_at_what_another_offered(rt: HostRuntime) -> Result<(), Fail> {
     let at_the_bound = made_of_oversized(&rt, rt.alloc(), 299_907_000)?;

@@ -6,7 +6,8 @@ use crate::small::{
 };
 use mari_gates::prefix_feasible;
 use mari_market::{Activation, CutSide, Finding, Market, Prefix, Relaxed};
-use mari_node::{examine, examine_from};
+use mari_node::{examine, examine_from, examine_warm};
+use mari_paths::WarmStart;
 use std::alloc::Global;
 use std::test::Fail;
 
@@ -14,7 +15,7 @@ use std::test::Fail;
 /// a conflict; or the side of a cut of the one zone.
 type Reported = Result<(u64, Option<u64>, bool), Option<CutSide>>;
 
-/// A market, the prefix of so many gates that has this word of bits, and what is reported there.
+/// A market, the prefix of `length` gates with the word `bits`, and what is reported there.
 struct Case {
     name: &'static str,
     market: MarketRow,
@@ -111,19 +112,27 @@ fn reported(finding: &Finding) -> Reported {
     }
 }
 
-/// What is reported of a prefix.
-fn reported_at(alloc: Global, market: &Market, prefix: Prefix) -> Result<Reported, Fail> {
+/// What is reported once of a finding.
+fn reported_once(finding: Finding) -> Reported {
+    let reported = reported(&finding);
+    drop(finding);
+    reported
+}
+
+/// What is reported of a prefix, without a start and from a warm one.
+fn reported_at(alloc: Global, market: &Market, prefix: Prefix) -> Result<[Reported; 2], Fail> {
     if !(market.valid() && prefix_feasible(market, &prefix)) {
         return Err("the market is valid, and the prefix is feasible in it".into());
     }
-    let finding = examine(alloc, market, &prefix)?;
-    let reported = reported(&finding);
-    drop(finding);
-    Ok(reported)
+    let warm = WarmStart::of(alloc, market, None)?;
+    Ok([
+        reported_once(examine(alloc, market, &prefix)?),
+        reported_once(examine_warm(alloc, market, &prefix, &warm)?),
+    ])
 }
 
 /// What is reported of a case.
-fn reported_in(alloc: Global, case: &Case) -> Result<Reported, Fail> {
+fn reported_in(alloc: Global, case: &Case) -> Result<[Reported; 2], Fail> {
     let market = market_of(alloc, &case.market)?;
     let reported = reported_at(alloc, &market, prefix(case.length, case.bits));
     drop(market);
@@ -137,7 +146,7 @@ fn findings_at_nodes(rt: HostRuntime) -> Result<(), Fail> {
             &rt,
             case.name,
             reported_in(rt.alloc(), case)?,
-            case.reported,
+            [case.reported; 2],
         );
     }
     Ok(())

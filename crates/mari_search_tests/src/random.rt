@@ -10,9 +10,8 @@ use mari_market::{
     Activation, Border, Cleared, Clearing, Finding, GateInfo, Leaf, Market, Order, Prefix, Side,
     TreeItem,
 };
-use mari_node::examine_from;
 use mari_units::{Cents, Items, Memory};
-use mari_workers::Turnstile;
+use mari_workers::{Root, Turnstile};
 use std::alloc::{AllocError, Global};
 use std::sync::Wait;
 use std::sync::atomic::{AtomicU64, Ordering};
@@ -22,13 +21,13 @@ use std::thread::Threads;
 
 /// Numbers that follow from a seed: each is the one before, shifted and added to itself bit by bit three times.
 #[derive(Drop)]
-struct Dice {
-    state: u64,
+pub(crate) struct Dice {
+    pub state: u64,
 }
 
 impl Dice {
     /// A number below this one.
-    fn below(&mut self, count: u32) -> u32
+    pub fn below(&mut self, count: u32) -> u32
         requires { 1 ≤ count }
         ensures { result < count }
     {
@@ -43,6 +42,15 @@ impl Dice {
         Cents(100 + 100 * i64::from(self.below(8)))
     }
 
+    /// A side, of four three times the one that gives energy.
+    fn side(&mut self) -> Side {
+        if self.below(4) == 0 {
+            Side::Withdraw
+        } else {
+            Side::Inject
+        }
+    }
+
     /// A bid of a gate.
     fn gated(&mut self, zones: u32, gate: u32) -> Order
         requires { 1 ≤ zones }
@@ -50,7 +58,7 @@ impl Dice {
         let least = 1 + self.below(20);
         Order {
             zone: self.below(zones),
-            side: Side::Inject,
+            side: self.side(),
             price: self.price(),
             least,
             greatest: least + self.below(15),
@@ -96,7 +104,7 @@ impl Dice {
     }
 
     /// A market of 1 to 3 zones in a row and 2 to 6 gates.
-    fn market(&mut self, alloc: Global) -> Result<Market, AllocError> {
+    pub fn market(&mut self, alloc: Global) -> Result<Market, AllocError> {
         let zones = 1 + self.below(3);
         let mut orders = Vec::new(alloc);
         let mut gates = Vec::new(alloc);
@@ -136,20 +144,20 @@ impl Turnstile for Yielding {
         _worker: u32,
         market: &Market,
         prefix: &Prefix,
-        start: &mut Option<Activation>,
+        root: &Root,
     ) -> Result<Finding, Memory> {
         let count = self.count.fetch_add(1, Ordering::SeqCst);
         for _ in 0..count.wrapping_mul(0x9E37_79B9_7F4A_7C15) >> 60 {
             thread::yield_now();
         }
-        examine_from(alloc, market, prefix, start)
+        root.examine(alloc, market, prefix)
     }
 }
 
 /// A sum by which clearings are distinguished: each number is mixed into those before it.
 #[derive(Drop)]
-struct Sum {
-    state: u64,
+pub(crate) struct Sum {
+    pub state: u64,
 }
 
 impl Sum {
@@ -163,7 +171,7 @@ impl Sum {
         self.add(number.unsigned_abs());
     }
 
-    fn add_prices(&mut self, prices: &[Cents]) {
+    pub fn add_prices(&mut self, prices: &[Cents]) {
         for price in prices {
             self.add_signed(price.0);
         }
@@ -175,7 +183,7 @@ impl Sum {
         }
     }
 
-    fn add_activation(&mut self, activation: &Activation) {
+    pub fn add_activation(&mut self, activation: &Activation) {
         self.add_numbers(activation.mw.as_slice());
         for flow in activation.flow.as_slice() {
             self.add_signed(*flow);
@@ -234,7 +242,7 @@ fn reported_once(market: &Market, cleared: Cleared) -> Reported {
     reported
 }
 
-/// What is reported of so many workers.
+/// What is reported where `workers` workers search.
 fn reported_by<R: Threads + Wait + Sync>(
     rt: &R,
     alloc: Global,

@@ -6,31 +6,31 @@ ghost use Rattle.mari_market.specs.Market.{IsValid};
 ghost use Rattle.mari_market.specs.Relaxation.{IsClosedWelfare};
 
 use crate::same::same;
-use crate::small::{DOWN, MarketRow, UP, activation_of, market_of, opened};
+use crate::small::{DOWN, MarketRow, UP, market_of, opened};
 use mari_incumbent::{Incumbent, Seat};
-use mari_market::{Activation, Attained, Finding, Market, Prefix};
-use mari_node::examine_from;
+use mari_market::{Attained, Finding, Market, Prefix};
 use mari_pool::{Pool, SearchName, Took};
 use mari_units::Memory;
-use mari_workers::{Turnstile, first_of, work};
+use mari_workers::{Root, Turnstile, first_of, work};
 use std::alloc::Global;
 use std::marker::Brand;
 use std::sync::{Condvar, Mutex, Wait};
 use std::test::Fail;
 
 /// Six bids, of which the second to the fourth are of one group, the fifth stands below the second and the sixth below
-/// the third; a dearer bid, and a demand that is too large for the bids that may run together.
+/// the third; a dearer bid, and a demand that is too large for the bids that may run together. The relaxed optimum of
+/// the root is one: each of the six runs whole but the second, which runs 5 MW and so less than its least.
 const SIX_GATES: MarketRow = MarketRow {
     limits: &[],
     orders: &[
-        (0, UP, 10, 20, 3000, Some(0)),
-        (0, UP, 6, 20, 3000, Some(1)),
-        (0, UP, 6, 20, 3000, Some(2)),
-        (0, UP, 8, 20, 3000, Some(3)),
-        (0, UP, 1, 20, 3000, Some(4)),
-        (0, UP, 1, 20, 3000, Some(5)),
+        (0, UP, 10, 10, 3000, Some(0)),
+        (0, UP, 6, 20, 4000, Some(1)),
+        (0, UP, 6, 6, 3000, Some(2)),
+        (0, UP, 8, 8, 3000, Some(3)),
+        (0, UP, 1, 9, 3000, Some(4)),
+        (0, UP, 1, 1, 3000, Some(5)),
         (0, UP, 0, 100, 5000, None),
-        (0, DOWN, 0, 100, 9_999_900, None),
+        (0, DOWN, 0, 39, 9_999_900, None),
     ],
     gates: &[
         (None, None),
@@ -42,11 +42,7 @@ const SIX_GATES: MarketRow = MarketRow {
     ],
 };
 
-/// What the six bids run in the optimum that is rounded: the second less than its least, and each other one its least
-/// or more.
-const RUNS: &[u32] = &[10, 5, 6, 8, 9, 1];
-
-/// Leaves that optimum where the root is examined, and finds no memory for any other node.
+/// Examines the root, and finds no memory for any other node.
 #[derive(Clone, Copy, Debug)]
 struct RootAlone;
 
@@ -57,15 +53,12 @@ impl Turnstile for RootAlone {
         _worker: u32,
         market: &Market,
         prefix: &Prefix,
-        start: &mut Option<Activation>,
+        root: &Root,
     ) -> Result<Finding, Memory> {
         if prefix.length > 0 {
             return Err(Memory);
         }
-        let runs = activation_of(alloc, RUNS, &[])?;
-        let found = examine_from(alloc, market, prefix, start);
-        *start = Some(runs);
-        found
+        root.examine(alloc, market, prefix)
     }
 }
 
@@ -136,11 +129,11 @@ fn rounded<R: Wait>(rt: &R, alloc: Global) -> Result<Reported, Fail> {
     reported
 }
 
-// 100 MW of demand at 99,999.00, less 60 MW of the three bids at 30.00 and 40 MW at 50.00, is the welfare.
+// 39 MW of demand at 99,999.00, less 17 MW of the three bids at 30.00 and 22 MW at 50.00, is the welfare.
 #[test]
 fn what_runs_its_least_is_opened_as_far_as_it_may_be(rt: HostRuntime) -> Result<(), Fail> {
     let (offered, next) = rounded(&rt, rt.alloc())?;
-    same(&rt, offered, Some((0b10_0101, 999_610_000)));
+    same(&rt, offered, Some((0b10_0101, 389_835_100)));
     same(&rt, next, Some(1));
     Ok(())
 }

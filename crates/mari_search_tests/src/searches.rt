@@ -5,11 +5,9 @@ ghost use Rattle.mari_market.specs.Market.{IsValid};
 
 use crate::same::{same, same_in};
 use crate::small::{DOWN, Few, MarketRow, OVERSIZED, PARADOX, UP, few, market_of};
-use mari_market::{
-    Activation, Cleared, Clearer, Finding, Leaf, Market, PartItem, Prefix, TreeItem,
-};
+use mari_market::{Cleared, Clearer, Finding, Leaf, Market, PartItem, Prefix, TreeItem};
 use mari_units::Memory;
-use mari_workers::{Alone, Crew, FreeTurnstile, Turnstile, search, search_alone};
+use mari_workers::{Alone, Crew, FreeTurnstile, Root, Turnstile, search, search_alone};
 use std::alloc::Global;
 use std::sync::Wait;
 use std::test::Fail;
@@ -119,7 +117,7 @@ pub(crate) fn alone(alloc: Global, market: &Market, budget: u32) -> Result<Clear
     }
 }
 
-/// What so many workers come to.
+/// What `workers` workers come to.
 pub(crate) fn by_crew<G: Turnstile, R: Threads + Wait + Sync>(
     rt: &R,
     alloc: Global,
@@ -209,7 +207,7 @@ impl Turnstile for Starved {
         _worker: u32,
         _market: &Market,
         _prefix: &Prefix,
-        _start: &mut Option<Activation>,
+        _root: &Root,
     ) -> Result<Finding, Memory> {
         Err(Memory)
     }

@@ -13,11 +13,13 @@ pub(crate) const DOWN: Side = Side::Withdraw;
 /// An order: its zone, side, least, greatest, price and gate.
 pub(crate) type OrderRow = (u32, Side, u32, u32, i64, Option<u32>);
 
-/// A market with the reference 40.00: the limits there and back of the border between its two zones, or none where it
-/// has one zone; its orders; and the group and the parent of each gate.
+/// A market with the reference 40.00.
 pub(crate) struct MarketRow {
+    /// The limits there and back of the border between its two zones, in MW, or none where it has one zone.
     pub limits: &'static [(u32, u32)],
+    /// The orders.
     pub orders: &'static [OrderRow],
+    /// The group and the parent of each gate.
     pub gates: &'static [(Option<u32>, Option<u32>)],
 }
 
@@ -108,7 +110,7 @@ pub(crate) fn market_of(alloc: Global, row: &MarketRow) -> Result<Market, AllocE
     })
 }
 
-/// The activation that runs and carries so much.
+/// The activation that runs `mw` MW and carries `flow` MW.
 pub(crate) fn activation_of(
     alloc: Global,
     mw: &[u32],
@@ -128,7 +130,7 @@ pub(crate) fn prices_of(alloc: Global, cents: &[i64]) -> Result<Prices, AllocErr
     })
 }
 
-/// The prefix of so many gates that has this word of bits.
+/// The prefix of `length` gates with the word `bits`.
 pub(crate) fn prefix(length: u32, bits: u64) -> Prefix {
     Prefix {
         length,

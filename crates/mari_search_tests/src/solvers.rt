@@ -1,4 +1,4 @@
-//! Relaxed optima of small markets by both solvers, and a cut where there is none.
+//! Relaxed optima of small markets by both solvers, the fast one from a warm start too, and a cut where there is none.
 
 use crate::same::{same, same_in};
 use crate::small::{
@@ -7,7 +7,7 @@ use crate::small::{
 use mari_flow::{SolveFault, Solved, solve};
 use mari_gates::prefix_feasible;
 use mari_market::{Cut, CutSide, Market, Prefix};
-use mari_paths::solve_from;
+use mari_paths::{WarmStart, solve_from};
 use mari_units::Cents;
 use std::alloc::Global;
 use std::test::Fail;
@@ -18,7 +18,7 @@ type Found = Result<Solved, SolveFault>;
 /// What is reported of it: the welfare of the optimum, or the side of a cut of zone 0 alone.
 type Reported = Result<u64, Option<CutSide>>;
 
-/// A market, the prefix of so many gates that has this word of bits, and what each solver gives there.
+/// A market, the prefix of `length` gates with the word `bits`, and what each solver gives there.
 struct Case {
     name: &'static str,
     market: MarketRow,
@@ -92,21 +92,23 @@ fn reported(found: Found) -> Reported {
     }
 }
 
-/// What is reported of what the plain and the fast solver find at a prefix.
-fn reported_by_both(alloc: Global, market: &Market, prefix: Prefix) -> Result<[Reported; 2], Fail> {
+/// What is reported of what the plain and the fast solver find at a prefix, and the fast one from a warm start.
+fn reported_by_each(alloc: Global, market: &Market, prefix: Prefix) -> Result<[Reported; 3], Fail> {
     if !(market.valid() && prefix_feasible(market, &prefix)) {
         return Err("the market is valid, and the prefix is feasible in it".into());
     }
+    let warm = WarmStart::of(alloc, market, None)?;
     Ok([
         reported(solve(alloc, market, &prefix)),
         reported(solve_from(alloc, market, &prefix, None)),
+        reported(warm.solve(alloc, market, &prefix)),
     ])
 }
 
 /// What is reported of a case.
-fn reported_in(alloc: Global, case: &Case) -> Result<[Reported; 2], Fail> {
+fn reported_in(alloc: Global, case: &Case) -> Result<[Reported; 3], Fail> {
     let market = market_of(alloc, &case.market)?;
-    let reported = reported_by_both(alloc, &market, prefix(case.length, case.bits));
+    let reported = reported_by_each(alloc, &market, prefix(case.length, case.bits));
     drop(market);
     reported
 }
@@ -118,7 +120,7 @@ fn welfare_or_a_cut(rt: HostRuntime) -> Result<(), Fail> {
             &rt,
             case.name,
             reported_in(rt.alloc(), case)?,
-            [case.reported; 2],
+            [case.reported; 3],
         );
     }
     Ok(())
@@ -145,15 +147,17 @@ fn optimum_in(solved: &Solved) -> Optimum {
     }
 }
 
-/// The optima that the plain and the fast solver find where no gate is decided.
-fn optima(alloc: Global, market: &Market) -> Result<[Optimum; 2], Fail> {
+/// The optima that the plain and the fast solver find where no gate is decided, and the fast one from a warm start.
+fn optima(alloc: Global, market: &Market) -> Result<[Optimum; 3], Fail> {
     let root = prefix(0, 0);
     if !(market.valid() && prefix_feasible(market, &root)) {
         return Err("the market is valid, and the prefix is feasible in it".into());
     }
+    let warm = WarmStart::of(alloc, market, None)?;
     Ok([
         optimum(solve(alloc, market, &root)),
         optimum(solve_from(alloc, market, &root, None)),
+        optimum(warm.solve(alloc, market, &root)),
     ])
 }
 
@@ -163,6 +167,6 @@ fn relaxed_optimum_of_two_zones(rt: HostRuntime) -> Result<(), Fail> {
     let found = optima(rt.alloc(), &market);
     drop(market);
     let want = Some((799_712_000, few(&[50, 30, 80]), 50, [2000, 6000]));
-    same(&rt, found?, [want; 2]);
+    same(&rt, found?, [want; 3]);
     Ok(())
 }

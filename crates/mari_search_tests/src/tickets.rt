@@ -39,8 +39,11 @@ enum Play {
 enum Reported {
     /// The steps, and the next node.
     Settle(Step, Step, Step, Option<u32>),
+    /// The step of the reclaimed node's ticket.
     SettleReclaimed(Step),
+    /// Whether the reclaimed node's ticket was given back.
     GiveReclaimed(bool),
+    /// What is reported of a node that is given back twice.
     GiveTwice(Given),
 }
 

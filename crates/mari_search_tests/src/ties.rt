@@ -209,7 +209,7 @@ fn gate_bits(market: &Market, activation: &Activation) -> Option<u64> {
     }
 }
 
-/// The bits of the gate word at this place among those of so many gates, closed before open at the first gate that
+/// The bits of the gate word at this place among those of `gates` gates, closed before open at the first gate that
 /// differs.
 fn word_at(place: u64, gates: u32) -> u64 {
     let mut bits = 0;
@@ -244,7 +244,7 @@ fn welfare_of_word(
     }
 }
 
-/// The bits of the first gate word of the greatest welfare, and that welfare, of all words of so many gates.
+/// The bits of the first gate word of the greatest welfare, and that welfare, of all words of `gates` gates.
 fn first_by_listing(alloc: Global, market: &Market, gates: u32) -> Result<(u64, u64), Fail> {
     let mut first = (0, 0);
     for place in 0..1_u64 << gates.min(8) {
@@ -288,8 +288,7 @@ fn reported_within(alloc: Global, market: &Market, budget: u32) -> Result<Option
     Ok(reported)
 }
 
-/// What is reported of the clearing of a market of so many gates, beside the first gate word by listing and its
-/// welfare.
+/// What is reported of the clearing of a market, beside the first of its gate words by listing and that word's welfare.
 type Reported = (Option<Published>, (u64, u64));
 
 fn reported_of(alloc: Global, market: &Market, gates: u32, budget: u32) -> Result<Reported, Fail> {

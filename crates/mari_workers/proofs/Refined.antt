@@ -108,7 +108,7 @@ leaves_then : (m : Market) (P : List Bool → LeafRecord → Type 0) (leaf : Lea
 leaves_then m P leaf [] words rest a b = b
 leaves_then m P leaf (kid ∷ kids) words rest a b = (a.0, leaves_then m P leaf kids words rest a.1 b)
 
--- a tree of so many nodes shows that the search tree is larger than the budget
+-- a tree of more nodes shows that the search tree is larger than the budget
 larger_tree : (m : Market) (w budget : ℕ) (items : List TreeItem) → IsValid m → AreParts m (IsOldLeaf m w) ([] ∷ []) items → budget < length items → IsLarger m budget
 larger_tree m w budget items v a l =
     let part = (search_parts m ([] ∷ []) items v (AreParts-map m (IsOldLeaf m w) (λ word leaf. IsNode m word) (λ word leaf k. k.node) ([] ∷ []) items a)).0 in

@@ -3,3 +3,4 @@ pub mod Refine
 pub mod Worked
 pub mod Together
 pub mod Cutting
+pub mod Root

@@ -11,6 +11,7 @@ ghost use Rattle.mari_market.specs.Prefix.{word_of, IsFeasiblePrefix};
 ghost use Rattle.mari_pool.specs.Queued.{IsMore};
 ghost use Rattle.mari_workers.specs.Alone.{best_in, after_offer, IsAtNode, IsFinished, IsUnderWay, IsVisited};
 ghost use Rattle.mari_workers.specs.Refine.{MayRefine};
+ghost use Rattle.mari_workers.specs.Root.{IsRootOf};
 
 use crate::bounds::BranchBounds;
 use crate::first::first_of;
@@ -18,10 +19,7 @@ use crate::publishing::published_from;
 use crate::root::Root;
 use crate::rounding::best_rounded;
 use mari_core::{Event, FinishFault, Search};
-use mari_market::{
-    Activation, Attained, Cleared, Clearer, Clearing, Finding, Market, Prefix, Spent,
-};
-use mari_node::examine_from;
+use mari_market::{Attained, Cleared, Clearer, Clearing, Finding, Market, Prefix, Spent};
 use mari_pool::{Queue, child_key};
 use mari_units::{Items, Memory};
 use std::alloc::{AllocError, Global};
@@ -85,15 +83,16 @@ fn offer_rounded(
     alloc: Global,
     market: &Market,
     search: &mut Search<'_>,
-    start: &mut Option<Activation>,
+    root: &Root,
 ) -> Result<(), Memory>
     requires market { search.old.tree.market ≡ market.now }
+    requires root { IsRootOf market.now root.now }
     requires facts { KeepsFacts search.old }
     ensures tree { OnOk result (search.new.tree ≡ search.old.tree) }
     ensures first { OnOk result (search.new.first ≡ search.old.first) }
     ensures facts { KeepsFacts search.new }
 {
-    match best_rounded(alloc, market, start)? {
+    match best_rounded(alloc, market, root)? {
         Some(attained) => {
             let actor = ACTOR;
             step(search, Event::Offer { actor, attained });
@@ -104,7 +103,7 @@ fn offer_rounded(
 }
 
 /// Takes a node, and settles it with what is found there from the root's optimum. The answer is the key of its
-/// children, and the relaxed optimum is left.
+/// children.
 ///
 /// What is found is offered first, so the node is settled at the greatest welfare that is known by then.
 fn visit(
@@ -114,17 +113,16 @@ fn visit(
     node: u32,
     prefix: &Prefix,
     root: &Root,
-    start: &mut Option<Activation>,
 ) -> Result<u64, Memory>
     requires waits { IsAtNode market.now search.old node }
     requires word { slice_get (words_of search.old.tree.nodes) node ≡ Some (word_of prefix.now) }
     requires feasible { IsFeasiblePrefix market.now prefix.now }
+    requires root { IsRootOf market.now root.now }
     ensures visited { IfOk result (λ key. IsVisited market.now search.old search.new node (word_of prefix.now) key) }
     ensures facts { KeepsFacts search.new }
 {
     step(search, Event::Take { actor: ACTOR, node });
-    *start = root.start()?;
-    let finding = examine_from(alloc, market, prefix, start)?;
+    let finding = root.examine(alloc, market, prefix)?;
     offer_found(search, &finding)?;
     let key = child_key(&finding);
     step(
@@ -162,24 +160,24 @@ fn visit_all(
     queue: &mut Queue,
     root: &Root,
 ) -> Result<bool, Memory>
-    requires { IsUnderWay market.now search.old queue.old }
+    requires under_way { IsUnderWay market.now search.old queue.old }
+    requires root { IsRootOf market.now root.now }
     ensures closed { IfOk result (λ closed. closed ≡ true → IsFinished search.new) }
     ensures spent { IfOk result (λ closed. closed ≡ false → search.new.tree.full ≡ true) }
     ensures market { OnOk result (search.new.tree.market ≡ market.now) }
     ensures budget { OnOk result (search.new.tree.budget ≡ search.old.tree.budget) }
 {
-    let mut start = None;
     while let Some(node) = queue.take_first() {
         let Some(prefix) = search.prefix_of(node) else {
             unreachable!()
         };
-        let key = visit(alloc, market, search, node, &prefix, root, &mut start)?;
+        let key = visit(alloc, market, search, node, &prefix, root)?;
         if search.is_full() {
             return Ok(false);
         }
         admit(search, queue, key);
         if node == ROOT && queue.len() > 1 {
-            offer_rounded(alloc, market, search, &mut start)?;
+            offer_rounded(alloc, market, search, root)?;
         }
     }
     Ok(true)
@@ -224,6 +222,7 @@ fn first_of_search(
     root: &Root,
 ) -> Result<Cleared, Memory>
     requires market { IsValid market.now }
+    requires root { IsRootOf market.now root.now }
     requires budget { IsBudget budget }
     requires search { (search.tree.market ≡ market.now) × (search.tree.budget ≡ budget) }
     requires finished { IsFinished search }
@@ -252,6 +251,7 @@ fn search_to_end(
     root: &Root,
 ) -> Result<Cleared, Memory>
     requires market { IsValid market.now }
+    requires root { IsRootOf market.now root.now }
     requires budget { IsBudget budget × (search.tree.budget ≡ budget) }
     requires under_way { IsUnderWay market.now search queue }
     ensures { IfOk result (Clears market.now budget) }

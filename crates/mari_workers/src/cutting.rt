@@ -11,6 +11,7 @@ ghost use Rattle.mari_market.specs.Prefix.{word_of, IsCleared, IsFeasiblePrefix}
 ghost use Rattle.mari_market.specs.Tree.{AreParts, LeafHolds};
 ghost use Rattle.mari_workers.specs.Cutting.{IsAtItem, IsBelow, IsCutting, IsPast};
 ghost use Rattle.mari_workers.specs.Refine.{IsOldLeaf};
+ghost use Rattle.mari_workers.specs.Root.{IsRootOf};
 
 use crate::bounds::BranchBounds;
 use crate::root::Root;
@@ -41,6 +42,7 @@ fn closing_at(
 ) -> Result<Option<Leaf>, Memory>
     requires market { IsValid market.now }
     requires prefix { IsFeasiblePrefix market.now prefix.now }
+    requires root { IsRootOf market.now root.now }
     ensures { IfOk result (λ leaf. IfSome leaf (LeafHolds market.now (pos welfare) (word_of prefix.now))) }
 {
     if bound > welfare {
@@ -177,6 +179,7 @@ impl Cutting {
         root: &Root,
     ) -> Result<(), Memory>
         requires market { IsValid market.now }
+        requires root { IsRootOf market.now root.now }
         requires walk { IsAtItem market.now welfare prefix.now BranchItem self.old.done.items self.old.left.items }
         ensures { OnOk result (IsPast market.now welfare self.old.done.items self.old.left.items self.new) }
     {
@@ -201,6 +204,7 @@ impl Cutting {
         root: &Root,
     ) -> Result<(), Memory>
         requires market { IsValid market.now }
+        requires root { IsRootOf market.now root.now }
         requires walk { IsCutting market.now welfare self.old.done.items self.old.left.items (Some prefix.now) }
         ensures walk { OnOk result (IsCutting market.now welfare self.new.done.items self.new.left.items self.new.next) }
         ensures fewer { OnOk result (length self.new.left.items < length self.old.left.items) }
@@ -224,6 +228,7 @@ fn walked(
     root: &Root,
 ) -> Result<(), Memory>
     requires market { IsValid market.now }
+    requires root { IsRootOf market.now root.now }
     requires walk { IsCutting market.now welfare walk.old.done.items walk.old.left.items walk.old.next }
     ensures walk { OnOk result (IsCutting market.now welfare walk.new.done.items walk.new.left.items None) }
     ensures within { OnOk result (length walk.new.done.items ≤ length walk.old.done.items + length walk.old.left.items) }
@@ -249,6 +254,7 @@ pub(crate) fn cut_back(
     root: &Root,
 ) -> Result<Items<TreeItem>, Memory>
     requires market { IsValid market.now }
+    requires root { IsRootOf market.now root.now }
     requires holds { AreParts market.now (IsOldLeaf market.now welfare) ([] ∷ []) tree }
     ensures holds { IfOk result (AreParts market.now (IsOldLeaf market.now welfare) ([] ∷ [])) }
     ensures smaller { IfOk result (λ cut. length cut ≤ length tree) }

@@ -6,6 +6,7 @@ ghost use Rattle.mari_market.specs.Prefix.{word_of, IsFeasiblePrefix};
 ghost use Rattle.mari_market.specs.Tree.{LeafHolds};
 ghost use Rattle.mari_workers.specs.Alone.{best_in, without_best};
 ghost use Rattle.mari_workers.specs.Refine.{fate_by, unbounded, IsAim, IsFate};
+ghost use Rattle.mari_workers.specs.Root.{IsRootOf};
 
 use crate::root::Root;
 use mari_core::closing_leaf;
@@ -90,6 +91,7 @@ pub(crate) fn fate_of(
     requires prefix { IsFeasiblePrefix market.now prefix.now }
     requires aim { IsAim market.now aim.now }
     requires leaf { LeafHolds market.now (pos aim.now.welfare) (word_of prefix.now) leaf }
+    requires root { IsRootOf market.now root.now }
     ensures { IfOk result (IsFate market.now aim.now.welfare (word_of aim.now.word) (word_of prefix.now)) }
 {
     if !comes_before(prefix, &aim.word) {

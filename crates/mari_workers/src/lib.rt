@@ -25,6 +25,7 @@ pub use alone::{Alone, search_alone};
 pub use crew::Crew;
 pub use first::first_of;
 pub use refining::refine;
+pub use root::Root;
 pub use together::search;
 pub use turnstile::{FreeTurnstile, Turnstile};
 pub use worker::{Worked, work};

@@ -7,6 +7,7 @@ ghost use Rattle.mari_market.specs.Market.{IsValid};
 ghost use Rattle.mari_market.specs.Optimal.{IsAdmissible, IsOptimal};
 ghost use Rattle.mari_market.specs.Prefix.{word_of, IsFeasiblePrefix};
 ghost use Rattle.mari_workers.specs.Refine.{HasNodes, MayRefine};
+ghost use Rattle.mari_workers.specs.Root.{IsRootOf};
 
 use crate::bounds::BranchBounds;
 use crate::cutting::cut_back;
@@ -31,6 +32,7 @@ fn of_its_word(
 ) -> Result<Activation, Memory>
     // An optimal activation, and its gate word.
     requires market { IsValid market.now }
+    requires root { IsRootOf market.now root.now }
     requires optimal { IsOptimal market.now activation }
     requires word { word_of word.now ≡ gate_word_of market.now activation }
     requires feasible { IsFeasiblePrefix market.now word.now }
@@ -64,6 +66,7 @@ fn cut_and_refined(
     root: &Root,
 ) -> Result<Cleared, Memory>
     requires market { IsValid market.now }
+    requires root { IsRootOf market.now root.now }
     requires budget { IsBudget budget }
     requires found { MayRefine market.now budget found }
     ensures law { IfOk result (Clears market.now budget) }
@@ -103,6 +106,7 @@ fn cut_and_refined_to_end(
     root: &Root,
 ) -> Result<Cleared, Memory>
     requires market { IsValid market.now }
+    requires root { IsRootOf market.now root.now }
     requires budget { IsBudget budget }
     requires found { MayRefine market.now budget found }
     ensures { IfOk result (Clears market.now budget) }
@@ -131,6 +135,7 @@ pub(crate) fn published_from(
     root: &Root,
 ) -> Result<Cleared, Memory>
     requires market { IsValid market.now }
+    requires root { IsRootOf market.now root.now }
     requires budget { IsBudget budget }
     requires found { MayRefine market.now budget found }
     ensures { IfOk result (Clears market.now budget) }

@@ -6,6 +6,7 @@ ghost use Rattle.mari_market.specs.Clearing.{Clears, IsBudget};
 ghost use Rattle.mari_market.specs.Market.{IsValid};
 ghost use Rattle.mari_market.specs.Prefix.{word_of, IsCleared};
 ghost use Rattle.mari_workers.specs.Refine.{ended, ClosesAtClosed, HasNodes, IsAim, IsAtLeaf, IsLastTurn, IsToBranch, IsTreeWalk, IsTurn, MayRefine};
+ghost use Rattle.mari_workers.specs.Root.{IsRootOf};
 
 use crate::bounds::BranchBounds;
 use crate::fate::{Aim, Fate, fate_of};
@@ -120,6 +121,7 @@ impl Walk {
         root: &Root,
     ) -> Result<Turn, Memory>
         requires market { IsValid market.now }
+        requires root { IsRootOf market.now root.now }
         requires aim { IsAim market.now aim.now }
         requires walk { IsAtLeaf market.now aim.now prefix.now leaf self.old.done.items self.old.left.items }
         ensures { IfOk result (IsTurn market.now aim.now prefix.now (length self.old.done.items) self.new) }
@@ -149,6 +151,7 @@ impl Walk {
         root: &Root,
     ) -> Result<Turn, Memory>
         requires market { IsValid market.now }
+        requires root { IsRootOf market.now root.now }
         requires aim { IsAim market.now aim.now }
         requires walk { IsTreeWalk market.now aim.now self.old.done.items self.old.left.items (Some prefix.now) }
         ensures { IfOk result (IsTurn market.now aim.now prefix.now (length self.old.done.items) self.new) }
@@ -212,6 +215,7 @@ fn walked(
     root: &Root,
 ) -> Result<Turn, Memory>
     requires market { IsValid market.now }
+    requires root { IsRootOf market.now root.now }
     requires aim { IsAim market.now aim.now }
     requires walk { IsTreeWalk market.now aim.now walk.old.done.items walk.old.left.items walk.old.next }
     ensures { IfOk result (IsLastTurn market.now aim.now walk.new) }
@@ -282,6 +286,7 @@ pub(crate) fn refined_from(
     root: &Root,
 ) -> Result<Cleared, Memory>
     requires market { IsValid market.now }
+    requires root { IsRootOf market.now root.now }
     requires budget { IsBudget budget }
     requires found { MayRefine market.now budget found }
     ensures law { IfOk result (Clears market.now budget) }

@@ -5,10 +5,11 @@ ghost use Rattle.std.specs.Prelude.{◌≡◌, ◌<◌, ◌+◌, IfOk, IfSome, l
 ghost use Rattle.mari_market.specs.Finding.{IsAttained};
 ghost use Rattle.mari_market.specs.Market.{IsValid};
 ghost use Rattle.mari_market.specs.Prefix.{IsFeasiblePrefix};
+ghost use Rattle.mari_workers.specs.Root.{IsRootOf};
 
+use crate::root::Root;
 use mari_gates::{child_of, empty_prefix, may_branch_up};
 use mari_market::{Activation, Attained, Finding, Market, Prefix, Relaxed};
-use mari_node::examine_from;
 use mari_units::{MOST_GATES, Memory};
 use std::alloc::Global;
 
@@ -57,22 +58,18 @@ pub(crate) fn rounded(market: &Market, activation: &Activation) -> Prefix
     prefix
 }
 
-/// The best activation of the gates that the start, a relaxed optimum, comes to by rounding, if they have one. The
-/// start is left at their relaxed optimum; where nothing lies within their bounds, and when out of memory, it stays
-/// as it was.
+/// The best activation of the gates that the root's optimum comes to by rounding, if they have one.
 pub(crate) fn best_rounded(
     alloc: Global,
     market: &Market,
-    start: &mut Option<Activation>,
+    root: &Root,
 ) -> Result<Option<Attained>, Memory>
     requires market { IsValid market.now }
+    requires root { IsRootOf market.now root.now }
     ensures { IfOk result (λ best. IfSome best (IsAttained market.now)) }
 {
-    let Some(relaxed) = start else {
-        return Ok(None);
-    };
-    let prefix = rounded(market, relaxed);
-    match examine_from(alloc, market, &prefix, start)? {
+    let prefix = rounded(market, root.optimum());
+    match root.examine(alloc, market, &prefix)? {
         Finding::Relaxed(Relaxed { best, .. }) => Ok(best),
         Finding::Empty(_) => Ok(None),
     }

@@ -9,6 +9,7 @@ ghost use Rattle.mari_market.specs.Market.{IsValid};
 ghost use Rattle.mari_market.specs.Relaxation.{all_closed, IsClosedWelfare};
 ghost use Rattle.mari_pool.specs.Taking.{IsIdle};
 ghost use Rattle.mari_workers.specs.Refine.{MayRefine};
+ghost use Rattle.mari_workers.specs.Root.{IsRootOf};
 ghost use Rattle.mari_workers.specs.Together.{IsSeated};
 ghost use Rattle.mari_workers.specs.Worked.{HoldsBest, IsWorked};
 
@@ -44,13 +45,14 @@ fn run_in_threads<'m, N: SearchName + Send + Sync, G: Turnstile, R: Threads + Wa
     root: &Root,
 ) -> Result<Vec<Worked>, AllocError>
     requires market { (market.now ≡ N.market) × IsValid market.now }
+    requires root { IsRootOf market.now root.now }
     requires incumbent { incumbent.now ≡ N.incumbent }
     requires seated { (i : ℕ) (d : _) → i < vec_len seated → IsSeated N.incumbent N.workers (slice_index_or seated.items i d) }
     ensures len { IfOk result (λ v. vec_len v ≡ vec_len seated) }
     ensures each { IfOk result (λ v. (i : ℕ) (d : _) → i < vec_len v → IsWorked N.market N.incumbent (slice_index_or v.items i d)) }
 {
     let each = |one: Seated| -> Worked
-        requires { (market.now ≡ N.market) × IsValid market.now × (incumbent.now ≡ N.incumbent) × IsSeated N.incumbent N.workers one }
+        requires { (market.now ≡ N.market) × IsValid market.now × (incumbent.now ≡ N.incumbent) × IsSeated N.incumbent N.workers one × IsRootOf market.now root.now }
         ensures { IsWorked N.market N.incumbent result }
     {
         let Seated { worker, seat } = one;
@@ -74,6 +76,7 @@ fn settle_rest<'m, N: SearchName, R: Wait>(
 ) -> Result<bool, Memory>
     // The search is the one of the name.
     requires market { (market.now ≡ N.market) × IsValid market.now }
+    requires root { IsRootOf market.now root.now }
     requires worker { worker ≤ N.workers }
     requires incumbent { incumbent.now ≡ N.incumbent }
 
@@ -86,7 +89,6 @@ fn settle_rest<'m, N: SearchName, R: Wait>(
     ensures closed { IfOk result (λ closed. closed ≡ true → IsIdle pool.new pool.new 0) }
     ensures spent { IfOk result (λ closed. closed ≡ false → pool.new.tree.full ≡ true) }
 {
-    let mut start = None;
     for _ in rt.forever() {
         match pool.take(worker) {
             Took::Took(ticket) => {
@@ -99,7 +101,6 @@ fn settle_rest<'m, N: SearchName, R: Wait>(
                     mine,
                     &FreeTurnstile,
                     root,
-                    &mut start,
                 )?;
                 pool.settle(incumbent, ticket, finding, &mut mine.seat);
             }
@@ -172,6 +173,7 @@ fn run_and_gather<'m, N: SearchName + Send + Sync, G: Turnstile, R: Threads + Wa
 ) -> Result<(), Memory>
     // The search is the one of the name.
     requires market { (market.now ≡ N.market) × IsValid market.now }
+    requires root { IsRootOf market.now root.now }
     requires workers { workers ≡ N.workers }
     requires incumbent { incumbent.now ≡ N.incumbent }
 
@@ -208,6 +210,7 @@ fn run_pool<'m, N: SearchName + Send + Sync, G: Turnstile, R: Threads + Wait + S
 ) -> Result<(Pool<'m, N>, bool), Memory>
     // The search is the one of the name, and can be one.
     requires market { (market.now ≡ N.market) × IsValid market.now }
+    requires root { IsRootOf market.now root.now }
     requires numbers { (workers ≡ N.workers) × (budget ≡ N.budget) }
     requires workers { IsWorkerCount workers }
     requires budget { IsBudget budget }
@@ -274,6 +277,7 @@ fn search_over_pool<N: SearchName + Send + Sync, G: Turnstile, R: Threads + Wait
 ) -> Result<Cleared, Memory>
     // The search is the one of the name, and can be one.
     requires market { (market.now ≡ N.market) × IsValid market.now }
+    requires root { IsRootOf market.now root.now }
     requires numbers { (workers ≡ N.workers) × (budget ≡ N.budget) }
     requires workers { IsWorkerCount workers }
     requires budget { IsBudget budget }

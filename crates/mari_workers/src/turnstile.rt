@@ -5,25 +5,27 @@ ghost use Rattle.mari_market.specs.Finding.{IsFinding};
 ghost use Rattle.mari_market.specs.Market.{IsValid};
 ghost use Rattle.mari_market.specs.Prefix.{word_of, IsFeasiblePrefix};
 ghost use Rattle.mari_node.specs.Nodes.{IsEmptyWhereNone};
+ghost use Rattle.mari_workers.specs.Root.{IsRootOf};
 
-use mari_market::{Activation, Finding, Market, Prefix};
-use mari_node::examine_from;
+use crate::root::Root;
+use mari_market::{Finding, Market, Prefix};
 use mari_units::Memory;
 use std::alloc::Global;
 
 /// Whatever examines nodes for workers. It may hold a worker, and may find other potentials than `mari_node::examine`.
 pub trait Turnstile: Sync {
-    /// The finding of a node, as `mari_node::examine` promises it. What is left in `start` is free.
+    /// The finding of a node, as `mari_node::examine` promises it. The search's root has one: `root.examine`.
     fn through(
         &self,
         alloc: Global,
         worker: u32,
         market: &Market,
         prefix: &Prefix,
-        start: &mut Option<Activation>,
+        root: &Root,
     ) -> Result<Finding, Memory>
         requires valid { IsValid market.now }
         requires prefix { IsFeasiblePrefix market.now prefix.now }
+        requires root { IsRootOf market.now root.now }
         ensures finding { IfOk result (IsFinding market.now (word_of prefix.now)) }
         ensures empty { IfOk result (IsEmptyWhereNone market.now (word_of prefix.now)) };
 }
@@ -39,8 +41,8 @@ impl Turnstile for FreeTurnstile {
         _worker: u32,
         market: &Market,
         prefix: &Prefix,
-        start: &mut Option<Activation>,
+        root: &Root,
     ) -> Result<Finding, Memory> {
-        examine_from(alloc, market, prefix, start)
+        root.examine(alloc, market, prefix)
     }
 }

@@ -8,6 +8,7 @@ ghost use Rattle.mari_market.specs.Finding.{IsAttained};
 ghost use Rattle.mari_market.specs.Market.{IsValid};
 ghost use Rattle.mari_market.specs.Prefix.{word_of, IsFeasiblePrefix};
 ghost use Rattle.mari_workers.specs.Alone.{best_in};
+ghost use Rattle.mari_workers.specs.Root.{IsRootOf};
 ghost use Rattle.mari_workers.specs.Worked.{HoldsBest, IsSeen};
 
 use crate::alone::{best_of, copy_of};
@@ -15,7 +16,7 @@ use crate::root::Root;
 use crate::rounding::best_rounded;
 use crate::turnstile::Turnstile;
 use mari_incumbent::{Incumbent, Seat};
-use mari_market::{Activation, Attained, Finding, Market, Prefix};
+use mari_market::{Attained, Finding, Market, Prefix};
 use mari_pool::{Pool, SearchName, Settled, Took};
 use mari_units::Memory;
 use std::alloc::Global;
@@ -78,21 +79,22 @@ fn offer_rounded(
     market: &Market,
     incumbent: &Incumbent,
     worked: &mut Worked,
-    start: &mut Option<Activation>,
+    root: &Root,
 ) -> Result<(), Memory>
     requires market { IsValid market.now }
+    requires root { IsRootOf market.now root.now }
     requires holds { HoldsBest market.now incumbent.now worked.old }
     ensures holds { HoldsBest market.now incumbent.now worked.new }
     ensures parts { worked.new.seat.parts ≡ worked.old.seat.parts }
 {
-    match best_rounded(alloc, market, start)? {
+    match best_rounded(alloc, market, root)? {
         Some(best) => offer(market, incumbent, worked, &best),
         None => Ok(()),
     }
 }
 
 /// Finds out about a node from the root's optimum, offers what was found, and looks at the incumbent. The node may be
-/// settled with that then, at the greatest welfare that any worker had offered. The relaxed optimum is left.
+/// settled with that then, at the greatest welfare that any worker had offered.
 pub(crate) fn visit<G: Turnstile>(
     alloc: Global,
     market: &Market,
@@ -102,17 +104,16 @@ pub(crate) fn visit<G: Turnstile>(
     worked: &mut Worked,
     turnstile: &G,
     root: &Root,
-    start: &mut Option<Activation>,
 ) -> Result<Finding, Memory>
     requires market { IsValid market.now }
     requires prefix { IsFeasiblePrefix market.now prefix.now }
+    requires root { IsRootOf market.now root.now }
     requires holds { HoldsBest market.now incumbent.now worked.old }
     ensures holds { HoldsBest market.now incumbent.now worked.new }
     ensures parts { worked.new.seat.parts ≡ worked.old.seat.parts }
     ensures may { IfOk result (λ finding. MaySettle market.now worked.new.seat.seen finding (new_node (word_of prefix.now))) }
 {
-    *start = root.start()?;
-    let finding = turnstile.through(alloc, worker, market, prefix, start)?;
+    let finding = turnstile.through(alloc, worker, market, prefix, root)?;
     offer_found(market, incumbent, worked, &finding)?;
     incumbent.look(&mut worked.seat);
     Ok(finding)
@@ -167,6 +168,7 @@ pub(crate) fn work_from<'m, N: SearchName, G: Turnstile, R: Wait>(
     root: &Root,
 ) -> Worked
     requires market { (market.now ≡ N.market) × IsValid market.now }
+    requires root { IsRootOf market.now root.now }
     requires worker { worker < N.workers }
     requires incumbent { incumbent.now ≡ N.incumbent }
     requires seat { IsFresh N.incumbent seat }
@@ -174,7 +176,6 @@ pub(crate) fn work_from<'m, N: SearchName, G: Turnstile, R: Wait>(
     ensures parts { result.seat.parts ≡ 1 }
 {
     let mut worked = Worked { seat, best: None };
-    let mut start = None;
     for _ in rt.forever() {
         let Took::Took(ticket) = next(rt, worker, pool, bell) else {
             break;
@@ -189,7 +190,6 @@ pub(crate) fn work_from<'m, N: SearchName, G: Turnstile, R: Wait>(
             &mut worked,
             turnstile,
             root,
-            &mut start,
         );
         let Ok(finding) = found else {
             pool.lock(rt).give_back(ticket);
@@ -200,9 +200,7 @@ pub(crate) fn work_from<'m, N: SearchName, G: Turnstile, R: Wait>(
             .settle(incumbent, ticket, finding, &mut worked.seat);
         if settled == Settled::Branched {
             bell.notify_all();
-            if is_root
-                && offer_rounded(alloc, market, incumbent, &mut worked, &mut start).is_err()
-            {
+            if is_root && offer_rounded(alloc, market, incumbent, &mut worked, root).is_err() {
                 break;
             }
         }

@@ -23,5 +23,5 @@ loop-zone-preserved c =
 
 pub returns : goal.returns
 returns c =
-    margins_from c.args.network.now.slots.now c.args.amounts.now (length c.args.network.now.meeting.items) c.loop-zone.margins.items (omega arith)
+    margins_from c.args.network.now.slots.now c.args.amounts.now (length c.args.network.now.meeting.now) c.loop-zone.margins.items (omega arith)
     (λ z l. c.loop-zone.invariant.each z (omega arith))

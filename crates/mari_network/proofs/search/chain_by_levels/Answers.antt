@@ -30,24 +30,24 @@ cheapest-requires-clause-there c = λ z i l e.
 pub place_of_hop-at-requires : goal.place_of_hop-at-requires
 place_of_hop-at-requires c =
     let mar = c.requires.margins in
-    let zoned : (k : ℕ) → k < length c.args.network.now.slots.now → zone_of c.args.network.now.slots.now k < length c.args.network.now.meeting.items = λ k l. c.requires.network.zones k no_slot l in
-    let d : IsDearest c.args.network.now.slots.now c.args.amounts.now c.loop-sink.marked c.in-Some.sink = dearest_is c.args.network.now.slots.now c.args.amounts.now (length c.args.network.now.meeting.items) c.args.margins.now c.loop-sink.marked c.in-Some.sink zoned mar (subst (λ (n : ℕ). IsDearestOf c.args.network.now.slots.now c.args.margins.now c.loop-sink.marked n (Some c.in-Some.sink)) mar.long c.in-Some.ensures.dearest) in
+    let zoned : (k : ℕ) → k < length c.args.network.now.slots.now → zone_of c.args.network.now.slots.now k < length c.args.network.now.meeting.now = λ k l. c.requires.network.zones k no_slot l in
+    let d : IsDearest c.args.network.now.slots.now c.args.amounts.now c.loop-sink.marked c.in-Some.sink = dearest_is c.args.network.now.slots.now c.args.amounts.now (length c.args.network.now.meeting.now) c.args.margins.now c.loop-sink.marked c.in-Some.sink zoned mar (subst (λ (n : ℕ). IsDearestOf c.args.network.now.slots.now c.args.margins.now c.loop-sink.marked n (Some c.in-Some.sink)) mar.long c.in-Some.ensures.dearest) in
     let small : IsSmallSlot (slot_at c.args.network.now.slots.now c.in-Some.sink) = c.requires.network.small c.in-Some.sink no_slot d.less.0 in
     let p : FitsSigned w64 (price_of c.args.network.now.slots.now c.in-Some.sink) = omega (arith, ints, small.cheap, small.dear) in
     let some = c.in-Some-cheapest.ensures.some c.in-Some-cheapest.source refl in
-    let cheap : IsCheaper c.args.network.now.slots.now c.args.amounts.now c.spread.new.marked (price_of c.args.network.now.slots.now c.in-Some.sink) c.in-Some-cheapest.source = cheaper_is c.args.network.now.slots.now c.args.amounts.now (length c.args.network.now.meeting.items) c.args.margins.now c.spread.new.marked (price_of c.args.network.now.slots.now c.in-Some.sink) c.in-Some-cheapest.source some.1 mar (rw (to_z-of_z p) at some.0) (omega (arith, some.2, mar.long)) some.3 some.4 in
+    let cheap : IsCheaper c.args.network.now.slots.now c.args.amounts.now c.spread.new.marked (price_of c.args.network.now.slots.now c.in-Some.sink) c.in-Some-cheapest.source = cheaper_is c.args.network.now.slots.now c.args.amounts.now (length c.args.network.now.meeting.now) c.args.margins.now c.spread.new.marked (price_of c.args.network.now.slots.now c.in-Some.sink) c.in-Some-cheapest.source some.1 mar (rw (to_z-of_z p) at some.0) (omega (arith, some.2, mar.long)) some.3 some.4 in
     subst (λ (hops : List Hop). (x : ℕ) × (x < length hops) × ((hop_at hops x).zone ≡ zone_of c.args.network.now.slots.now c.in-Some-cheapest.source)) (sym c.deref.ensures.value)
     (cheaper_is_new c.args.network.now.slots.now c.args.network.now.borders.now c.args.amounts.now c.args.flows.now c.loop-sink.marked c.spread.new.marked (int_at c.loop-sink.prices) c.in_ok-hops.hops.items _ c.in-Some.sink c.in-Some-cheapest.source c.loop-sink.invariant d c.in_ok-hops.ensures.spread cheap)
 
 pub returns-in-Some-cheapest : goal.returns-in-Some-cheapest
 returns-in-Some-cheapest c =
     let mar = c.requires.margins in
-    let zoned : (k : ℕ) → k < length c.args.network.now.slots.now → zone_of c.args.network.now.slots.now k < length c.args.network.now.meeting.items = λ k l. c.requires.network.zones k no_slot l in
-    let d : IsDearest c.args.network.now.slots.now c.args.amounts.now c.loop-sink.marked c.in-Some.sink = dearest_is c.args.network.now.slots.now c.args.amounts.now (length c.args.network.now.meeting.items) c.args.margins.now c.loop-sink.marked c.in-Some.sink zoned mar (subst (λ (n : ℕ). IsDearestOf c.args.network.now.slots.now c.args.margins.now c.loop-sink.marked n (Some c.in-Some.sink)) mar.long c.in-Some.ensures.dearest) in
+    let zoned : (k : ℕ) → k < length c.args.network.now.slots.now → zone_of c.args.network.now.slots.now k < length c.args.network.now.meeting.now = λ k l. c.requires.network.zones k no_slot l in
+    let d : IsDearest c.args.network.now.slots.now c.args.amounts.now c.loop-sink.marked c.in-Some.sink = dearest_is c.args.network.now.slots.now c.args.amounts.now (length c.args.network.now.meeting.now) c.args.margins.now c.loop-sink.marked c.in-Some.sink zoned mar (subst (λ (n : ℕ). IsDearestOf c.args.network.now.slots.now c.args.margins.now c.loop-sink.marked n (Some c.in-Some.sink)) mar.long c.in-Some.ensures.dearest) in
     let small : IsSmallSlot (slot_at c.args.network.now.slots.now c.in-Some.sink) = c.requires.network.small c.in-Some.sink no_slot d.less.0 in
     let p : FitsSigned w64 (price_of c.args.network.now.slots.now c.in-Some.sink) = omega (arith, ints, small.cheap, small.dear) in
     let some = c.in-Some-cheapest.ensures.some c.in-Some-cheapest.source refl in
-    let cheap : IsCheaper c.args.network.now.slots.now c.args.amounts.now c.spread.new.marked (price_of c.args.network.now.slots.now c.in-Some.sink) c.in-Some-cheapest.source = cheaper_is c.args.network.now.slots.now c.args.amounts.now (length c.args.network.now.meeting.items) c.args.margins.now c.spread.new.marked (price_of c.args.network.now.slots.now c.in-Some.sink) c.in-Some-cheapest.source some.1 mar (rw (to_z-of_z p) at some.0) (omega (arith, some.2, mar.long)) some.3 some.4 in
+    let cheap : IsCheaper c.args.network.now.slots.now c.args.amounts.now c.spread.new.marked (price_of c.args.network.now.slots.now c.in-Some.sink) c.in-Some-cheapest.source = cheaper_is c.args.network.now.slots.now c.args.amounts.now (length c.args.network.now.meeting.now) c.args.margins.now c.spread.new.marked (price_of c.args.network.now.slots.now c.in-Some.sink) c.in-Some-cheapest.source some.1 mar (rw (to_z-of_z p) at some.0) (omega (arith, some.2, mar.long)) some.3 some.4 in
     let there : c.place_of_hop-at.result < length c.in_ok-hops.hops.items = rw c.deref.ensures.value at c.place_of_hop-at.ensures.there in
     record {
       trace = c.in_ok-hops.ensures.spread.trace;
@@ -63,11 +63,11 @@ returns-in-Some-cheapest c =
 pub loop-sink-preserved : goal.loop-sink-preserved
 loop-sink-preserved c =
     let mar = c.requires.margins in
-    let zoned : (k : ℕ) → k < length c.args.network.now.slots.now → zone_of c.args.network.now.slots.now k < length c.args.network.now.meeting.items = λ k l. c.requires.network.zones k no_slot l in
-    let d : IsDearest c.args.network.now.slots.now c.args.amounts.now c.loop-sink.marked c.in-Some.sink = dearest_is c.args.network.now.slots.now c.args.amounts.now (length c.args.network.now.meeting.items) c.args.margins.now c.loop-sink.marked c.in-Some.sink zoned mar (subst (λ (n : ℕ). IsDearestOf c.args.network.now.slots.now c.args.margins.now c.loop-sink.marked n (Some c.in-Some.sink)) mar.long c.in-Some.ensures.dearest) in
+    let zoned : (k : ℕ) → k < length c.args.network.now.slots.now → zone_of c.args.network.now.slots.now k < length c.args.network.now.meeting.now = λ k l. c.requires.network.zones k no_slot l in
+    let d : IsDearest c.args.network.now.slots.now c.args.amounts.now c.loop-sink.marked c.in-Some.sink = dearest_is c.args.network.now.slots.now c.args.amounts.now (length c.args.network.now.meeting.now) c.args.margins.now c.loop-sink.marked c.in-Some.sink zoned mar (subst (λ (n : ℕ). IsDearestOf c.args.network.now.slots.now c.args.margins.now c.loop-sink.marked n (Some c.in-Some.sink)) mar.long c.in-Some.ensures.dearest) in
     let small : IsSmallSlot (slot_at c.args.network.now.slots.now c.in-Some.sink) = c.requires.network.small c.in-Some.sink no_slot d.less.0 in
     let p : FitsSigned w64 (price_of c.args.network.now.slots.now c.in-Some.sink) = omega (arith, ints, small.cheap, small.dear) in
-    let none : NoneCheaper c.args.network.now.slots.now c.args.amounts.now c.spread.new.marked (price_of c.args.network.now.slots.now c.in-Some.sink) = none_cheaper c.args.network.now.slots.now c.args.amounts.now (length c.args.network.now.meeting.items) c.args.margins.now c.spread.new.marked (price_of c.args.network.now.slots.now c.in-Some.sink) zoned mar
+    let none : NoneCheaper c.args.network.now.slots.now c.args.amounts.now c.spread.new.marked (price_of c.args.network.now.slots.now c.in-Some.sink) = none_cheaper c.args.network.now.slots.now c.args.amounts.now (length c.args.network.now.meeting.now) c.args.margins.now c.spread.new.marked (price_of c.args.network.now.slots.now c.in-Some.sink) zoned mar
     (λ z i l m e. rw (to_z-of_z p) at (c.in_default-cheapest.ensures.none refl z i (omega (arith, mar.long)) m e)) in
     levels_more c.args.network.now.slots.now c.args.network.now.borders.now c.args.amounts.now c.args.flows.now c.loop-sink.marked c.spread.new.marked
     (int_at c.loop-sink.prices) (int_at c.level.new.prices) c.in-Some.sink c.loop-sink.invariant d small.cheap
@@ -77,9 +77,9 @@ loop-sink-preserved c =
 pub returns : goal.returns
 returns c =
     let mar = c.requires.margins in
-    let zoned : (k : ℕ) → k < length c.args.network.now.slots.now → zone_of c.args.network.now.slots.now k < length c.args.network.now.meeting.items = λ k l. c.requires.network.zones k no_slot l in
-    let none : NoneLess c.args.network.now.slots.now c.args.amounts.now c.loop-sink.marked = dearest_none c.args.network.now.slots.now c.args.amounts.now (length c.args.network.now.meeting.items) c.args.margins.now c.loop-sink.marked zoned mar (subst (λ (n : ℕ). IsDearestOf c.args.network.now.slots.now c.args.margins.now c.loop-sink.marked n None) mar.long c.in_default.ensures.dearest) in
-    let marks : length c.loop-sink.marked ≡ length c.args.network.now.meeting.items = omega arith in
+    let zoned : (k : ℕ) → k < length c.args.network.now.slots.now → zone_of c.args.network.now.slots.now k < length c.args.network.now.meeting.now = λ k l. c.requires.network.zones k no_slot l in
+    let none : NoneLess c.args.network.now.slots.now c.args.amounts.now c.loop-sink.marked = dearest_none c.args.network.now.slots.now c.args.amounts.now (length c.args.network.now.meeting.now) c.args.margins.now c.loop-sink.marked zoned mar (subst (λ (n : ℕ). IsDearestOf c.args.network.now.slots.now c.args.margins.now c.loop-sink.marked n None) mar.long c.in_default.ensures.dearest) in
+    let marks : length c.loop-sink.marked ≡ length c.args.network.now.meeting.now = omega arith in
     record {
       one_each = omega arith;
       least = λ z l. low_at c.loop-sink.marked (int_at c.loop-sink.prices) (int_at c.level-2.new.prices) _ (record { keep = c.level-2.ensures.keep; level = λ z m l. c.level-2.ensures.level z m l }) c.loop-sink.invariant.floored z (omega arith);

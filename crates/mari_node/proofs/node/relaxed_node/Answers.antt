@@ -15,7 +15,7 @@ inner_node-requires-clause-bounded c = bounded c.args.market.now (word_of c.args
 
 pub returns-then-prefix-as_slice-clause-finding : goal.returns-then-prefix-as_slice-clause-finding
 returns-then-prefix-as_slice-clause-finding c =
-    c.last_node.ensures.finding (word_of c.args.prefix.now)
+    c.last_node.ensures (word_of c.args.prefix.now)
     (last_at c.args.market.now c.args.prefix.now c.args.solved c.as_slice.result.now c.as_slice.ensures c.if-prefix-as_slice.true c.requires.prefix c.requires.optimum)
 
 pub returns-else-prefix-as_slice-clause-finding : goal.returns-else-prefix-as_slice-clause-finding
@@ -26,4 +26,4 @@ returns-else-prefix-as_slice-clause-finding c =
 pub returns-then-prefix-as_slice-clause-best : goal.returns-then-prefix-as_slice-clause-best
 returns-then-prefix-as_slice-clause-best c =
     let at = last_at c.args.market.now c.args.prefix.now c.args.solved c.as_slice.result.now c.as_slice.ensures c.if-prefix-as_slice.true c.requires.prefix c.requires.optimum in
-    none_is_inner (λ found. IsAdmissible c.args.market.now c.args.solved.activation → is_some found.0.best ≡ true) c.last_node.result at.full
+    none_is_inner (λ relaxed. IsAdmissible c.args.market.now c.args.solved.activation → is_some relaxed.best ≡ true) c.last_node.result at.full

@@ -10,8 +10,8 @@ use Rattle.mari_paths.proofs.drains.drain.Given as goal
 abbrev pub invariant-loop-amounts : goal.invariant-loop-amounts
 invariant-loop-amounts l = record {
   runs : Runs l.network l.amounts l.flows;
-  margins : AreMargins l.network.slots.now l.amounts (length l.network.meeting.items) (length l.network.slots.now) l.margins;
-  hops : AreHops (length l.network.meeting.items) l.network.borders.now l.chain.hops.items;
+  margins : AreMargins l.network.slots.now l.amounts (length l.network.meeting.now) (length l.network.slots.now) l.margins;
+  hops : AreHops (length l.network.meeting.now) l.network.borders.now l.chain.hops.items;
   rises : sum_along slot_gain l.network.slots.now l.fn.amounts <ℤ sum_along slot_gain l.network.slots.now l.amounts;
 }
 

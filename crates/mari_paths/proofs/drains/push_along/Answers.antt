@@ -13,16 +13,16 @@ returns-then-from-to-clause-margins c =
     let from = zone_of slots c.args.chain.now.source in
     let new = c.improve.new.amounts in
     let apart : from ≢ to = search rules in
-    let right : (z : ℕ) → z < length c.args.network.now.meeting.items → IsMarginOf slots c.args.amounts.now z (get_or c.args.margins.now z no_margin) = λ z l. margins_at slots c.args.amounts.now (length c.args.network.now.meeting.items) c.args.margins.now z c.requires.margins l in
-    margins_from slots new (length c.args.network.now.meeting.items) c.renew-then-from-to.new.margins (c.renew-then-from-to.ensures.long ∙ c.renew.ensures.long ∙ c.requires.margins.long)
+    let right : (z : ℕ) → z < length c.args.network.now.meeting.now → IsMarginOf slots c.args.amounts.now z (get_or c.args.margins.now z no_margin) = λ z l. margins_at slots c.args.amounts.now (length c.args.network.now.meeting.now) c.args.margins.now z c.requires.margins l in
+    margins_from slots new (length c.args.network.now.meeting.now) c.renew-then-from-to.new.margins (c.renew-then-from-to.ensures.long ∙ c.renew.ensures.long ∙ c.requires.margins.long)
     (λ z l. elim (cases_eq z from) [
       | inl e ↦ subst (λ (k : ℕ). IsMarginOf slots new k (get_or c.renew-then-from-to.new.margins k no_margin)) (sym e)
           (c.renew-then-from-to.ensures.here c.args.amounts.now c.improve.ensures.moved
-          (subst (λ (m : Margin). IsMarginOf slots c.args.amounts.now from m) (sym (c.renew.ensures.others from apart)) (right from (subst (λ (k : ℕ). k < length c.args.network.now.meeting.items) e l))))
+          (subst (λ (m : Margin). IsMarginOf slots c.args.amounts.now from m) (sym (c.renew.ensures.others from apart)) (right from (subst (λ (k : ℕ). k < length c.args.network.now.meeting.now) e l))))
       | inr other ↦ subst (λ (m : Margin). IsMarginOf slots new z m) (sym (c.renew-then-from-to.ensures.others z other))
           (elim (cases_eq z to) [
             | inl e ↦ subst (λ (k : ℕ). IsMarginOf slots new k (get_or c.renew.new.margins k no_margin)) (sym e)
-                (c.renew.ensures.here c.args.amounts.now c.improve.ensures.moved (right to (subst (λ (k : ℕ). k < length c.args.network.now.meeting.items) e l)))
+                (c.renew.ensures.here c.args.amounts.now c.improve.ensures.moved (right to (subst (λ (k : ℕ). k < length c.args.network.now.meeting.now) e l)))
             | inr first ↦ subst (λ (m : Margin). IsMarginOf slots new z m) (sym (c.renew.ensures.others z first))
                 (margin_stays slots c.args.amounts.now new z (get_or c.args.margins.now z no_margin)
                 (λ k e. c.improve.ensures.moved.others k (λ s. first (sym e ∙ ap (zone_of slots) s)) (λ s. other (sym e ∙ ap (zone_of slots) s)))
@@ -36,11 +36,11 @@ returns-else-from-to-clause-margins c =
     let to = zone_of slots c.args.chain.now.sink in
     let new = c.improve.new.amounts in
     let same : zone_of slots c.args.chain.now.source ≡ to = search rules in
-    let right : (z : ℕ) → z < length c.args.network.now.meeting.items → IsMarginOf slots c.args.amounts.now z (get_or c.args.margins.now z no_margin) = λ z l. margins_at slots c.args.amounts.now (length c.args.network.now.meeting.items) c.args.margins.now z c.requires.margins l in
-    margins_from slots new (length c.args.network.now.meeting.items) c.renew.new.margins (c.renew.ensures.long ∙ c.requires.margins.long)
+    let right : (z : ℕ) → z < length c.args.network.now.meeting.now → IsMarginOf slots c.args.amounts.now z (get_or c.args.margins.now z no_margin) = λ z l. margins_at slots c.args.amounts.now (length c.args.network.now.meeting.now) c.args.margins.now z c.requires.margins l in
+    margins_from slots new (length c.args.network.now.meeting.now) c.renew.new.margins (c.renew.ensures.long ∙ c.requires.margins.long)
     (λ z l. elim (cases_eq z to) [
       | inl e ↦ subst (λ (k : ℕ). IsMarginOf slots new k (get_or c.renew.new.margins k no_margin)) (sym e)
-          (c.renew.ensures.here c.args.amounts.now c.improve.ensures.moved (right to (subst (λ (k : ℕ). k < length c.args.network.now.meeting.items) e l)))
+          (c.renew.ensures.here c.args.amounts.now c.improve.ensures.moved (right to (subst (λ (k : ℕ). k < length c.args.network.now.meeting.now) e l)))
       | inr first ↦ subst (λ (m : Margin). IsMarginOf slots new z m) (sym (c.renew.ensures.others z first))
           (margin_stays slots c.args.amounts.now new z (get_or c.args.margins.now z no_margin)
           (λ k e. c.improve.ensures.moved.others k (λ s. first (sym e ∙ ap (zone_of slots) s)) (λ s. first (sym e ∙ ap (zone_of slots) s ∙ same)))

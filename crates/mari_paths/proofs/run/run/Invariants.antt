@@ -7,7 +7,7 @@ use Rattle.mari_paths.proofs.run.run.Given as goal
 abbrev pub invariant-loop-chain : goal.invariant-loop-chain
 invariant-loop-chain l = record {
   runs : Runs l.network l.amounts l.flows;
-  margins : AreMargins l.network.slots.now l.amounts (length l.network.meeting.items) (length l.network.slots.now) l.margins;
+  margins : AreMargins l.network.slots.now l.amounts (length l.network.meeting.now) (length l.network.slots.now) l.margins;
 }
 
 abbrev pub decreases-loop-chain : goal.decreases-loop-chain

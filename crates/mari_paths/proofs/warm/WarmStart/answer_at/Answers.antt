@@ -1,0 +1,35 @@
+use Rattle.std.proofs.Common.{◌≡◌, ◌∙◌, length, drop}
+use Rattle.std.proofs.lemmas.List.{with_items_is}
+use Rattle.mari_market.specs.Prefix.{bounds_at}
+use Rattle.mari_paths.specs.Starts.{AreEven}
+use Rattle.mari_paths.proofs.Starts.{filled_long, filled_runs, filled_sides, filled_slots}
+use Rattle.mari_paths.proofs.warm.WarmStart.answer_at.Goals as goal
+
+pub network_of-network-requires-clause-sides : goal.network_of-network-requires-clause-sides
+network_of-network-requires-clause-sides c =
+    let slots : c.deref.result.now ≡ c.set_bounds.new.slots = c.deref.ensures.value ∙ with_items_is c.in_ok-slots.slots c.set_bounds.new.slots (c.set_bounds.auto.slots ∙ c.deref_mut.ensures.len) in
+    rw slots (filled_sides c.args.market.now c.set_bounds.new.slots c.set_bounds.new.amounts c.set_bounds.ensures.filled)
+
+pub solve_network-requires-clause-runs : goal.solve_network-requires-clause-runs
+solve_network-requires-clause-runs c =
+    let slots : c.network_of-network.result.slots.now ≡ c.set_bounds.new.slots =
+    c.network_of-network.ensures.slots ∙ c.deref.ensures.value ∙ with_items_is c.in_ok-slots.slots c.set_bounds.new.slots (c.set_bounds.auto.slots ∙ c.deref_mut.ensures.len) in
+    let amounts : c.deref_mut-4.result.now ≡ c.set_bounds.new.amounts = c.deref_mut-4.ensures.value ∙ with_items_is c.in_ok-amounts.amounts c.set_bounds.new.amounts (c.set_bounds.auto.amounts ∙ c.deref_mut-2.ensures.len) in
+    let flows : c.deref_mut-5.result.now ≡ c.args.self.now.flows.items = c.deref_mut-5.ensures.value ∙ c.in_ok-flows.ensures.items ∙ c.as_slice-3.ensures.value in
+    let even : AreEven c.args.market.now c.set_bounds.new.slots c.set_bounds.new.amounts c.args.self.now.flows.items = λ z l.
+    rw (c.deref_mut.ensures.value, c.in_ok-slots.ensures.items, c.as_slice.ensures.value, c.deref_mut-2.ensures.value, c.in_ok-amounts.ensures.items, c.as_slice-2.ensures.value) at c.set_bounds.ensures.into z
+    ∙ c.requires.warm.even z l in
+    rw (slots, amounts, flows, c.network_of-network.ensures.same.zones, c.network_of-network.ensures.same.borders)
+    (filled_runs c.args.market.now c.set_bounds.new.slots c.set_bounds.new.amounts c.args.self.now.flows.items c.set_bounds.ensures.filled c.requires.warm.limits even)
+
+pub solve_network-requires-clause-long : goal.solve_network-requires-clause-long
+solve_network-requires-clause-long c =
+    let amounts : c.deref_mut-4.result.now ≡ c.set_bounds.new.amounts = c.deref_mut-4.ensures.value ∙ with_items_is c.in_ok-amounts.amounts c.set_bounds.new.amounts (c.set_bounds.auto.amounts ∙ c.deref_mut-2.ensures.len) in
+    rw amounts (filled_long c.args.market.now c.set_bounds.new.slots c.set_bounds.new.amounts c.set_bounds.ensures.filled)
+
+pub returns : goal.returns
+returns c =
+    let slots : c.network_of-network.result.slots.now ≡ c.set_bounds.new.slots =
+    c.network_of-network.ensures.slots ∙ c.deref.ensures.value ∙ with_items_is c.in_ok-slots.slots c.set_bounds.new.slots (c.set_bounds.auto.slots ∙ c.deref_mut.ensures.len) in
+    c.solve_network.ensures (bounds_at c.args.market.now c.args.prefix.now) (drop (length c.args.market.now.orders) c.set_bounds.new.slots)
+    (rw slots (filled_slots (bounds_at c.args.market.now c.args.prefix.now) c.args.market.now c.set_bounds.new.slots c.set_bounds.new.amounts c.set_bounds.ensures.filled c.set_bounds.ensures.orders))

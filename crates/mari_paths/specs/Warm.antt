@@ -1,0 +1,35 @@
+-- What the nodes of one search start from.
+use Rattle.std.specs.Prelude.{◌≡◌, ℕ, ◌<◌, ◌≤◌, false, true, is_some, List, length}
+use Rattle.std.specs.List.{All, AllZip, Contains}
+use Rattle.mari_market.specs.declared.market.Market.{Market}
+use Rattle.mari_market.specs.declared.market.Order.{Order}
+use Rattle.mari_market.specs.Activation.{IsWithinLimits}
+use Rattle.mari_market.specs.Bounds.{Span}
+use Rattle.mari_network.specs.Margins.{AreMargins}
+use Rattle.mari_network.specs.Network.{ArePlaces}
+use Rattle.mari_network.specs.Orders.{slot_of}
+use Rattle.mari_network.specs.Slots.{slot_at, zone_of}
+use Rattle.mari_paths.specs.declared.warm.WarmStart.{WarmStart}
+use Rattle.mari_paths.specs.Starts.{most_short, order_at, AreEven, AreFilled, StandInsNear}
+
+-- the bounds of an order without a gate, at every prefix
+abbrev pub plain_span : Order → Span
+plain_span o = record { lo = 0; hi = o.greatest }
+
+-- the places of the orders that have a gate
+pub record AreGated (m : Market) (places : List ℕ) : Type 0 where
+  pub there : All (λ k. k < length m.orders) places
+  pub few : length places ≤ length m.orders
+  pub all : (k : ℕ) → k < length m.orders → is_some (order_at m k).gate ≡ true → Contains places k
+
+-- what runs in a network of the market, in balance, with the slots that orders without a gate have at every prefix
+pub record IsWarmStart (m : Market) (w : WarmStart) : Type 0 where
+  pub filled : AreFilled m w.slots.items w.amounts.items
+  pub limits : AllZip IsWithinLimits m.borders w.flows.items
+  pub even : AreEven m w.slots.items w.amounts.items w.flows.items
+  pub near : StandInsNear most_short m w.amounts.items
+  pub places : ArePlaces m.zones w.slots.items m.borders w.places
+  pub margins : AreMargins w.slots.items w.amounts.items m.zones (length w.slots.items) w.margins.items
+  pub zones : (k : ℕ) → k < length m.orders → zone_of w.slots.items k ≡ (order_at m k).zone
+  pub gated : AreGated m w.gated.items
+  pub plain : (k : ℕ) → k < length m.orders → is_some (order_at m k).gate ≡ false → slot_at w.slots.items k ≡ slot_of (plain_span (order_at m k)) (order_at m k)

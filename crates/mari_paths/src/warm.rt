@@ -1,0 +1,150 @@
+//! What the nodes of one search start from.
+
+ghost use Rattle.std.specs.Prelude.{◌≡◌, pos, length, IfOk, IfErr};
+ghost use Rattle.std.specs.Int.{int_max};
+ghost use Rattle.mari_market.specs.Activation.{welfare_of};
+ghost use Rattle.mari_market.specs.Cut.{IsCut};
+ghost use Rattle.mari_market.specs.Dual.{IsTight, dual_value_of};
+ghost use Rattle.mari_market.specs.Market.{IsValid};
+ghost use Rattle.mari_market.specs.Prefix.{word_of, bounds_at, IsFeasiblePrefix};
+ghost use Rattle.mari_market.specs.Price.{ArePrices};
+ghost use Rattle.mari_market.specs.Relaxation.{IsWithinBounds, IsRelaxedWelfare};
+ghost use Rattle.mari_network.specs.Solving.{IsAnswer, NoneWithin, OfCut};
+ghost use Rattle.mari_paths.specs.Warm.{AreGated, IsWarmStart};
+
+use crate::changes::set_bounds;
+use crate::optimum::solve_network;
+use crate::start::start_from;
+use mari_gates::empty_prefix;
+use mari_market::{Activation, Market, Prefix};
+use mari_network::{
+    Margin, Places, Slot, SolveFault, Solved, margins_of, network_of, order_slots, places_of,
+};
+use std::alloc::{AllocError, Global};
+
+/// A market's network with what an activation runs in it, made once for all prefixes of a search.
+///
+/// Only orders of gates have bounds that depend on the prefix. So a prefix is solved from a copy of this, in which just
+/// those orders are given their bounds, in place of a network made anew from all orders: it costs a copy, and one look
+/// at the slots of the zone of each order whose bounds differ. What is found is what `solve_from` finds from that
+/// activation, if it is a relaxed optimum of the prefix that decides no gate.
+#[derive(Drop)]
+pub struct WarmStart {
+    slots: Vec<Slot>,
+    amounts: Vec<i64>,
+    flows: Vec<i64>,
+    places: Places,
+    margins: Vec<Margin>,
+    gated: Vec<usize>,
+}
+
+/// The places of the orders that have a gate, rising.
+fn gated_places(alloc: Global, market: &Market) -> Result<Vec<usize>, AllocError>
+    ensures { IfOk result (λ v. AreGated market.now v.items) }
+{
+    let orders = market.orders.as_slice();
+    let mut places = Vec::new(alloc);
+    for (i, order) in orders.iter().enumerate() {
+        if order.gate.is_some() {
+            places.push(i)?;
+        }
+    }
+    Ok(places)
+}
+
+impl WarmStart {
+    /// What an activation runs in the market's network. In place of one that doesn't fit the market, or of none, it is
+    /// what runs at one price for the whole market.
+    pub fn of(
+        alloc: Global,
+        market: &Market,
+        start: Option<&Activation>,
+    ) -> Result<WarmStart, AllocError>
+        requires { IsValid market.now }
+        ensures { IfOk result (IsWarmStart market.now) }
+    {
+        let reals = order_slots(alloc, market, &empty_prefix())?;
+        let begun = start_from(alloc, market, reals, start)?;
+        let slots = begun.slots.as_slice();
+        let places = places_of(alloc, market, slots)?;
+        let network = network_of(market, slots, &places);
+        let margins = margins_of(alloc, &network, begun.amounts.as_slice())?;
+        let gated = gated_places(alloc, market)?;
+        Ok(WarmStart {
+            slots: begun.slots,
+            amounts: begun.amounts,
+            flows: begun.flows,
+            places,
+            margins,
+            gated,
+        })
+    }
+
+    /// The relaxed optimum of a prefix, or a cut.
+    fn answer_at(
+        &self,
+        alloc: Global,
+        market: &Market,
+        prefix: &Prefix,
+    ) -> Result<Solved, SolveFault>
+        requires market { IsValid market.now }
+        requires prefix { IsFeasiblePrefix market.now prefix.now }
+        requires warm { IsWarmStart market.now self.now }
+        ensures { IsAnswer (bounds_at market.now prefix.now) market.now result }
+    {
+        let mut slots = Vec::from_slice(alloc, self.slots.as_slice())?;
+        let mut amounts = Vec::from_slice(alloc, self.amounts.as_slice())?;
+        let mut flows = Vec::from_slice(alloc, self.flows.as_slice())?;
+        let mut margins = Vec::from_slice(alloc, self.margins.as_slice())?;
+        let gated = self.gated.as_slice();
+        set_bounds(
+            market,
+            prefix,
+            gated,
+            &self.places,
+            &mut slots,
+            &mut amounts,
+            &mut margins,
+        );
+        let network = network_of(market, &slots, &self.places);
+        solve_network(
+            alloc,
+            market,
+            &network,
+            &mut amounts,
+            &mut flows,
+            &mut margins,
+        )
+    }
+
+    /// The relaxed optimum of a prefix: an activation within the prefix's bounds, where orders of undecided gates may
+    /// run anything up to their greatest, of the greatest welfare, with potentials of which it is the dual value; or a
+    /// cut, where no activation lies within the bounds.
+    pub fn solve(
+        &self,
+        alloc: Global,
+        market: &Market,
+        prefix: &Prefix,
+    ) -> Result<Solved, SolveFault>
+        // What the caller knows of the market, the prefix and what this was made of.
+        requires market { IsValid market.now }
+        requires prefix { IsFeasiblePrefix market.now prefix.now }
+        requires warm { IsWarmStart market.now self.now }
+
+        // The optimum, and that it is one.
+        ensures within { IfOk result (λ s. IsWithinBounds (bounds_at market.now prefix.now) market.now s.activation) }
+        ensures relaxed { IfOk result (λ s. IsRelaxedWelfare market.now (word_of prefix.now) (welfare_of market.now s.activation)) }
+
+        // The potentials that show it, and its welfare as it is stated.
+        ensures dual { IfOk result (λ s. dual_value_of (bounds_at market.now prefix.now) market.now s.potentials.cents ≡ welfare_of market.now s.activation) }
+        ensures tight { IfOk result (λ s. IsTight (bounds_at market.now prefix.now) market.now s.activation s.potentials.cents) }
+        ensures potentials { IfOk result (λ s. ArePrices market.now s.potentials.cents) }
+        ensures stated { IfOk result (λ s. pos s.welfare ≡ int_max (pos 0) (welfare_of market.now s.activation)) }
+
+        // The cut, and that there is no optimum then.
+        ensures cut { IfErr result (λ fault. OfCut fault (IsCut (bounds_at market.now prefix.now) market.now)) }
+        ensures empty { IfErr result (λ fault. OfCut fault (λ _. NoneWithin (bounds_at market.now prefix.now) market.now)) }
+    {
+        self.answer_at(alloc, market, prefix)
+    }
+}

@@ -33,7 +33,8 @@ use Rattle.mari_capacity.specs.declared.worth.BorderWorth.{BorderWorth}
 use Rattle.mari_capacity.specs.declared.worth.Worth.{Worth}
 use Rattle.mari_capacity.specs.declared.raising.Raise.{Raise}
 use Rattle.mari_capacity.specs.Lines.{ArePrintable, IsPrintable, run_lines, unpublished_line}
-use Rattle.mari_capacity.specs.Rise.{far_end, near_end, rise_of}
+use Rattle.mari_network.specs.Chain.{head_of, tail_of}
+use Rattle.mari_capacity.specs.Rise.{rise_of}
 use Rattle.mari_capacity.specs.Values.{IsValueText}
 use Rattle.mari_capacity.specs.Values.IsValueText.{OfPublished, OfUnpublished}
 use Rattle.mari_capacity.specs.Worth.{AreWorths, IsWorth, no_worth}
@@ -47,9 +48,9 @@ product-most more gap few most =
 
 rise-most : (m : Market) (ps : List Cents) (b : Border) (r : Raise) → ArePrices m ps → r.more ≤ 1000 → rise_of ps b r.forth r.more ≤ℤ pos 19999800000
 rise-most m ps b r prices few =
-    let far = price_in_cap m ps prices (far_end r.forth b) in
-    let near = price_in_cap m ps prices (near_end r.forth b) in
-    product-most r.more (price_at ps (far_end r.forth b) -ℤ price_at ps (near_end r.forth b)) few (omega (arith, ints, far.high, near.low))
+    let far = price_in_cap m ps prices (head_of r.forth b) in
+    let near = price_in_cap m ps prices (tail_of r.forth b) in
+    product-most r.more (price_at ps (head_of r.forth b) -ℤ price_at ps (tail_of r.forth b)) few (omega (arith, ints, far.high, near.low))
 
 small-printable : (gain rise : ℤ) → pos 0 ≤ℤ gain → gain ≤ℤ rise → rise ≤ℤ pos 19999800000 → (unsigned_abs gain ≤ 10 ^ 30) × (unsigned_abs rise ≤ 10 ^ 30)
 small-printable gain rise a b c = (omega (arith, ints, a, b, c), omega (arith, ints, a, b, c))

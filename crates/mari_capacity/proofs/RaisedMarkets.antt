@@ -21,7 +21,8 @@ use Rattle.mari_market.proofs.Ints.{mul-add_z, negsuc_mul_le, pos_mul_le}
 use Rattle.mari_network.specs.Network.{border_at, no_border}
 use Rattle.mari_capacity.specs.declared.raising.Raise.{Raise}
 use Rattle.mari_capacity.specs.Raised.{raised_border, raised_limit, raised_market}
-use Rattle.mari_capacity.specs.Rise.{far_end, near_end, rise_of}
+use Rattle.mari_network.specs.Chain.{head_of, tail_of}
+use Rattle.mari_capacity.specs.Rise.{rise_of}
 
 -- ---- one item of a list is another
 
@@ -74,7 +75,8 @@ same-carried false more b z f = refl
 
 -- ---- what a limit earns
 
--- so many MW more, of a difference of prices
+-- a limit that is raised by at most `more` MW earns at most `more` times the difference of the prices more, and nothing
+-- more where the difference is below 0
 earned-more : (gap : ℤ) (limit raised more : ℕ) → limit ≤ raised → raised ≤ limit + more → (gap *ℤ pos raised) ≤ℤ ((gap *ℤ pos limit) +ℤ (pos more *ℤ int_max (pos 0) gap))
 earned-more (pos n) limit raised more l h =
     let most = pos_mul_le n (pos raised) (pos (limit + more)) (omega (arith, ints, h)) in
@@ -93,7 +95,7 @@ product-least : (more : ℕ) (gap : ℤ) → pos 0 ≤ℤ (pos more *ℤ int_max
 product-least more gap = let least = pos_mul_le more (pos 0) (int_max (pos 0) gap) (omega (arith, ints, clamps)) in omega (arith, ints, least)
 
 pub rise-least : (ps : List Cents) (b : Border) (forth : Bool) (more : ℕ) → pos 0 ≤ℤ rise_of ps b forth more
-rise-least ps b forth more = product-least more (price_at ps (far_end forth b) -ℤ price_at ps (near_end forth b))
+rise-least ps b forth more = product-least more (price_at ps (head_of forth b) -ℤ price_at ps (tail_of forth b))
 
 best-of-two : (x y z w d : ℤ) → y ≤ℤ (x +ℤ d) → w ≤ℤ (z +ℤ d) → pos 0 ≤ℤ d → int_max y w ≤ℤ (int_max x z +ℤ d)
 best-of-two x y z w d h k l = omega (arith, ints, clamps, h, k, l)

@@ -213,7 +213,14 @@ impl ValueStream {
         ensures text { result.text ≡ self.lines.items }
         ensures end { result.end ≡ end }
     {
-        let ValueStream { lines, .. } = self;
+        let ValueStream {
+            reader,
+            day,
+            lines,
+            ..
+        } = self;
+        drop(reader);
+        drop(day);
         Valued {
             text: Items::of(lines),
             end,
@@ -230,10 +237,12 @@ impl ValueStream {
     {
         let ValueStream {
             reader,
+            day,
             mut lines,
             found,
             ..
         } = self;
+        drop(day);
         let end = match reader.end() {
             Err(fault) => ValueEnd::Text(fault),
             Ok(()) => match found.unwrap() {

@@ -26,7 +26,9 @@ pub struct Case<'a> {
     pub file: &'a str,
     /// The number of its first line there.
     pub line: usize,
+    /// What its first lines state.
     pub stated: Stated<'a>,
+    /// Its sections, and the pages that it takes over.
     pub sections: &'a [Section<'a>],
     /// What its calls print, the last line without its end.
     pub wanted: &'a str,

@@ -6,10 +6,12 @@ use std::alloc::Global;
 /// The name of the section that has what a call prints.
 pub const PRINTS: &str = "prints";
 
-/// A section: its name, and its lines, the last of them without its end.
+/// A section.
 #[derive(Clone, Copy)]
 pub struct Section<'a> {
+    /// Its name: that of a page, or `PRINTS`.
     pub name: &'a str,
+    /// Its lines, the last of them without its end.
     pub text: &'a str,
 }
 

@@ -6,14 +6,23 @@ use crate::paragraph::Paragraph;
 /// The first word of a line.
 #[derive(Clone, Copy)]
 enum Word {
+    /// The line is a remark.
     Remark,
+    /// The paragraph is a folder, of this name.
     Folder,
+    /// The paragraph is a case, of this name.
     Case,
+    /// The paragraph takes over the pages of a folder.
     Like,
+    /// The paragraph leaves a page out.
     Without,
+    /// The line is a call.
     Call,
+    /// The exit code of the calls.
     Exit,
+    /// The numbers of the calls on the shelf that fail.
     Fails,
+    /// How the shelf gives its pages.
     By,
 }
 
@@ -67,14 +76,18 @@ impl Word {
 /// What a paragraph is.
 #[derive(Clone, Copy, PartialEq, Eq)]
 pub enum Kind {
+    /// Remarks alone.
     Remarks,
+    /// A folder, with pages of its own or of another folder.
     Folder,
+    /// A case, with calls of the program.
     Case,
 }
 
 /// What the first lines of a paragraph state, but for its calls and the pages that it leaves out.
 #[derive(Clone, Copy)]
 pub struct Stated<'a> {
+    /// What the paragraph is.
     pub kind: Kind,
     /// The name of the folder or of the case.
     pub name: &'a str,

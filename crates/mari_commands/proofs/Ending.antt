@@ -24,10 +24,10 @@ use Rattle.mari_commands.specs.declared.status.Status.{Status}
 use Rattle.mari_commands.specs.declared.status.Status.TheVariants as status
 use Rattle.mari_commands.specs.Commands.{AreCleared, AsksForBlocks, AsksForFeed, AsksToClear}
 use Rattle.mari_commands.specs.Headline.{WroteDay}
-use Rattle.mari_commands.specs.Outcome.{IsNoPage, IsOfWords, IsReady, IsReportable, Reported, Reports, ReportsDay, Says, day_status}
+use Rattle.mari_commands.specs.Outcome.{IsNoPage, IsOfWords, IsReady, IsReportable, Reported, Reports, ReportsDay, Says, WhereReported, day_status}
 use Rattle.mari_commands.specs.Outcome.Reports.{Printed, CutOff, Starved}
 use Rattle.mari_commands.specs.Printing.{file_line, invalid_line, refused_line, usage_line}
-use Rattle.mari_commands.specs.Program.{Answers, IsFailedEnd, IsGapEnd, IsInvalidEnd, IsLine, IsRefusedEnd, TookFirstPart, WhereReported}
+use Rattle.mari_commands.specs.Program.{Answers, IsFailedEnd, IsGapEnd, IsInvalidEnd, IsLine, IsRefusedEnd, TookFirstPart}
 use Rattle.mari_commands.specs.Program.IsDone.{Cleared as done-cleared, Printed as done-printed, Split as done-split}
 use Rattle.mari_commands.specs.Program.IsLine.{OfUsage as line-usage, OfRefusal as line-refusal, OfFault as line-fault, OfMissing as line-missing, OfTooLong as line-too-long, OfInvalid as line-invalid, OfText as line-text}
 use Rattle.mari_commands.specs.Program.IsCutOff.{Day as cut-day, Line as cut-line, SplitDay as cut-split}

@@ -90,4 +90,4 @@ generated-published number nodes books p a h most is = none-out p.blocks out
     out : (k : ℕ) (heading : Heading) (count : ℕ) → slice_get p.blocks k ≡ Some (block.Unpublished heading count) → ⊥
     out k heading count e =
         let before = take k p.blocks in
-        not-larger (market_after books before).market nodes (gates-few (before_of books before) (run_after before)) most (is.part.each k (block.Unpublished heading count) e).is_spent.larger
+        not-larger (market_after books before).market nodes (gates-few (before_of books before) (run_after before)) most (is.part.each k (block.Unpublished heading count) e).spent.is_spent.larger

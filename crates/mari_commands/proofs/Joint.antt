@@ -21,10 +21,9 @@ use Rattle.mari_commands.specs.declared.status.Status.TheVariants as status
 use Rattle.mari_commands.specs.Commands.{AsksForBlocks}
 use Rattle.mari_commands.specs.Joint.{AnswersOf, AreCutOff, BlocksAnswers}
 use Rattle.mari_commands.specs.Joint.AreCutOff.{Text as CutText, Refuses, Lacks, Fails}
-use Rattle.mari_commands.specs.Outcome.{IsNoPage, IsOfWords, IsReportable, IsSayable, Reported, Reports, ReportsBlocks, ReportsQuarters, Says, blocks_of}
+use Rattle.mari_commands.specs.Outcome.{IsNoPage, IsOfWords, IsReportable, IsSayable, Reported, Reports, ReportsBlocks, ReportsQuarters, Says, WhereReported, blocks_of}
 use Rattle.mari_commands.specs.Outcome.Reports.{Printed, CutOff, Starved}
 use Rattle.mari_commands.specs.Printing.{file_line, refused_line}
-use Rattle.mari_commands.specs.Program.{WhereReported}
 use Rattle.mari_commands.proofs.Ending.{answers}
 use Rattle.mari_commands.proofs.Folder.{no_other}
 

@@ -21,10 +21,10 @@ use Rattle.mari_commands.specs.Commands.IsInvalid.{OfValues as invalid-values}
 use Rattle.mari_commands.specs.Commands.IsRefused.{OfValues as refused-values}
 use Rattle.mari_commands.specs.Commands.LacksPage.{OfValues as lacks-values}
 use Rattle.mari_commands.specs.Commands.Prints.{Valued as prints-values}
-use Rattle.mari_commands.specs.Outcome.{MayWant, ReportsValues}
+use Rattle.mari_commands.specs.Outcome.{MayWant, ReportsValues, WhereReported}
 use Rattle.mari_commands.specs.Outcome.Reports.{Printed, CutOff, Starved}
 use Rattle.mari_commands.specs.Printing.{refused_line}
-use Rattle.mari_commands.specs.Program.{Answers, IsFailedEnd, IsGapEnd, IsInvalidEnd, IsRefusedEnd, TookFirstPart, TookLine, TookSummary, TookVerdict, WhereReported}
+use Rattle.mari_commands.specs.Program.{Answers, IsFailedEnd, IsGapEnd, IsInvalidEnd, IsRefusedEnd, TookFirstPart, TookLine, TookSummary, TookVerdict}
 use Rattle.mari_commands.specs.Program.IsCutOff.{ValuesPart as cut-values}
 use Rattle.mari_commands.specs.Program.IsDone.{Printed as done-printed}
 use Rattle.mari_commands.specs.Program.IsStarved.{Nothing as starved-before}

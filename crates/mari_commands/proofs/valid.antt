@@ -1,2 +1,3 @@
+-- That a printed day has no fault, block by block.
 pub mod Blocks
 pub mod Days

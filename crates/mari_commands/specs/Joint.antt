@@ -19,7 +19,8 @@ use Rattle.mari_commands.specs.declared.status.Status.{Status}
 use Rattle.mari_commands.specs.declared.status.Status.TheVariants.{Done, Unpublished, Usage, Refused, ReadFault, WriteFault, Memory, Invalid, Missing, TooLong}
 use Rattle.mari_commands.specs.Printing.{file_line, page_word, refused_line}
 use Rattle.mari_commands.specs.Refusals.{HasName}
-use Rattle.mari_commands.specs.Program.{Answers, WhereReported, gap_word}
+use Rattle.mari_commands.specs.Outcome.{WhereReported}
+use Rattle.mari_commands.specs.Program.{Answers, gap_word}
 
 -- ---- what each answer says
 

@@ -1,5 +1,6 @@
 -- What the words and the pages come to, and how it is reported.
 use Rattle.std.specs.Prelude.{ℕ, ◌≡◌, ◌≢◌, ◌⊎◌, ◌≤◌, ◌==◌, ◌++◌, if◌then◌else◌, List, Option, Some, None, Result, Ok, Err, ⊤, String, string_bytes}
+use Rattle.std.specs.Option.{option_map_or}
 use Rattle.std.specs.declared.alloc.Global.{Global}
 use Rattle.mari_io.specs.declared.shelf.Fetch.{Fetch}
 use Rattle.mari_io.specs.declared.shelf.Fetch.TheVariants as fetch
@@ -168,13 +169,17 @@ ReportsFeed (Err (stop.Text fault)) before after result = ReportsText fault befo
 ReportsFeed (Err stop.Sink) before after result = (result ≡ status.WriteFault) × (after ≡ before)
 ReportsFeed (Err stop.Memory) before after result = (result ≡ status.Memory) × (after ≡ before)
 
+-- where the pages are reported, this is so of them
+abbrev pub WhereReported : Option Pages → (Pages → Type 0) → Type 0
+WhereReported pages IsSo = (reported : Pages) → pages ≡ Some reported → IsSo reported
+
 -- how the feed of a folder is reported: lines of the publication's parts are printed, as its printing ended, and then
 -- the line of the status; that a call of the shelf failed is reported only where one did
 pub record ReportsParts (pages : Option Pages) (failed : Type 0) (folder : List ℕ) (before after : Option (List ℕ)) (result : Status) : Type 0 where
   pub between : Option (List ℕ)
   pub end : Result (Unit {0}) FeedStop
   pub cause : IsFeedFetch fetch.Failed end → failed
-  pub states : (reported : Pages) → pages ≡ Some reported → FeedStates (page_of reported (publication_path folder)) before between end
+  pub states : WhereReported pages (λ reported. FeedStates (page_of reported (publication_path folder)) before between end)
   pub reports : ReportsFeed end between after result
 
 -- how the values of limits are reported by how they end: the lines are printed, and then the line of the status
@@ -199,7 +204,7 @@ ReportsQuarters (Err why.Memory) before after result = (result ≡ status.Memory
 -- only where one did
 pub record ReportsBlocks (pages : Option Pages) (failed : Type 0) (quarters : JointJob) (before after : Option (List ℕ)) (result : Status) : Type 0 where
   pub given : Result JointText BooksFault
-  pub states : (reported : Pages) → pages ≡ Some reported → QuartersReport reported (string_bytes quarters.folder) quarters.first quarters.last quarters.nodes given
+  pub states : WhereReported pages (λ reported. QuartersReport reported (string_bytes quarters.folder) quarters.first quarters.last quarters.nodes given)
   pub file : NamesQuartersFile given
   pub sayable : IsSayable given
   pub cause : IsFetchFault fetch.Failed given → failed
@@ -244,17 +249,12 @@ IsSummarised number _ = ⊥
 
 -- the refusal of a publication whose text has a fault; none when out of memory
 abbrev pub refusal_of : TextFault → Option Refusal
-refusal_of (text_fault.BadLine n) = Some (text_refusal (text_fault.BadLine n))
-refusal_of (text_fault.BadOrder n) = Some (text_refusal (text_fault.BadOrder n))
-refusal_of (text_fault.Truncated n) = Some (text_refusal (text_fault.Truncated n))
 refusal_of text_fault.Memory = None
+refusal_of fault = Some (text_refusal fault)
 
 -- what comes of a publication whose text has a fault
 abbrev pub text_outcome : TextFault → Outcome
-text_outcome (text_fault.BadLine n) = Refused (text_refusal (text_fault.BadLine n))
-text_outcome (text_fault.BadOrder n) = Refused (text_refusal (text_fault.BadOrder n))
-text_outcome (text_fault.Truncated n) = Refused (text_refusal (text_fault.Truncated n))
-text_outcome text_fault.Memory = NoMemory
+text_outcome fault = option_map_or Refused (refusal_of fault) NoMemory
 
 -- what comes of the verdict on a publication
 abbrev pub IsReportedVerdict : Verdict → Outcome → Type 0

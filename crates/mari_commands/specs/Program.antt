@@ -20,17 +20,13 @@ use Rattle.mari_commands.specs.declared.status.Status.{Status}
 use Rattle.mari_commands.specs.declared.status.Status.TheVariants.{Done, Unpublished, Usage, Refused, ReadFault, WriteFault, Memory, Invalid, Missing, TooLong}
 use Rattle.mari_commands.specs.Commands.{AreCleared, AsksForFeed, AsksForPages, AsksForValues, AsksToCheck, AsksToClear, HasFeed, IsAlone, IsFeedable, IsInvalid, IsRefused, LacksPage, Prints, ReadsFolder, StatesValues, fetch_of, publication_path, text_refusal}
 use Rattle.mari_commands.specs.Headline.{WroteDay}
-use Rattle.mari_commands.specs.Outcome.{IsValidLine, MayWant}
+use Rattle.mari_commands.specs.Outcome.{IsValidLine, MayWant, WhereReported}
 use Rattle.mari_commands.specs.Splits.{AreSplit, AsksToSplit, WroteSplit}
 use Rattle.mari_commands.specs.Summary.{IsGenerated}
 use Rattle.mari_split.specs.Days.{WroteSplitPart, WroteSplitPrefix}
 use Rattle.mari_commands.specs.Printing.{file_line, invalid_line, page_status, page_word, refused_line, usage_line}
 use Rattle.mari_commands.specs.Refusals.{HasName}
 use Rattle.mari_commands.specs.Values.{value_line}
-
--- where the pages are reported, this is so of them
-abbrev pub WhereReported : Option Pages → (Pages → Type 0) → Type 0
-WhereReported pages IsSo = (reported : Pages) → pages ≡ Some reported → IsSo reported
 
 -- the word of a page that can't be had
 abbrev pub gap_word : Gap → List ℕ
@@ -140,7 +136,7 @@ pub data IsStarved (asked : Option Asked) (pages : Pages) (before after : Option
 pub record TookGapLine (asked : Option Asked) (pages : Option Pages) (gap : Gap) (before after : Option (List ℕ)) : Type 0 where
   pub file : ℕ
   pub wanted : MayWant asked file
-  pub first : (reported : Pages) → pages ≡ Some reported → LacksPage asked reported file gap
+  pub first : WhereReported pages (λ reported. LacksPage asked reported file gap)
   pub line : TookLine asked pages file TookFirst (IsGapEnd gap) (file_line (gap_word gap) file) before after
 
 -- where a day is generated, its summary was taken

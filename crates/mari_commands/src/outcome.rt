@@ -57,8 +57,13 @@ pub enum Outcome {
     Values(Valued),
     /// A text is to be printed.
     Text(Vec<u8>),
-    /// The publication isn't valid: the first run that has a fault, and the number of its least one.
-    Invalid { run: u32, fault: u8 },
+    /// The publication isn't valid.
+    Invalid {
+        /// The first run that has a fault, counted from 1; 0 for the head, and for the totals of a day without runs.
+        run: u32,
+        /// The number of its least fault.
+        fault: u8,
+    },
     /// The page of the file of this number can't be had, and why.
     NoPage(u8, Fetch),
     /// A file is refused.

@@ -24,8 +24,13 @@ pub enum Status {
     WriteFault,
     /// Out of memory.
     Memory,
-    /// The publication isn't valid: the first run that has a fault, and the number of its least one.
-    Invalid { run: u32, fault: u8 },
+    /// The publication isn't valid.
+    Invalid {
+        /// The first run that has a fault, counted from 1; 0 for the head, and for the totals of a day without runs.
+        run: u32,
+        /// The number of its least fault.
+        fault: u8,
+    },
     /// A page is missing.
     Missing,
     /// A page is too long.

@@ -68,7 +68,7 @@ pub fn refused_line(alloc: Global, refusal: Refusal) -> Result<Vec<u8>, Memory>
     Ok(line)
 }
 
-/// A line of two numbers after a word, which brings its space along.
+/// A line of two numbers after a word that ends in a space.
 pub fn pair_line(alloc: Global, word: &[u8], first: u32, second: u32) -> Result<Vec<u8>, Memory>
     ensures { IfOk result (λ line. line.items ≡ pair_text word.now first second) }
 {

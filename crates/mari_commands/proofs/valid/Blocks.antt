@@ -49,9 +49,9 @@ two-children word false = omega arith
 fills-budget : (books : Books) (budget : ℕ) (before : List Block) (heading : Heading) (count : ℕ) → IsUnpublishedRun books budget before heading count → FillsBudget budget count
 fills-budget books budget before heading count is =
     let gates = (market_after books before).market.gates in
-    let over = is.is_spent.overflows in
+    let over = is.spent.is_spent.overflows in
     let few : length (children gates over.leaf) ≤ 2 = two-children over.leaf (may_open gates over.leaf (length over.leaf)) in
-    record { within = omega (arith, is.counted, is.is_spent.within_budget); full = omega (arith, is.counted, over.crowded.more, few) }
+    record { within = omega (arith, is.spent.counted, is.spent.is_spent.within_budget); full = omega (arith, is.spent.counted, over.crowded.more, few) }
 
 unpublished-free : (books : Books) (budget : ℕ) (before : List Block) (heading : Heading) (count : ℕ) → run_after before ≤ length books.runs.runs → IsUnpublishedRun books budget before heading count
     → (any : Fault) → IsUnpublishedFree books budget before heading count any

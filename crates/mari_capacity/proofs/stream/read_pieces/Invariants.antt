@@ -16,6 +16,6 @@ invariant-pieces g l = record {
   overs : g.S.Shelf.overs l.fn.shelf ≤ g.S.Shelf.overs l.shelf;
 }
 
--- so many bytes may still be given
+-- the number of bytes that may still be given
 abbrev pub decreases-pieces : goal.decreases-pieces
 decreases-pieces g l = MOST_GIVEN - g.S.Shelf.given l.shelf

@@ -11,6 +11,6 @@ invariant-parts l = record {
   read : (text : List ℕ) (parts : List Part) → TookParts l.books l.fn.self.more text parts l.fn.self → (after : List Part) × TookParts l.books l.self.more text after l.self;
 }
 
--- a publication has at most so many parts
+-- the number of parts that may still come: a publication has at most 1,002
 abbrev pub decreases-parts : goal.decreases-parts
 decreases-parts l = 1002 - count_of l.self.reader.come.kept

@@ -105,7 +105,7 @@ class Bench:
         counts = os.path.join(self.scratch, "counts")
         counted = ["valgrind", "--tool=callgrind", f"--callgrind-out-file={counts}", *words]
         subprocess.run(counted, stdout=subprocess.DEVNULL, stderr=subprocess.DEVNULL, check=True)
-        told = subprocess.run(["callgrind_annotate", "--inclusive=yes", counts], stdout=subprocess.PIPE, text=True, check=True).stdout
+        told = subprocess.run(["callgrind_annotate", "--inclusive=yes", "--threshold=100", counts], stdout=subprocess.PIPE, text=True, check=True).stdout
         found = re.search(rf"^ *([\d,]+) .*{function or 'PROGRAM TOTALS'}", told, re.M)
         return int(found.group(1).replace(",", ""))
 
@@ -161,7 +161,8 @@ def gateless(bench):
         agree(name, found, welfare)
         cells = ["-"] * 3
         if has("valgrind"):
-            ours = bench.instructions([bench.mari, "clear", folder, "--workers", "1"], "mari_node::node::examine_from")
+            words = [bench.mari, "clear", folder, "--workers", "1"]
+            ours = sum(bench.instructions(words, name) for name in ("mari_paths::optimum::solve_from", "mari_node::node::finding_by"))
             lemons, read = (bench.instructions([bench.lemon + ".counted", mode, folder]) for mode in ("--relaxed", "--read"))
             cells = [f"{ours:,}", f"{lemons - read:,}", f"{ours / (lemons - read):.2f}"]
         print(row(name, f"{spent.processor:.4f}", f"{theirs.processor:.4f}", *cells), flush=True)

@@ -54,7 +54,7 @@ module _ {Book : Type 0} (g : Grammar Book) (P : List Row → Type 0)
   along-lines rows book is start =
       along (line_refusal g) P (λ before line none. step before line (no-failing line.line (first_failing (g.line_checks before line)) none)) rows start is.lines
 
--- counts of each number stay at most so many, where the number of one more item stood below it
+-- counts of each number stay at most `most`, where the number of one more item stood below it
 pub counts-at-most : {X : Type 0} (number_of : X → ℕ) (most : ℕ) (xs : List X) (x : X) → nat_le most (count_by (λ y. number_of y == number_of x) xs) ≡ false
     → ((k : ℕ) → count_by (λ y. number_of y == k) xs ≤ most) → (k : ℕ) → count_by (λ y. number_of y == k) (xs ++ x ∷ []) ≤ most
 counts-at-most number_of most xs x room all k = by (eqb_tells (number_of x) k)

@@ -30,7 +30,7 @@ is_plain b = nat_lt b 128 && not (needs_byte default_writer b)
 abbrev pub is_plain_field : List ℕ → Bool
 is_plain_field field = list_all is_plain field
 
--- so many fields, each of such bytes
+-- `width` fields, each of such bytes
 abbrev pub is_plain_record : (width : ℕ) → List (List ℕ) → Bool
 is_plain_record width fields = (length fields == width) && list_all is_plain_field fields
 

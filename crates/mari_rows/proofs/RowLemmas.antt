@@ -1,14 +1,15 @@
 -- Rows, their fields and the first fault among them.
-use Rattle.std.proofs.Common.{◌≡◌, ◌≤◌, ◌+◌, ◌==◌, ℕ, suc, zero, ◌&&◌, Bool, true, false, List, [], ◌∷◌, ◌++◌, Option, Some, None, Result, Ok, Err, take, length, refl, sym, ap, ◌∙◌, arith, IsUtf8, All, if◌then◌else◌}
+use Rattle.std.proofs.Common.{◌≡◌, ◌≤◌, ◌+◌, ◌==◌, ℕ, suc, zero, ◌&&◌, Bool, true, false, List, [], ◌∷◌, ◌++◌, Option, Some, None, Result, Ok, Err, take, drop, ◌-◌, length, refl, sym, ap, ◌∙◌, arith, IsUtf8, All, if◌then◌else◌}
 use Rattle.std.specs.Prelude.{MatchResult, is_ok, slice_get}
 use Rattle.std.specs.List.{list_all}
 use Rattle.std.specs.Option.{option_or}
-use Rattle.std.specs.Str.{bytes_eq, is_utf8}
+use Rattle.std.specs.Str.{bytes_eq, is_utf8, IsAscii}
 use Rattle.std.proofs.lemmas.Bool.{eqb-true}
 use Rattle.std.proofs.lemmas.List.Elements.{All-cons, All-nil}
 use Rattle.std.proofs.lemmas.List.Folds.{list_all-append}
-use Rattle.std.proofs.lemmas.Str.{IsUtf8-from_is_utf8, is_utf8-from_IsUtf8}
-use Rattle.csv.specs.Records.{field_at}
+use Rattle.std.proofs.lemmas.Str.{IsAscii-drop, IsAscii-take, IsUtf8-from_ascii, IsUtf8-from_is_utf8, is_utf8-from_IsUtf8}
+use Rattle.csv.specs.Records.{cut_from, field_at, fields_of, text_of}
+use Rattle.csv.specs.Records.{Row as ByteRow}
 use Rattle.mari_rows.specs.First.{first_fault_after, unless_fault}
 use Rattle.mari_rows.specs.Records.{records_in}
 use Rattle.mari_rows.specs.Rows.{columns_of, fault_of_row, first_row_fault, is_header, rows_after_header, rows_checked, rows_from, rows_in, rows_of_width, IsFaultOf}
@@ -59,6 +60,18 @@ not_text (f ∷ fs) (suc i) x at bad = after (is_utf8 f) (not_text fs i x (grind
     after : (b : Bool) → false ≡ list_all is_utf8 fs → false ≡ (b && list_all is_utf8 fs)
     after true h = h
     after false h = refl
+
+-- fields of ASCII are text
+cut_text : (start : ℕ) (ends bytes : List ℕ) → IsAscii bytes → list_all is_utf8 (cut_from start ends bytes) ≡ true
+unfolding cut_from
+cut_text start [] bytes ascii = refl
+cut_text start (end ∷ ends) bytes ascii =
+    let field = take (end - start) (drop start bytes) in
+    let here : is_utf8 field ≡ true = is_utf8-from_IsUtf8 field (IsUtf8-from_ascii field (IsAscii-take (drop start bytes) (end - start) (IsAscii-drop bytes start ascii))) in
+    rw (here, cut_text end ends bytes ascii) refl
+
+pub ascii_text : (r : ByteRow) → IsAscii (text_of r) → list_all is_utf8 (fields_of r) ≡ true
+ascii_text r ascii = cut_text 0 r.ends r.bytes ascii
 
 -- where the lengths differ it is no header
 pub no_header : (columns fields : List (List ℕ)) → (length fields ≡ length columns → ⊥) → false ≡ is_header columns fields

@@ -57,7 +57,7 @@ module _ (most : ℕ) where
   after_byte ended.Field line commas more = more line (commas + 1)
   after_byte ended.Record line commas more = at_end line commas (more (line + 1) 0)
 
-  -- and from a state on, where so many fields of the record at hand are ended
+  -- and from a state on, where `commas` fields of the record at hand are ended
   abbrev pub first_from : State → (line commas : ℕ) → List ℕ → Option ℕ
   first_from s line commas [] = if ends_at_end s then at_end line commas None else None
   first_from s line commas (c ∷ rest) =

@@ -1,5 +1,5 @@
 -- Rows of very many fields.
-use Rattle.std.proofs.Common.{◌≡◌, ◌≤◌, ◌<◌, ◌+◌, ◌∙◌, ℕ, Bool, true, false, List, [], ◌∷◌, Option, Some, None, Result, Ok, Err, eqb, length, refl, sym, ap, arith, IfOk, MatchOption, OnOk, if◌then◌else◌}
+use Rattle.std.proofs.Common.{◌≡◌, ◌≤◌, ◌<◌, ◌+◌, ◌∙◌, ℕ, Bool, true, false, List, [], ◌∷◌, Option, Some, None, Result, Ok, Err, eqb, length, refl, sym, ap, arith, IfOk, OnOk, if◌then◌else◌}
 use Rattle.std.specs.Prelude.{nat_lt}
 use Rattle.std.specs.Cmp.Lexicographic.{as_long}
 use Rattle.std.specs.Option.{option_eq}
@@ -72,12 +72,13 @@ known-later rows rest row known next none =
     (known.0, known.1, known.2 ∙ ap (first_wide known.0) next ∙ narrow-row rows.width known.0 row rest known.1 none)
 
 -- and after the read of the next row
-pub known-after : (rows : TestedRows) (rest : List Row) (read : Result (Option Row) RowFault) → KnowsWide rows
-    → IfOk read (λ next. MatchOption next ((rows.rows ≡ []) × (rest ≡ [])) (λ row. (rows.rows ≡ row ∷ rest) × (fault_of_row rows.width row ≡ None)))
+pub known-after : (rows : TestedRows) (rest : List Row) (row : Row) (read : Result Bool RowFault) → KnowsWide rows
+    → IfOk read (λ found. found ≡ false → (rows.rows ≡ []) × (rest ≡ []))
+    → IfOk read (λ found. found ≡ true → (rows.rows ≡ row ∷ rest) × (fault_of_row rows.width row ≡ None))
     → OnOk read (KnowsWide (record rows { rows = rest }))
-known-after rows rest (Ok (Some row)) known next = known-later rows rest row known next.0 next.1
-known-after rows rest (Ok None) known next = (known.0, known.1, known.2 ∙ ap (first_wide known.0) (next.0 ∙ sym next.1))
-known-after rows rest (Err fault) known next = tt
+known-after rows rest row (Ok true) known none read = let next = read refl in known-later rows rest row known next.0 next.1
+known-after rows rest row (Ok false) known none read = let next = none refl in (known.0, known.1, known.2 ∙ ap (first_wide known.0) (next.0 ∙ sym next.1))
+known-after rows rest row (Err fault) known none read = tt
 
 -- no header is wide
 pub narrow-header : (most : ℕ) (columns : List (List ℕ)) (records : List (List (List ℕ))) (rows : List Row) → length columns ≤ most

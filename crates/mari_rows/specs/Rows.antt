@@ -20,7 +20,7 @@ rows_from line (fields ∷ records) = record { line = line; fields = fields } �
 abbrev pub columns_of : List ℕ → List (List ℕ)
 columns_of text = slice_split (λ b. b == 44) text
 
--- what is wrong with a row by itself, where so many fields are wanted
+-- what is wrong with a row by itself, where each has `width` fields
 abbrev pub fault_of_row : ℕ → Row → Option RowFault
 fault_of_row width row =
     if length row.fields == width

@@ -11,12 +11,12 @@ use Rattle.mari_rows.specs.declared.widths.Ended.TheVariants as ended
 use Rattle.mari_rows.specs.declared.widths.Place.{Place}
 use Rattle.mari_rows.specs.declared.widths.Place.TheVariants as place
 
--- the line of the first row with more than so many fields
+-- the line of the first row with more fields than `most`
 abbrev pub first_wide : (most : ℕ) → List Row → Option ℕ
 first_wide most [] = None
 first_wide most (row ∷ rows) = if nat_lt most (length row.fields) then Some row.line else first_wide most rows
 
--- the wide line is that of the first row with more than so many fields, at least as many as are wanted
+-- the wide line is that of the first row with more fields than some number, which is no less than the width
 abbrev pub KnowsWide : TestedRows → Type 0
 KnowsWide rows = (most : ℕ) × (rows.width ≤ most) × (rows.wide ≡ first_wide most rows.rows)
 

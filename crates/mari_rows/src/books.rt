@@ -63,7 +63,8 @@ fn book_of<S: BookSoFar + Drop>(
     requires none { S.Holds so_far [] }
     ensures { GivesBook result (book_of_read (S.grammar so_far) (rows_of_width lines.old.width lines.old.rows)) }
 {
-    'lines: while let Some(line) = lines.next()? {
+    let mut line = Row::none(alloc);
+    'lines: while lines.read(&mut line)? {
         if let Err(fault) = so_far.take(alloc, &line) {
             let first = first_refusal(lines, fault.at(line.line))?;
             return Err(first);
@@ -75,8 +76,8 @@ fn book_of<S: BookSoFar + Drop>(
     }
 }
 
-/// Reads the book of a page with these columns, whose names stand between the commas, or reports its first refusal. The
-/// page is read once.
+/// Reads the book of a page with these columns, whose names stand between the commas, or reports its first refusal. `csv`
+/// reads the page once.
 pub fn read_book<S: BookSoFar + Drop>(
     alloc: Global,
     page: &[u8],

@@ -1,15 +1,16 @@
 //! The fields of one record.
-ghost use Rattle.std.specs.Prelude.{◌≡◌, slice_get, option_map};
+ghost use Rattle.std.specs.Prelude.{◌≡◌, [], slice_get, option_map};
 ghost use Rattle.csv.specs.Records.{fields_of};
 
 use csv::ByteRecord;
+use std::alloc::Global;
 use std::marker::Model;
 
 /// The fields of one record, each of any bytes, which contracts see as the list of them. They lie one after the other in
 /// one buffer, so a record takes memory twice, however many fields it has.
 #[derive(Debug, Drop)]
 pub struct Fields {
-    row: ByteRecord,
+    pub(crate) row: ByteRecord,
 }
 
 impl Model for Fields {
@@ -27,6 +28,15 @@ impl Fields {
         ensures { result ≡ fields_of row }
     {
         Fields { row }
+    }
+
+    /// A place for the fields of a record, with none yet.
+    pub(crate) fn none(alloc: Global) -> Self
+        ensures { result ≡ [] }
+    {
+        Fields {
+            row: ByteRecord::new(alloc),
+        }
     }
 
     /// The bytes of the field at a place, counted from 0.

@@ -1,5 +1,5 @@
 //! The records of a page, one after the other.
-ghost use Rattle.std.specs.Prelude.{◌≡◌, ◌∷◌, [], map, IfErr, IfOk, OnErr, MatchOption};
+ghost use Rattle.std.specs.Prelude.{◌≡◌, ◌∷◌, [], None, true, false, map, IfErr, IfOk, OnErr, MatchOption};
 ghost use Rattle.std.specs.List.{list_all};
 ghost use Rattle.std.specs.Str.{is_utf8 as is_utf8_of};
 ghost use Rattle.csv.specs.Reading.{error_kind, NotLengths};
@@ -60,9 +60,9 @@ fn is_text(bytes: &[u8]) -> bool
     std::str::from_utf8(bytes).is_ok()
 }
 
-/// Whether each field of a record is text.
+/// Whether each field of a record is text, field by field.
 #[tactic(auto, using(crate::proofs::RowLemmas::text_more, crate::proofs::RowLemmas::not_text))]
-fn all_text(row: &ByteRecord) -> bool
+fn each_is_text(row: &ByteRecord) -> bool
     ensures { result ≡ list_all is_utf8_of (fields_of row.now) }
 {
     for i in 0..row.len() {
@@ -73,6 +73,14 @@ fn all_text(row: &ByteRecord) -> bool
         }
     }
     true
+}
+
+/// Whether each field of a record is text. ASCII, as most records are, is known from all its bytes at once.
+#[tactic(auto, using(crate::proofs::RowLemmas::ascii_text))]
+fn all_text(row: &ByteRecord) -> bool
+    ensures { result ≡ list_all is_utf8_of (fields_of row.now) }
+{
+    row.as_slice().is_ascii() || each_is_text(row)
 }
 
 /// What is wrong with a record of this line by itself, where `width` fields are wanted. No field is copied.
@@ -168,30 +176,31 @@ impl<'a> Records<'a> {
         Ok(Some(Fields::of(record)))
     }
 
-    /// The fields of the next record, of this line, which is tested by itself, where `width` fields are wanted. One with a
-    /// fault isn't copied. After an error there are no more.
-    pub(crate) fn next_tested(
+    /// Reads the next record, of this line, into a place for its fields, and tests it by itself, where `width` fields are
+    /// wanted; false where there is none. After an error there are no more.
+    pub(crate) fn read_of_width(
         &mut self,
         line: u32,
         width: usize,
-    ) -> Result<Option<Fields>, RowFault>
-        ensures next { IfOk result (λ next. MatchOption next ((self.old ≡ []) × (self.new ≡ [])) (λ fields. (self.old ≡ fields ∷ self.new) × (fault_of_row width (record { line = line; fields = fields }) ≡ None))) }
+        fields: &mut Fields,
+    ) -> Result<bool, RowFault>
+        ensures none { IfOk result (λ found. found ≡ false → (self.old ≡ []) × (self.new ≡ [])) }
+        ensures read { IfOk result (λ found. found ≡ true → (self.old ≡ fields.new ∷ self.new) × (fault_of_row width (record { line = line; fields = fields.new }) ≡ None)) }
         ensures fault { IfErr result (IsFaultOf (rows_of_width width (rows_from line self.old))) }
         ensures err { OnErr result (self.new ≡ []) }
     {
         if self.has_ended {
-            return Ok(None);
+            return Ok(false);
         }
         self.has_ended = true;
-        if !read_record(&mut self.reader, &mut self.row)? {
-            return Ok(None);
+        if !read_record(&mut self.reader, &mut fields.row)? {
+            return Ok(false);
         }
-        if let Some(fault) = fault_of(&self.row, line, width) {
+        if let Some(fault) = fault_of(&fields.row, line, width) {
             return Err(fault);
         }
-        let fields = Fields::of(self.row.clone()?);
         self.has_ended = false;
-        Ok(Some(fields))
+        Ok(true)
     }
 
     /// Whether the next record is these columns, if there is one. After `Memory` there are no more.

@@ -1,5 +1,5 @@
 //! The rows of a page: its records below the header, each with its line.
-ghost use Rattle.std.specs.Prelude.{◌≡◌, ◌≤◌, ◌∷◌, [], ℕ, All, List, length, map, IfErr, IfOk, IsOk, MatchOption, OnErr, OnOk};
+ghost use Rattle.std.specs.Prelude.{◌≡◌, ◌≤◌, ◌∷◌, [], ℕ, All, List, None, true, false, length, map, IfErr, IfOk, IsOk, MatchOption, OnErr, OnOk};
 ghost use Rattle.mari_rows.specs.Headers.{has_header as has_header_in};
 ghost use Rattle.mari_rows.specs.Records.{records_in};
 ghost use Rattle.mari_rows.specs.Rows.{columns_of as columns_in, fault_of_row, field_of, rows_after_header as rows_after_header_in, rows_from, rows_in, rows_of_width, IsFaultOf, TestsRow};
@@ -51,6 +51,14 @@ impl<'a> Model for RowReader<'a> {
 }
 
 impl Row {
+    /// A place for a row, with no fields yet.
+    pub(crate) fn none(alloc: Global) -> Row {
+        Row {
+            line: 0,
+            fields: Fields::none(alloc),
+        }
+    }
+
     /// The field at a place, and nothing past the last.
     pub fn field(&self, place: usize) -> &[u8]
         ensures { result.now ≡ field_of self.now place }
@@ -78,20 +86,22 @@ impl<'a> RowReader<'a> {
         }
     }
 
-    /// The next row, which is tested by itself, where `width` fields are wanted. After an error there are no more.
-    pub(crate) fn next_tested(&mut self, width: usize) -> Result<Option<Row>, RowFault>
-        ensures next { IfOk result (λ next. MatchOption next ((self.old ≡ []) × (self.new ≡ [])) (λ row. (self.old ≡ row ∷ self.new) × (fault_of_row width row ≡ None))) }
+    /// Reads the next row into this one, and tests it by itself, where `width` fields are wanted; false where there is
+    /// none. After an error there are no more.
+    pub(crate) fn read_of_width(&mut self, width: usize, row: &mut Row) -> Result<bool, RowFault>
+        ensures none { IfOk result (λ found. found ≡ false → (self.old ≡ []) × (self.new ≡ [])) }
+        ensures read { IfOk result (λ found. found ≡ true → (self.old ≡ row.new ∷ self.new) × (fault_of_row width row.new ≡ None)) }
         ensures fault { IfErr result (IsFaultOf (rows_of_width width self.old)) }
         ensures err { OnErr result (self.new ≡ []) }
     {
-        match self.records.next_tested(self.line, width)? {
-            None => Ok(None),
-            Some(fields) => {
-                let line = self.line;
-                self.line += 1;
-                Ok(Some(Row { line, fields }))
-            }
+        let found = self
+            .records
+            .read_of_width(self.line, width, &mut row.fields)?;
+        if found {
+            row.line = self.line;
+            self.line += 1;
         }
+        Ok(found)
     }
 
     /// The line of the next row, if there is one.

@@ -1,5 +1,5 @@
 //! The rows of a page, each tested by itself as it is read.
-ghost use Rattle.std.specs.Prelude.{◌≡◌, ◌≤◌, ◌∷◌, [], length, IfErr, IfOk, IfSome, MatchOption, OnOk};
+ghost use Rattle.std.specs.Prelude.{◌≡◌, ◌≤◌, ◌∷◌, [], None, true, false, length, IfErr, IfOk, IfSome, OnOk};
 ghost use Rattle.mari_rows.specs.Rows.{fault_of_row, first_row_fault, rows_in, rows_of_width, IsFaultOf};
 ghost use Rattle.mari_rows.specs.Widths.{KnowsWide};
 
@@ -53,10 +53,12 @@ impl<'a> TestedRows<'a> {
         }
     }
 
-    /// The next row, or what is wrong with it by itself. After an error no row is to be read.
-    pub(crate) fn next(&mut self) -> Result<Option<Row>, RowFault>
+    /// Reads the next row into this one, or reports what is wrong with it by itself; false where there is none. After an
+    /// error no row is to be read.
+    pub(crate) fn read(&mut self, row: &mut Row) -> Result<bool, RowFault>
         requires { KnowsWide self.old }
-        ensures next { IfOk result (λ next. MatchOption next (self.old.rows ≡ []) (λ row. (self.old.rows ≡ row ∷ self.new.rows) × (fault_of_row self.old.width row ≡ None))) }
+        ensures none { IfOk result (λ found. found ≡ false → self.old.rows ≡ []) }
+        ensures read { IfOk result (λ found. found ≡ true → (self.old.rows ≡ row.new ∷ self.new.rows) × (fault_of_row self.old.width row.new ≡ None)) }
         ensures width { self.new.width ≡ self.old.width }
         ensures wide { OnOk result (KnowsWide self.new) }
         ensures fault { IfErr result (IsFaultOf (rows_of_width self.old.width self.old.rows)) }
@@ -64,10 +66,10 @@ impl<'a> TestedRows<'a> {
         if let Some(fault) = self.wide_fault() {
             return Err(fault);
         }
-        self.rows.next_tested(self.width)
+        self.rows.read_of_width(self.width, row)
     }
 
-    /// The first row with a fault by itself. No row is copied.
+    /// The first fault that a row has by itself, if there is one. No row is copied.
     pub(crate) fn first_fault(&mut self) -> Result<Option<RowFault>, Memory>
         requires { KnowsWide self.old }
         ensures { IfOk result (λ fault. fault ≡ first_row_fault self.old.width self.old.rows) }

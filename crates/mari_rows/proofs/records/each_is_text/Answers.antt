@@ -2,8 +2,8 @@ use Rattle.std.proofs.Common.{rules}
 use Rattle.csv.specs.Records.{fields_of}
 use Rattle.csv.proofs.RecordFacts.{field-there}
 use Rattle.mari_rows.proofs.RowLemmas.{text_more}
-use Rattle.mari_rows.proofs.records.all_text.Goals.{in-Some+else-not-is_text, in_default}
-use Rattle.mari_rows.proofs.records.all_text.Goals as goal
+use Rattle.mari_rows.proofs.records.each_is_text.Goals.{in-Some+else-not-is_text, in_default}
+use Rattle.mari_rows.proofs.records.each_is_text.Goals as goal
 
 pub loop-i-preserved : goal.loop-i-preserved
 loop-i-preserved c =

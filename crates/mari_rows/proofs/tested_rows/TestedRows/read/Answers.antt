@@ -1,6 +1,6 @@
 use Rattle.mari_rows.proofs.RowLemmas.{fault-among}
 use Rattle.mari_rows.proofs.WideLemmas.{known-after}
-use Rattle.mari_rows.proofs.tested_rows.TestedRows.next.Goals as goal
+use Rattle.mari_rows.proofs.tested_rows.TestedRows.read.Goals as goal
 
 pub returns-in-Some-clause-fault : goal.returns-in-Some-clause-fault
 returns-in-Some-clause-fault c =
@@ -8,4 +8,4 @@ returns-in-Some-clause-fault c =
     fault-among rows.width rows.rows c.in-Some.fault c.in-Some.ensures
 
 pub returns-clause-wide : goal.returns-clause-wide
-returns-clause-wide c = known-after c.args.self.now c.next_tested.new.self c.next_tested.result c.requires c.next_tested.ensures.next
+returns-clause-wide c = known-after c.args.self.now c.read_of_width.new.self c.read_of_width.new.row c.read_of_width.result c.requires c.read_of_width.ensures.none c.read_of_width.ensures.read

@@ -12,28 +12,39 @@ ghost use Rattle.mari_market.specs.Prefix.{word_of, bounds_at, IsFeasiblePrefix}
 ghost use Rattle.mari_market.specs.Price.{ArePrices};
 ghost use Rattle.mari_market.specs.Relaxation.{IsWithinBounds, IsRelaxedWelfare};
 ghost use Rattle.mari_network.specs.Orders.{slots_of, AreOrderSlots};
-ghost use Rattle.mari_network.specs.Solving.{NoneWithin, OfCut, IsAnswer};
+ghost use Rattle.mari_network.specs.Solving.{NoneWithin, OfCut, IsFoundOptimum};
 
 use crate::run::run;
 use crate::start::{first_amounts, with_stand_ins};
 use mari_market::{Market, Prefix};
-use mari_network::{Slot, SolveFault, Solved, answer, network_of, order_slots, places_of};
+use mari_network::{Optimum, Slot, SolveFault, Solved, answer, network_of, order_slots, places_of};
 use std::alloc::Global;
 
 /// The relaxed optimum of a market whose orders may run within these slots, or a cut.
-fn solve_slots(alloc: Global, market: &Market, reals: &[Slot]) -> Result<Solved, SolveFault>
+fn solve_slots(alloc: Global, market: &Market, reals: &[Slot]) -> Result<Optimum, SolveFault>
     requires market { IsValid market.now }
     requires reals { AreOrderSlots market.now.zones market.now.orders reals.now }
-    ensures { (spans : Order → Span) → reals.now ≡ slots_of spans market.now.orders → IsAnswer spans market.now result }
+    ensures { (spans : Order → Span) → reals.now ≡ slots_of spans market.now.orders → IsFoundOptimum spans market.now result }
 {
     let all = with_stand_ins(alloc, reals)?;
     let slots = all.as_slice();
-    let places = places_of(alloc, market, slots)?;
+    let places = places_of(alloc, market, slots, slots.len())?;
     let network = network_of(market, slots, &places);
     let mut amounts = first_amounts(alloc, reals)?;
     let mut flows = vec![in alloc; 0i64; network.borders.len()]?;
     let prices = run(alloc, &network, &mut amounts, &mut flows)?;
-    answer(alloc, market, &network, &amounts, &flows, &prices)
+    answer(alloc, market, &network, amounts, flows, &prices)
+}
+
+/// The relaxed optimum of a prefix as the network has it, or a cut.
+fn optimum_at(alloc: Global, market: &Market, prefix: &Prefix) -> Result<Optimum, SolveFault>
+    requires market { IsValid market.now }
+    requires prefix { IsFeasiblePrefix market.now prefix.now }
+    ensures found { IsFoundOptimum (bounds_at market.now prefix.now) market.now result }
+    ensures empty { IfErr result (λ fault. OfCut fault (λ _. NoneWithin (bounds_at market.now prefix.now) market.now)) }
+{
+    let reals = order_slots(alloc, market, prefix)?;
+    solve_slots(alloc, market, &reals)
 }
 
 /// The relaxed optimum of a prefix: an activation within its bounds, where orders of undecided gates may run anything
@@ -62,6 +73,6 @@ pub fn solve(alloc: Global, market: &Market, prefix: &Prefix) -> Result<Solved, 
     ensures cut { IfErr result (λ fault. OfCut fault (IsCut (bounds_at market.now prefix.now) market.now)) }
     ensures empty { IfErr result (λ fault. OfCut fault (λ _. NoneWithin (bounds_at market.now prefix.now) market.now)) }
 {
-    let reals = order_slots(alloc, market, prefix)?;
-    solve_slots(alloc, market, &reals)
+    let optimum = optimum_at(alloc, market, prefix)?;
+    Ok(optimum.solved(alloc, market)?)
 }

@@ -1,5 +1,6 @@
 pub mod Chains
 pub mod Fits
+pub mod Gathered
 pub mod Levels
 pub mod Lists
 pub mod Marginal
@@ -7,10 +8,12 @@ pub mod Marks
 pub mod Meetings
 pub mod Outcomes
 pub mod Readings
+pub mod Rungs
 pub mod Settles
 pub mod Shortfalls
 pub mod Spread
 pub mod StandIns
 pub mod Transfers
 pub mod Worths
+pub mod Written
 pub mod Zones

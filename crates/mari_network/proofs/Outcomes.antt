@@ -25,7 +25,7 @@ use Rattle.mari_network.proofs.Lists.{all_zip, zip_of, zip_long, zip_first, zip_
 use Rattle.mari_network.proofs.Shortfalls.{RunsSlot, RunsFlow, IsReal, AreLowest, AreHighest, out_of, into_of, least_in, most_in_slot, counts, paid_slot, paid_is_cost, shortfall_out, shortfall_in}
 use Rattle.mari_market.proofs.Duality.{cost_at}
 use Rattle.mari_network.proofs.Chains.{if_none}
-use Rattle.mari_network.proofs.Transfers.{IsOptimum, optimum_from}
+use Rattle.mari_network.proofs.Transfers.{IsBest, best_from}
 use Rattle.mari_market.proofs.Sums.{AllZip-at, int_sum-map}
 
 sum_split : {X Y : Type 0} (f : X → Y → ℤ) (P : X → Y → Type 0) (ss rs : List X) (ys : List Y)
@@ -70,11 +70,11 @@ pub ends_solved : (bounds : Order → Span) (m : Market) (more : List Slot) (a :
     → Ends bounds m more xs a.flow p → ArePuts m.orders (take (length (slots_of bounds m.orders)) xs) a.mw
     → ((z : ℕ) → z < m.zones → price_at ps z ≡ capped (p z))
     → ((j : ℕ) → j < length (drop (length (slots_of bounds m.orders)) xs) → int_at xs (length (slots_of bounds m.orders) + j) ≡ pos 0)
-    → IsOptimum bounds m a ps
+    → IsBest bounds m a ps
 ends_solved bounds m more a ps p xs e puts prices none =
     let reals = slots_of bounds m.orders in
     let all = runs bounds m more xs a.flow p e in
-    optimum_from bounds m a ps p (take (length (slots_of bounds m.orders)) xs) e.valid puts prices
+    best_from bounds m a ps p (take (length (slots_of bounds m.orders)) xs) e.valid puts prices
     (zip_first IsWithinSlot (slots_of bounds m.orders) more xs e.running.amounts) e.running.flows
     (λ z l. omega (arith, ints, e.running.balance z l, sum_split (slot_into z) IsWithinSlot (slots_of bounds m.orders) more xs e.running.amounts, into_none z more (drop (length (slots_of bounds m.orders)) xs) (λ k h. get_or-drop (length (slots_of bounds m.orders)) xs k (pos 0) ∙ none k h)))
     (zip_first (IsTightSlot p) (slots_of bounds m.orders) more xs (zip_of (IsTightSlot p) (slots_of bounds m.orders ++ more) xs no_slot (pos 0) (zip_long IsWithinSlot (slots_of bounds m.orders ++ more) xs e.running.amounts) e.tight.slots_tight))

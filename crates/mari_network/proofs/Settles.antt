@@ -20,20 +20,21 @@ use Rattle.mari_market.specs.Market.{IsValid}
 use Rattle.mari_market.specs.Price.{price_at, IsPrice}
 use Rattle.mari_network.specs.declared.slots.Slot.{Slot}
 use Rattle.mari_network.specs.declared.slots.TheConstants.{BEYOND}
-use Rattle.mari_market.specs.Sums.{int_at}
+use Rattle.mari_market.specs.Sums.{int_at, sum_along}
 use Rattle.mari_network.specs.Slots.{IsWithinSlot, IsRunning}
 use Rattle.mari_network.specs.Levels.{AreTight}
+use Rattle.mari_network.specs.declared.optimum.Optimum.{Optimum}
 use Rattle.mari_network.specs.declared.optimum.Solved.{Solved}
 use Rattle.mari_network.specs.declared.network.Network.{Network as NetworkRecord}
 use Rattle.mari_network.specs.Network.{IsNetwork, Runs}
 use Rattle.mari_network.specs.Searching.{AreTightPrices}
-use Rattle.mari_network.specs.Solving.{IsSolution, IsNetworkOf, AreSlotsOf}
+use Rattle.mari_network.specs.Solving.{IsSolution, IsOptimum, IsNetworkOf, AreSlotsOf}
 use Rattle.mari_market.specs.declared.market.Border.{Border}
-use Rattle.mari_network.specs.Orders.{slot_of, slots_of, ArePuts, CanPut, capped_cents, is_inside}
+use Rattle.mari_network.specs.Orders.{amount_gain, slot_of, slots_of, ArePuts, CanPut, capped_cents, is_inside}
 use Rattle.std.specs.Int.{int_max}
 use Rattle.mari_network.proofs.Lists.{zip_long}
 use Rattle.mari_network.proofs.Shortfalls.{AreLowest, AreHighest}
-use Rattle.mari_network.proofs.Transfers.{IsOptimum, capped_prices}
+use Rattle.mari_network.proofs.Transfers.{IsBest, capped_prices, puts_gain}
 use Rattle.mari_network.proofs.Outcomes.{Ends, ends_solved, ends_cut_out, ends_cut_in}
 
 can_between : (side : Side) (low high x : ℤ) → CanPut side low → CanPut side high → low ≤ℤ x → x ≤ℤ high → CanPut side x
@@ -63,17 +64,17 @@ ends spans m more n xs fs prices e v network same runs tight = record {
       (subst (λ (bs : List Border). AreTight n.slots.now bs xs fs (int_at prices)) same.borders tight.tight);
 }
 
--- where nothing stands in for an order, the orders' amounts are the relaxed optimum
-pub answer_optimum : (spans : Order → Span) (m : Market) (more : List Slot) (n : NetworkRecord) (s : Solved) (xs fs prices : List ℤ)
+-- where nothing stands in for an order, an activation of the orders' amounts is the relaxed optimum
+solution : (spans : Order → Span) (m : Market) (more : List Slot) (n : NetworkRecord) (s : Solved) (xs fs prices : List ℤ)
     → AreSlotsOf spans m more n.slots.now → IsValid m → IsNetwork n → IsNetworkOf m n → Runs n xs fs
     → AreTightPrices n xs fs prices
     → s.activation.flow ≡ fs → ArePuts m.orders (take (length m.orders) xs) s.activation.mw → s.potentials.cents ≡ map capped_cents prices → pos
     s.welfare ≡ int_max (pos 0) (welfare_of m s.activation) → ((k : ℕ) → length m.orders ≤ k → k < length xs → int_at xs k ≡ pos 0)
     → IsSolution spans m s
-answer_optimum spans m more n s xs fs prices e v network same runs tight flow puts made stated none =
+solution spans m more n s xs fs prices e v network same runs tight flow puts made stated none =
     let reals : length (slots_of spans m.orders) ≡ length m.orders = length-map m.orders (λ (o : Order). slot_of (spans o) o) in
     let long : length prices ≡ m.zones = tight.one_each ∙ same.zones in
-    let best : IsOptimum spans m s.activation s.potentials.cents =
+    let best : IsBest spans m s.activation s.potentials.cents =
     ends_solved spans m more s.activation s.potentials.cents (int_at prices) xs
     (subst (λ (gs : List ℤ). Ends spans m more xs gs (int_at prices)) (sym flow) (ends spans m more n xs fs prices e v network same runs tight))
     (subst (λ (k : ℕ). ArePuts m.orders (take k xs) s.activation.mw) (sym reals) puts)
@@ -91,6 +92,27 @@ answer_optimum spans m more n s xs fs prices e v network same runs tight flow pu
       };
       stated = stated;
     }
+
+-- and so an optimum of these amounts, flows and prices is one
+pub answer_optimum : (spans : Order → Span) (m : Market) (more : List Slot) (n : NetworkRecord) (o : Optimum) (xs fs prices : List ℤ)
+    → AreSlotsOf spans m more n.slots.now → IsValid m → IsNetwork n → IsNetworkOf m n → Runs n xs fs
+    → AreTightPrices n xs fs prices
+    → o.amounts.items ≡ xs → o.flows.items ≡ fs → o.potentials.cents ≡ map capped_cents prices
+    → pos o.welfare ≡ int_max (pos 0) (sum_along amount_gain m.orders (take (length m.orders) xs))
+    → length m.orders ≤ length xs → AllZip (λ (o : Order) (x : ℤ). CanPut o.side x) m.orders (take (length m.orders) xs)
+    → ((k : ℕ) → length m.orders ≤ k → k < length xs → int_at xs k ≡ pos 0)
+    → IsOptimum spans m o
+answer_optimum spans m more n o xs fs prices e v network same runs tight amounts flows made stated long can none = record {
+  fits = record {
+    long = omega (arith, long, ap (λ (ys : List ℤ). length ys) amounts);
+    puts = subst (λ (ys : List ℤ). AllZip (λ (o : Order) (x : ℤ). CanPut o.side x) m.orders (take (length m.orders) ys)) (sym amounts) can;
+  };
+  solution = λ a w.
+      let puts : ArePuts m.orders (take (length m.orders) xs) a.mw = subst (λ (ys : List ℤ). ArePuts m.orders (take (length m.orders) ys) a.mw) amounts w.puts in
+      solution spans m more n (record { activation = a; potentials = o.potentials; welfare = o.welfare }) xs fs prices e v network same runs tight
+      (w.flow ∙ flows) puts made
+      (stated ∙ ap (λ (x : ℤ). int_max (pos 0) x) (puts_gain m.orders (take (length m.orders) xs) a.mw puts)) none;
+}
 
 not_less : (a b : ℤ) → lt_z a b ≡ false → b ≤ℤ a
 not_less a b e = grind (arith, ints)

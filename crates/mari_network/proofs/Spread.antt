@@ -1,7 +1,7 @@
 -- One zone more that is reached.
-use Rattle.std.proofs.Common.{◌≡◌, ◌≢◌, ◌⊎◌, Bool, true, false, ℕ, ◌+◌, ◌<◌, ℤ, pos, ◌≤ℤ◌, List, [], ◌∷◌, ◌++◌, length, set, arith, refl, sym, ap, subst, ◌∙◌, inl, inr, length-set}
+use Rattle.std.proofs.Common.{◌≡◌, ◌≢◌, ◌⊎◌, Bool, true, false, ℕ, ◌+◌, ◌<◌, ℤ, pos, ◌≤ℤ◌, ◌<ℤ◌, ◌==◌, List, [], ◌∷◌, ◌++◌, length, set, arith, refl, sym, ap, subst, ◌∙◌, inl, inr, length-set}
 use Rattle.std.proofs.lemmas.List.{get_or_append_left, get_or_push, length_push}
-use Rattle.std.proofs.lemmas.Bool.{cases_lt}
+use Rattle.std.proofs.lemmas.Bool.{cases_lt, eqb-false, eqb-true}
 use Rattle.std.specs.List.{All, AllZip}
 use Rattle.std.proofs.lemmas.List.Elements.{All-contains}
 use Rattle.mari_market.specs.declared.market.Border.{Border}
@@ -9,7 +9,7 @@ use Rattle.mari_network.specs.declared.chain.Hop.{Hop}
 use Rattle.mari_network.specs.Network.{no_border, border_at, Meets, AreMeeting}
 use Rattle.mari_market.specs.Sums.{int_at}
 use Rattle.mari_network.proofs.Lists.{zip_of}
-use Rattle.mari_network.specs.Chain.{no_hop, hop_at, tail_of, head_of, hop_room, IsHop, HasRoom}
+use Rattle.mari_network.specs.Chain.{no_hop, hop_at, tail_of, head_of, hop_room, room_of, IsHop, HasRoom}
 use Rattle.mari_network.specs.Chain.HasRoom.{begins, goes_on}
 use Rattle.mari_network.specs.Spread.{is_marked, AreClosed, MarkedInto, Keeps, IsSpread}
 use Rattle.mari_network.proofs.Marks.{marked_set, keep_mark, set_mark, count_mark, not_both, is_false}
@@ -193,9 +193,17 @@ closed_more old marked hops (b ∷ bs) (f ∷ fs) news k into a = (
 closed_more old marked hops [] (f ∷ fs) news k into a = absurd a
 closed_more old marked hops (b ∷ bs) [] news k into a = absurd a
 
-pub by_ways : (P : Bool → Type 0) → P true → P false → (b : Bool) → P b
-by_ways P t f true = t
-by_ways P t f false = f
+-- a border is looked at the way that leads into the marked zone
+pub one_way : (marked : List Bool) (b : Border) (f : ℤ) (y : ℕ) → is_marked marked y ≡ true
+    → (pos 0 <ℤ room_of (b.to == y) b f → head_of (b.to == y) b ≡ y → is_marked marked (tail_of (b.to == y) b) ≡ true) → MarkedInto marked y b f
+one_way marked b f y here leads way r e = by way (b.to == y) refl leads r e
+  where
+    by : (way forth : Bool) → (b.to == y) ≡ forth → (pos 0 <ℤ room_of forth b f → head_of forth b ≡ y → is_marked marked (tail_of forth b) ≡ true)
+        → pos 0 <ℤ room_of way b f → head_of way b ≡ y → is_marked marked (tail_of way b) ≡ true
+    by true true same leads r e = leads r e
+    by false false apart leads r e = leads r e
+    by false true same leads r e = subst (λ z. is_marked marked z ≡ true) (sym (eqb-true b.to y same)) here
+    by true false apart leads r e = absurd (eqb-false b.to y apart e)
 
 -- the zone where energy comes in is met
 head_meets : (forth : Bool) (b : Border) (y : ℕ) → head_of forth b ≡ y → Meets b y

@@ -1,9 +1,10 @@
 -- What is tight for the slots is tight for the orders.
-use Rattle.std.proofs.Common.{◌≡◌, ◌==◌, if◌then◌else◌, ℕ, ◌<◌, ℤ, pos, neg_ℤ, ◌+ℤ◌, ◌≤ℤ◌, ◌<ℤ◌, List, [], ◌∷◌, length, arith, refl, sym, ap, ◌∙◌, subst, take, get_or, ◌++◌, ◌+◌, zero, suc, map}
+use Rattle.std.proofs.Common.{◌≡◌, ◌==◌, if◌then◌else◌, ℕ, ◌<◌, ◌*◌, ℤ, pos, neg_ℤ, ◌*ℤ◌, ◌≤ℤ◌, ◌<ℤ◌, List, [], ◌∷◌, length, arith, refl, sym, ap, ◌∙◌, subst, take, get_or, ◌++◌, ◌+◌, zero, suc, map}
 use Rattle.std.proofs.lemmas.Int.{ints, clamps}
 use Rattle.std.specs.List.{All, AllZip}
 use Rattle.std.proofs.lemmas.List.Elements.{All-head, All-tail}
 use Rattle.mari_units.specs.declared.Cents.{Cents}
+use Rattle.mari_units.specs.declared.limits.TheConstants.{MOST_MW}
 use Rattle.mari_market.specs.declared.market.Side.{Side}
 use Rattle.mari_market.specs.declared.market.Side.TheVariants.{Inject, Withdraw}
 use Rattle.mari_market.specs.declared.market.Order.{Order}
@@ -11,7 +12,7 @@ use Rattle.mari_market.specs.declared.market.Border.{Border}
 use Rattle.mari_market.specs.declared.market.Market.{Market}
 use Rattle.mari_market.specs.declared.activation.Activation.{Activation}
 use Rattle.mari_market.specs.Sums.{sum_along}
-use Rattle.mari_market.specs.Activation.{put_in, put_into, carried_out, IsWithinLimits, welfare_of}
+use Rattle.mari_market.specs.Activation.{put_in, gain, order_gain, put_into, carried_out, IsWithinLimits, welfare_of}
 use Rattle.mari_market.specs.Bounds.{Span, IsWithin}
 use Rattle.mari_market.specs.Consistent.{IsConsistentBorder, IsConsistentFlow}
 use Rattle.mari_market.specs.Dual.{dual_value_of, IsTightTrade, IsTightOrder, IsTight}
@@ -21,9 +22,10 @@ use Rattle.mari_market.specs.Relaxation.{IsWithinBounds, IsRelaxed}
 use Rattle.mari_market.specs.Cut.{least_put, most_put}
 use Rattle.std.proofs.lemmas.List.{length-map, get_or-map}
 use Rattle.mari_market.proofs.Duality.{weak_duality}
+use Rattle.mari_market.proofs.Ints.{between, mul-neg_z, neg-mul_z}
 use Rattle.mari_market.proofs.Tight.{tight_is_equal}
 use Rattle.mari_network.specs.Slots.{slot_into, IsWithinSlot, IsTightSlot}
-use Rattle.mari_network.specs.Orders.{slots_of, ArePuts, capped, capped_cents}
+use Rattle.mari_network.specs.Orders.{amount_gain, slots_of, ArePuts, capped, capped_cents, CanPut}
 
 trade_within : (side : Side) (s : Span) (q : ℕ) → least_put side s ≤ℤ put_in side q → put_in side q ≤ℤ most_put side s → IsWithin s q
 trade_within Inject s q l h = record { least = omega (arith, ints, l, h); most = omega (arith, ints, l, h) }
@@ -81,20 +83,20 @@ flows_tight n p ps [] (f ∷ fs) e v t = absurd t
 flows_tight n p ps (b ∷ bs) [] e v t = absurd t
 
 -- an activation that is the relaxed optimum, with potentials that are tight for it
-pub record IsOptimum (bounds : Order → Span) (m : Market) (a : Activation) (ps : List Cents) : Type 0 where
+pub record IsBest (bounds : Order → Span) (m : Market) (a : Activation) (ps : List Cents) : Type 0 where
   pub within : IsWithinBounds bounds m a
   pub relaxed : IsRelaxed bounds m (welfare_of m a)
   pub dual : dual_value_of bounds m ps ≡ welfare_of m a
   pub tight : IsTight bounds m a ps
 
 -- the orders' part of slots in balance
-pub optimum_from : (bounds : Order → Span) (m : Market) (a : Activation) (ps : List Cents) (p : ℕ → ℤ) (xs : List ℤ) → IsValid m
+pub best_from : (bounds : Order → Span) (m : Market) (a : Activation) (ps : List Cents) (p : ℕ → ℤ) (xs : List ℤ) → IsValid m
     → ArePuts m.orders xs a.mw → ((z : ℕ) → z < m.zones → price_at ps z ≡ capped (p z))
     → AllZip IsWithinSlot (slots_of bounds m.orders) xs → AllZip IsWithinLimits m.borders a.flow
     → ((z : ℕ) → z < m.zones → sum_along (slot_into z) (slots_of bounds m.orders) xs ≡ sum_along (carried_out z) m.borders a.flow)
     → AllZip (IsTightSlot p) (slots_of bounds m.orders) xs → AllZip (IsConsistentFlow p) m.borders a.flow
-    → IsOptimum bounds m a ps
-optimum_from bounds m a ps p xs v puts prices within limits balance slots flows =
+    → IsBest bounds m a ps
+best_from bounds m a ps p xs v puts prices within limits balance slots flows =
     let in_bounds : IsWithinBounds bounds m a = record { orders = orders_within bounds m.orders xs a.mw puts within; borders = limits; balance = λ z l. orders_into z bounds m.orders xs a.mw puts ∙ balance z l } in
     let all_tight : IsTight bounds m a ps = record { orders = orders_tight bounds m.zones (length m.gates) p ps m.orders xs a.mw prices v.orders puts slots; borders = flows_tight m.zones p ps m.borders a.flow prices v.borders flows } in
     let equal = tight_is_equal bounds m a ps v in_bounds all_tight in
@@ -117,17 +119,35 @@ puts_more (o ∷ os) (x ∷ xs) (p ∷ qs) (suc i) d q h l a e =
     let k : suc (i + 1) ≡ suc i + 1 = omega arith in
     subst (λ (n : ℕ). ArePuts (take n (o ∷ os)) (take n (x ∷ xs)) (p ∷ (qs ++ q ∷ []))) k (a.0, puts_more os xs qs i d q (omega arith) (omega arith) a.1 e)
 
--- with one order and quantity more their sum is that much more
-pub gains_more : (f : Order → ℕ → ℤ) (os : List Order) (qs : List ℕ) (i : ℕ) (d : Order) (q : ℕ) → i < length os
-    → length qs ≡ i → sum_along f (take (i + 1) os) (qs ++ q ∷ []) ≡ sum_along f (take i os) qs +ℤ f (get_or os i d) q
-gains_more f [] qs i d q h l = absurd (omega arith)
-gains_more f (o ∷ os) [] zero d q h l = omega (arith, ints)
-gains_more f (o ∷ os) [] (suc i) d q h l = absurd (omega arith)
-gains_more f (o ∷ os) (p ∷ qs) zero d q h l = absurd (omega arith)
-gains_more f (o ∷ os) (p ∷ qs) (suc i) d q h l =
-    let k : suc (i + 1) ≡ suc i + 1 = omega arith in
-    subst (λ (n : ℕ). sum_along f (take n (o ∷ os)) (p ∷ (qs ++ q ∷ [])) ≡ (f o p +ℤ sum_along f (take i os) qs) +ℤ f (get_or os i d) q) k
-    (let rest : sum_along f (take (i + 1) os) (qs ++ q ∷ []) ≡ sum_along f (take i os) qs +ℤ f (get_or os i d) q = gains_more f os qs i d q (omega arith) (omega arith) in omega (arith, ints, rest))
+-- the amounts are worth what the quantities are
+trade_gain : (side : Side) (c x : ℤ) (q : ℕ) → x ≡ put_in side q → neg_ℤ (c *ℤ x) ≡ gain side c q
+trade_gain Inject c x q e = ap (λ (v : ℤ). neg_ℤ (c *ℤ v)) e
+trade_gain Withdraw c x q e = omega (arith, ints, ap (λ (v : ℤ). c *ℤ v) e, mul-neg_z c (pos q))
+
+pub puts_gain : (os : List Order) (xs : List ℤ) (qs : List ℕ) → ArePuts os xs qs → sum_along amount_gain os xs ≡ sum_along order_gain os qs
+puts_gain [] [] [] r = refl
+puts_gain (o ∷ os) (x ∷ xs) (q ∷ qs) r = omega (arith, ints, puts_gain os xs qs r.1, trade_gain o.side o.price.0 x q r.0)
+puts_gain [] [] (q ∷ qs) r = absurd r
+puts_gain [] (x ∷ xs) qs r = absurd r
+puts_gain (o ∷ os) [] qs r = absurd r
+puts_gain (o ∷ os) (x ∷ xs) [] r = absurd r
+
+can_near : (side : Side) (x : ℤ) → CanPut side x → (neg_ℤ (pos MOST_MW) ≤ℤ x) × (x ≤ℤ pos MOST_MW)
+can_near Inject x can = (omega (arith, ints, can.0), can.1)
+can_near Withdraw x can = (can.0, omega (arith, ints, can.1))
+
+near_product : (c x : ℤ) → IsPrice c → (neg_ℤ (pos MOST_MW) ≤ℤ x) × (x ≤ℤ pos MOST_MW) → (c *ℤ x) ≤ℤ pos (9999900 * 99999)
+near_product c x price near = omega (arith, ints, clamps, price.low, price.high, between c (neg_ℤ (pos MOST_MW)) x (pos MOST_MW) near.0 near.1, mul-neg_z c (pos MOST_MW))
+
+-- what an order adds is at most a greatest price and quantity together
+pub small_gain : (o : Order) (x : ℤ) → IsPrice o.price.0 → CanPut o.side x
+    → (neg_ℤ (pos (9999900 * 99999)) ≤ℤ amount_gain o x) × (amount_gain o x ≤ℤ pos (9999900 * 99999))
+small_gain o x price can =
+    let near = can_near o.side x can in
+    let back : IsPrice (neg_ℤ o.price.0) = record { low = omega (arith, ints, price.high); high = omega (arith, ints, price.low) } in (
+      omega (arith, ints, near_product o.price.0 x price near),
+      omega (arith, ints, near_product (neg_ℤ o.price.0) x back near, neg-mul_z o.price.0 x),
+    )
 
 -- prices within the cap
 pub capped_prices : (prices : List ℤ) → All (λ (c : Cents). IsPrice c.0) (map capped_cents prices)

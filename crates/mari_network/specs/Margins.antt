@@ -1,10 +1,11 @@
 -- Marginal slots: in each zone the dearest that may put in less, and the cheapest that may put in more.
-use Rattle.std.specs.Prelude.{◌≡◌, ◌≢◌, Bool, true, false, ℕ, ◌<◌, ℤ, ◌≤ℤ◌, ◌<ℤ◌, List, length, slice_index_or, Option, Some, None, MatchOption}
+use Rattle.std.specs.Prelude.{◌≡◌, ◌≢◌, ◌⊎◌, Bool, true, false, ℕ, ◌<◌, ◌≤◌, ℤ, ◌≤ℤ◌, ◌<ℤ◌, List, length, slice_index_or, Option, Some, None, MatchOption}
 use Rattle.mari_market.specs.Sums.{int_at}
 use Rattle.mari_network.specs.declared.slots.Slot.{Slot}
 use Rattle.mari_network.specs.declared.margins.Margin.{Margin}
 use Rattle.mari_network.specs.Slots.{slot_at, zone_of, price_of, CanLess, CanMore}
-use Rattle.mari_network.specs.Network.{place_at}
+use Rattle.mari_network.specs.declared.network.Rung.{Rung}
+use Rattle.mari_network.specs.Network.{rung_at}
 use Rattle.mari_network.specs.Spread.{is_marked}
 
 abbrev pub no_margin : Margin
@@ -70,15 +71,68 @@ pub record IsCheapestOf (slots : List Slot) (margins : List Margin) (marked : Li
   pub one : (i : ℕ) → best ≡ Some i → (z : ℕ) × (z < n) × (is_marked marked z ≡ true) × (cheapest_at margins z ≡ Some i)
   pub all : (z i : ℕ) → z < n → is_marked marked z ≡ true → cheapest_at margins z ≡ Some i → IsBelow slots (price_of slots i) best
 
--- the dearest of the slots at the first n places that may put in less, if there is one
-pub record IsDearestAmong (slots : List Slot) (xs : List ℤ) (places : List ℕ) (n : ℕ) (best : Option ℕ) : Type 0 where
-  pub one : (i : ℕ) → best ≡ Some i → CanLess slots xs i × (j : ℕ) × (j < n) × (place_at places j ≡ i)
-  pub all : (j : ℕ) → j < n → CanLess slots xs (place_at places j) → IsAbove slots (price_of slots (place_at places j)) best
+-- the dearest of the slots on these rungs of a ladder that may put in less, if there is one
+pub record IsDearestRung (slots : List Slot) (xs : List ℤ) (ladder : List Rung) (start end : ℕ) (best : Option ℕ) : Type 0 where
+  pub one : (i : ℕ) → best ≡ Some i → CanLess slots xs i × (j : ℕ) × (start ≤ j) × (j < end) × ((rung_at ladder j).place ≡ i)
+  pub all : (j : ℕ) → start ≤ j → j < end → CanLess slots xs (rung_at ladder j).place → IsAbove slots (rung_at ladder j).price best
 
--- the cheapest of the slots at the first n places that may put in more, if there is one
-pub record IsCheapestAmong (slots : List Slot) (xs : List ℤ) (places : List ℕ) (n : ℕ) (best : Option ℕ) : Type 0 where
-  pub one : (i : ℕ) → best ≡ Some i → CanMore slots xs i × (j : ℕ) × (j < n) × (place_at places j ≡ i)
-  pub all : (j : ℕ) → j < n → CanMore slots xs (place_at places j) → IsBelow slots (price_of slots (place_at places j)) best
+-- the cheapest of the slots on these rungs of a ladder that may put in more, if there is one
+pub record IsCheapestRung (slots : List Slot) (xs : List ℤ) (ladder : List Rung) (start end : ℕ) (best : Option ℕ) : Type 0 where
+  pub one : (i : ℕ) → best ≡ Some i → CanMore slots xs i × (j : ℕ) × (start ≤ j) × (j < end) × ((rung_at ladder j).place ≡ i)
+  pub all : (j : ℕ) → start ≤ j → j < end → CanMore slots xs (rung_at ladder j).place → IsBelow slots (rung_at ladder j).price best
+
+-- a slot of zone z that may put in less, at least as dear as each of them that costs at most `top`, if there is one
+pub record IsDearestTo (slots : List Slot) (xs : List ℤ) (z : ℕ) (top : ℤ) (best : Option ℕ) : Type 0 where
+  pub one : (i : ℕ) → best ≡ Some i → CanLess slots xs i × (zone_of slots i ≡ z)
+  pub all : (k : ℕ) → CanLess slots xs k → zone_of slots k ≡ z → price_of slots k ≤ℤ top → IsAbove slots (price_of slots k) best
+
+-- a slot of zone z that may put in more, at least as cheap as each of them that costs at least `least`, if there is one
+pub record IsCheapestFrom (slots : List Slot) (xs : List ℤ) (z : ℕ) (least : ℤ) (best : Option ℕ) : Type 0 where
+  pub one : (i : ℕ) → best ≡ Some i → CanMore slots xs i × (zone_of slots i ≡ z)
+  pub all : (k : ℕ) → CanMore slots xs k → zone_of slots k ≡ z → least ≤ℤ price_of slots k → IsBelow slots (price_of slots k) best
+
+-- a slot of zone z that may put in less, at least as dear as each of them but one, if there is one
+pub record IsDearestBut (slots : List Slot) (xs : List ℤ) (z other : ℕ) (best : Option ℕ) : Type 0 where
+  pub one : (i : ℕ) → best ≡ Some i → CanLess slots xs i × (zone_of slots i ≡ z)
+  pub all : (k : ℕ) → k ≢ other → CanLess slots xs k → zone_of slots k ≡ z → IsAbove slots (price_of slots k) best
+
+-- a slot of zone z that may put in more, at least as cheap as each of them but one, if there is one
+pub record IsCheapestBut (slots : List Slot) (xs : List ℤ) (z other : ℕ) (best : Option ℕ) : Type 0 where
+  pub one : (i : ℕ) → best ≡ Some i → CanMore slots xs i × (zone_of slots i ≡ z)
+  pub all : (k : ℕ) → k ≢ other → CanMore slots xs k → zone_of slots k ≡ z → IsBelow slots (price_of slots k) best
+
+-- the dearest of these slots that are of zone z and may put in less, if there is one
+pub record IsDearestOfThese (These : ℕ → Type 0) (slots : List Slot) (xs : List ℤ) (z : ℕ) (best : Option ℕ) : Type 0 where
+  pub one : (i : ℕ) → best ≡ Some i → CanLess slots xs i × (zone_of slots i ≡ z) × These i
+  pub all : (k : ℕ) → These k → CanLess slots xs k → zone_of slots k ≡ z → IsAbove slots (price_of slots k) best
+
+-- the cheapest of these slots that are of zone z and may put in more, if there is one
+pub record IsCheapestOfThese (These : ℕ → Type 0) (slots : List Slot) (xs : List ℤ) (z : ℕ) (best : Option ℕ) : Type 0 where
+  pub one : (i : ℕ) → best ≡ Some i → CanMore slots xs i × (zone_of slots i ≡ z) × These i
+  pub all : (k : ℕ) → These k → CanMore slots xs k → zone_of slots k ≡ z → IsBelow slots (price_of slots k) best
+
+-- the marginal slots of each zone among these slots
+pub record AreMarginsOfThese (These : ℕ → Type 0) (slots : List Slot) (xs : List ℤ) (zones : ℕ) (margins : List Margin) : Type 0 where
+  pub long : length margins ≡ zones
+  pub dearest : (z : ℕ) → z < zones → IsDearestOfThese These slots xs z (dearest_at margins z)
+  pub cheapest : (z : ℕ) → z < zones → IsCheapestOfThese These slots xs z (cheapest_at margins z)
+
+-- the dearer of a slot, if it may put in less, and the one before
+pub record IsDearestWith (slots : List Slot) (xs : List ℤ) (before : Option ℕ) (slot : ℕ) (after : Option ℕ) : Type 0 where
+  pub one : (i : ℕ) → after ≡ Some i → (before ≡ Some i) ⊎ (CanLess slots xs i × (slot ≡ i))
+  pub above : CanLess slots xs slot → IsAbove slots (price_of slots slot) after
+  pub keeps : (v : ℤ) → IsAbove slots v before → IsAbove slots v after
+
+-- the cheaper of a slot, if it may put in more, and the one before
+pub record IsCheapestWith (slots : List Slot) (xs : List ℤ) (before : Option ℕ) (slot : ℕ) (after : Option ℕ) : Type 0 where
+  pub one : (i : ℕ) → after ≡ Some i → (before ≡ Some i) ⊎ (CanMore slots xs i × (slot ≡ i))
+  pub below : CanMore slots xs slot → IsBelow slots (price_of slots slot) after
+  pub keeps : (v : ℤ) → IsBelow slots v before → IsBelow slots v after
+
+-- a zone's marginal slots with one slot more
+pub record IsMarginWith (slots : List Slot) (xs : List ℤ) (before : Margin) (slot : ℕ) (after : Margin) : Type 0 where
+  pub dearest : IsDearestWith slots xs before.dearest slot after.dearest
+  pub cheapest : IsCheapestWith slots xs before.cheapest slot after.cheapest
 
 -- the zone's marginal slots
 pub record IsMarginOf (slots : List Slot) (xs : List ℤ) (z : ℕ) (m : Margin) : Type 0 where

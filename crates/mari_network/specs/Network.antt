@@ -1,12 +1,14 @@
--- Networks: slots and borders between zones, and for each zone the places of its slots and of the borders that meet it.
-use Rattle.std.specs.Prelude.{◌≡◌, ◌⊎◌, ℕ, ◌<◌, ℤ, List, length, slice_index_or}
+-- Networks: slots and borders between zones, and for each zone its slots by price and the places of the borders that
+-- meet it.
+use Rattle.std.specs.Prelude.{◌≡◌, ◌⊎◌, ℕ, ◌+◌, ◌<◌, ◌≤◌, ℤ, pos, ◌≤ℤ◌, List, length, slice_index_or}
 use Rattle.std.specs.List.{All, Contains}
 use Rattle.mari_market.specs.declared.market.Border.{Border}
 use Rattle.mari_market.specs.Market.{IsBetween}
 use Rattle.mari_network.specs.declared.slots.Slot.{Slot}
 use Rattle.mari_network.specs.declared.network.Network.{Network}
 use Rattle.mari_network.specs.declared.network.Places.{Places}
-use Rattle.mari_network.specs.Slots.{zone_of, IsSmallSlot, IsRunning}
+use Rattle.mari_network.specs.declared.network.Rung.{Rung}
+use Rattle.mari_network.specs.Slots.{price_of, zone_of, IsSmallSlot, IsRunning}
 
 abbrev pub no_border : Border
 no_border = record { from = 0; to = 0; limit = 0; back = 0 }
@@ -23,20 +25,43 @@ pub record AreMeeting (bs : List Border) (z : ℕ) (places : List ℕ) : Type 0 
   pub there : All (λ i. i < length bs) places
   pub all : (i : ℕ) → i < length bs → Meets (border_at bs i) z → Contains places i
 
-abbrev pub place_at : List ℕ → ℕ → ℕ
-place_at places j = slice_index_or places j 0
+abbrev pub no_rung : Rung
+no_rung = record { price = pos 0; place = 0 }
 
--- the places of those of the first n slots that are of the zone
-pub record AreMembers (slots : List Slot) (n z : ℕ) (places : List ℕ) : Type 0 where
-  pub there : (j : ℕ) → j < length places → place_at places j < n
-  pub zone : (j : ℕ) → j < length places → zone_of slots (place_at places j) ≡ z
-  pub all : (k : ℕ) → k < n → zone_of slots k ≡ z → (j : ℕ) × (j < length places) × (place_at places j ≡ k)
+abbrev pub rung_at : List Rung → ℕ → Rung
+rung_at rungs j = slice_index_or rungs j no_rung
 
--- for each of the zones the places of its slots, and those of the borders that meet it
+-- the rung of the slot at a place
+abbrev pub rung_of : List Slot → ℕ → Rung
+rung_of slots k = record { price = price_of slots k; place = k }
+
+-- the rungs of those of the first n slots that are of the zone
+pub record AreRungs (slots : List Slot) (n z : ℕ) (rungs : List Rung) : Type 0 where
+  pub there : All (λ r. r.place < n) rungs
+  pub zone : All (λ r. zone_of slots r.place ≡ z) rungs
+  pub price : All (λ r. r.price ≡ price_of slots r.place) rungs
+  pub all : (k : ℕ) → k < n → zone_of slots k ≡ z → Contains rungs (rung_of slots k)
+
+-- no rung is dearer than a later one
+abbrev pub IsRising : List Rung → Type 0
+IsRising rungs = (i j : ℕ) (d : Rung) → i ≤ j → j < length rungs → (slice_index_or rungs i d).price ≤ℤ (slice_index_or rungs j d).price
+
+-- the rungs of those of the first n slots that are of the zone, the cheapest first
+pub record IsLadder (slots : List Slot) (n z : ℕ) (ladder : List Rung) : Type 0 where
+  pub rungs : AreRungs slots n z ladder
+  pub rising : IsRising ladder
+
+-- after the first n slots stands one for each zone, in order of the zones, or none
+abbrev pub AreInOrder : ℕ → List Slot → Type 0
+AreInOrder n slots = (k : ℕ) → n ≤ k → k < length slots → k ≡ n + zone_of slots k
+
+-- for each of the zones its ladder, and the places of the borders that meet it
 pub record ArePlaces (zones : ℕ) (slots : List Slot) (bs : List Border) (p : Places) : Type 0 where
-  pub members_long : length p.members.items ≡ zones
+  pub ladders_long : length p.ladders.items ≡ zones
   pub meeting_long : length p.meeting.items ≡ zones
-  pub members : (z : ℕ) (v : _) → z < zones → AreMembers slots (length slots) z (slice_index_or p.members.items z v).items
+  pub few : p.on_ladders ≤ length slots
+  pub stand_ins : AreInOrder p.on_ladders slots
+  pub ladders : (z : ℕ) (v : _) → z < zones → IsLadder slots p.on_ladders z (slice_index_or p.ladders.items z v).items
   pub meeting : (z : ℕ) (v : _) → z < zones → AreMeeting bs z (slice_index_or p.meeting.items z v).items
 
 -- slots with small numbers and borders, all between the network's zones
@@ -44,8 +69,10 @@ pub record IsNetwork (n : Network) : Type 0 where
   pub small : All IsSmallSlot n.slots.now
   pub zones : All (λ (s : Slot). s.zone < length n.meeting.now) n.slots.now
   pub ends : All (IsBetween (length n.meeting.now)) n.borders.now
-  pub as_many : length n.members.now ≡ length n.meeting.now
-  pub members : (z : ℕ) (v : _) → z < length n.meeting.now → AreMembers n.slots.now (length n.slots.now) z (slice_index_or n.members.now z v).items
+  pub as_many : length n.ladders.now ≡ length n.meeting.now
+  pub few : n.on_ladders ≤ length n.slots.now
+  pub stand_ins : AreInOrder n.on_ladders n.slots.now
+  pub ladders : (z : ℕ) (v : _) → z < length n.meeting.now → IsLadder n.slots.now n.on_ladders z (slice_index_or n.ladders.now z v).items
   pub meeting : (z : ℕ) (v : _) → z < length n.meeting.now → AreMeeting n.borders.now z (slice_index_or n.meeting.now z v).items
 
 -- amounts and flows within their bounds, with each zone in balance

@@ -1,5 +1,5 @@
 -- Orders as slots, and what stands in for what they leave out of balance.
-use Rattle.std.specs.Prelude.{◌≡◌, ◌⊎◌, Bool, true, false, not, ℕ, ◌∷◌, [], List, ℤ, pos, neg_ℤ, ◌≤ℤ◌, ◌<◌, length, map, None, ⊤}
+use Rattle.std.specs.Prelude.{◌≡◌, ◌⊎◌, Bool, true, false, not, ℕ, ◌∷◌, [], List, ℤ, pos, neg_ℤ, ◌*ℤ◌, ◌≤ℤ◌, ◌<◌, length, map, None, ⊤}
 use Rattle.std.specs.List.{All, AllZip}
 use Rattle.std.specs.Int.{int_max, int_min}
 use lib.Signed.{lt_z}
@@ -49,6 +49,10 @@ ArePuts [] [] (q ∷ qs) = ⊥
 ArePuts [] (x ∷ xs) qs = ⊥
 ArePuts (o ∷ os) [] qs = ⊥
 ArePuts (o ∷ os) (x ∷ xs) [] = ⊥
+
+-- what an amount of an order adds to the welfare
+abbrev pub amount_gain : Order → ℤ → ℤ
+amount_gain o x = neg_ℤ (o.price.0 *ℤ x)
 
 -- the nearest price within the cap
 abbrev pub capped : ℤ → ℤ

@@ -1,13 +1,13 @@
 //! From amounts back to quantities, welfare, potentials and cuts.
 
-ghost use Rattle.std.specs.Prelude.{◌≡◌, ◌≢◌, ℕ, pos, neg_ℤ, ◌≤ℤ◌, ◌*ℤ◌, ◌<◌, ◌≤◌, ◌*◌, length, IfOk, MatchOption, map, take};
+ghost use Rattle.std.specs.Prelude.{◌≡◌, ◌≢◌, ℕ, pos, ◌<◌, ◌≤◌, ◌*◌, length, IfOk, MatchOption, map, take};
 ghost use Rattle.std.specs.Int.{int_max};
 ghost use Rattle.std.specs.List.{All, AllZip};
 ghost use Rattle.mari_market.specs.Sums.{sum_along, int_at};
-ghost use Rattle.mari_market.specs.Activation.{put_in, order_gain};
+ghost use Rattle.mari_market.specs.Activation.{put_in};
 ghost use Rattle.mari_market.specs.Price.{IsPrice};
 ghost use Rattle.mari_market.specs.Cut.{is_in, IsRising};
-ghost use Rattle.mari_network.specs.Orders.{capped_cents, is_inside, CanPut, ArePuts};
+ghost use Rattle.mari_network.specs.Orders.{amount_gain, capped_cents, is_inside, CanPut, ArePuts};
 
 use crate::slots::BEYOND;
 use mari_market::{CutSide, MOST_ORDERS, Order, Side};
@@ -82,38 +82,41 @@ pub fn cut_zones(alloc: Global, side: CutSide, prices: &[i64]) -> Result<Vec<u32
     Ok(zones)
 }
 
-/// What `mw` MW of an order add to the welfare, in quarter-cents, in 64 bits.
-fn gain_of(order: &Order, mw: u32) -> i64
-    requires price { IsPrice order.now.price.0 }
-    requires small { mw ≤ MOST_MW }
-    ensures value { result ≡ order_gain order.now mw }
-    ensures least { (neg_ℤ (CAP *ℤ pos MOST_MW)) ≤ℤ result }
-    ensures most { result ≤ℤ (CAP *ℤ pos MOST_MW) }
+/// The quantities of orders that put in these amounts.
+pub fn quantities(alloc: Global, orders: &[Order], amounts: &[i64]) -> Result<Vec<u32>, AllocError>
+    requires lengths { length orders.now ≤ length amounts.now }
+    requires fits { AllZip (λ o x. CanPut o.side x) orders.now (take (length orders.now) amounts.now) }
+    ensures { IfOk result (λ v. ArePuts orders.now (take (length orders.now) amounts.now) v.items) }
 {
-    order.gain(mw) as i64
+    let mut all = Vec::with_capacity(alloc, orders.len())?;
+    for (i, order) in orders.iter().enumerate() {
+        all.push(quantity(order.side, amounts[i]))?;
+    }
+    Ok(all)
 }
 
-/// The quantities of orders that put in these amounts, and what they add to the welfare together, in quarter-cents.
-pub fn quantities(
-    alloc: Global,
-    orders: &[Order],
-    amounts: &[i64],
-) -> Result<(Vec<u32>, i64), AllocError>
+/// What an order that puts in `amount` MW adds to the welfare, in quarter-cents.
+fn gain_of(order: &Order, amount: i64) -> i64
+    requires price { IsPrice order.now.price.0 }
+    requires can { CanPut order.now.side amount }
+    ensures { result ≡ amount_gain order.now amount }
+{
+    -(order.price.0 * amount)
+}
+
+/// What orders that put in these amounts add to the welfare together, in quarter-cents.
+pub fn welfare_at(orders: &[Order], amounts: &[i64]) -> i64
     requires few { length orders.now ≤ MOST_ORDERS }
     requires prices { All (λ o. IsPrice o.price.0) orders.now }
     requires lengths { length orders.now ≤ length amounts.now }
     requires fits { AllZip (λ o x. CanPut o.side x) orders.now (take (length orders.now) amounts.now) }
-    ensures puts { IfOk result (λ r. ArePuts orders.now (take (length orders.now) amounts.now) r.0.items) }
-    ensures gain { IfOk result (λ r. r.1 ≡ sum_along order_gain orders.now r.0.items) }
+    ensures { result ≡ sum_along amount_gain orders.now (take (length orders.now) amounts.now) }
 {
-    let mut all = Vec::with_capacity(alloc, orders.len())?;
-    let mut gain = 0i64;
+    let mut welfare = 0i64;
     for (i, order) in orders.iter().enumerate() {
-        let mw = quantity(order.side, amounts[i]);
-        all.push(mw)?;
-        gain += gain_of(order, mw);
+        welfare += gain_of(order, amounts[i]);
     }
-    Ok((all, gain))
+    welfare
 }
 
 /// A welfare as it is stated: 0 where it is negative.

@@ -1,16 +1,26 @@
 //! What a solver works on: slots, and borders between zones.
 
-ghost use Rattle.std.specs.Prelude.{◌≡◌, ◌≢◌, ◌<◌, ◌++◌, ◌∷◌, [], ℕ, length, take, IfOk, OnOk, slice_index_or};
+ghost use Rattle.std.specs.Prelude.{◌≡◌, ◌≢◌, ◌<◌, ◌≤◌, ◌++◌, ◌∷◌, [], ℕ, length, take, IfOk, OnOk, slice_index_or};
 ghost use Rattle.std.specs.List.{All, AllZip};
+ghost use Rattle.std.specs.List.Sorted.{IsPermutation};
 ghost use Rattle.mari_market.specs.Market.{IsValid, IsBetween};
 ghost use Rattle.mari_network.specs.Fits.{IsNetworkSlot};
-ghost use Rattle.mari_network.specs.Network.{AreMeeting, AreMembers, ArePlaces, IsNetwork};
+ghost use Rattle.mari_network.specs.Network.{rung_of, AreInOrder, AreMeeting, ArePlaces, AreRungs, IsLadder, IsNetwork, IsRising};
 ghost use Rattle.mari_network.specs.Orders.{CanPut};
 ghost use Rattle.mari_network.specs.Solving.{IsNetworkOf};
 
 use crate::slots::Slot;
 use mari_market::{Border, Market};
 use std::alloc::{AllocError, Global};
+
+/// A slot on a ladder.
+#[derive(Clone, Copy, Drop)]
+pub struct Rung {
+    /// The slot's price, in cents per MWh.
+    pub price: i64,
+    /// The slot's place.
+    pub place: usize,
+}
 
 /// Slots and borders between zones, lent, with the places of both by zone.
 #[derive(Drop)]
@@ -19,8 +29,10 @@ pub struct Network<'a> {
     pub slots: &'a [Slot],
     /// The market's borders.
     pub borders: &'a [Border],
-    /// For each zone the places of its slots.
-    pub members: &'a [Vec<usize>],
+    /// For each zone its slots on the ladder, the cheapest first.
+    pub ladders: &'a [Vec<Rung>],
+    /// How many slots stand on ladders. After them stands one for each zone, in order of the zones, or none.
+    pub on_ladders: usize,
     /// For each zone the places of the borders that meet it.
     pub meeting: &'a [Vec<usize>],
 }
@@ -28,14 +40,16 @@ pub struct Network<'a> {
 /// For each zone the places of its slots and borders, which a network lends.
 #[derive(Drop)]
 pub struct Places {
-    /// For each zone the places of its slots.
-    pub members: Vec<Vec<usize>>,
+    /// For each zone its slots on the ladder, the cheapest first.
+    pub ladders: Vec<Vec<Rung>>,
+    /// How many slots stand on ladders: the first.
+    pub on_ladders: usize,
     /// For each zone the places of the borders that meet it.
     pub meeting: Vec<Vec<usize>>,
 }
 
-/// An empty list for each zone, with room for `room` places.
-fn no_places(alloc: Global, zones: usize, room: usize) -> Result<Vec<Vec<usize>>, AllocError>
+/// An empty list for each zone, with room for so many items.
+fn empty_lists<T: Drop>(alloc: Global, zones: usize, room: usize) -> Result<Vec<Vec<T>>, AllocError>
     ensures long { IfOk result (λ v. length v.items ≡ zones) }
     ensures none { IfOk result (λ v. (z : ℕ) (d : _) → z < zones → (slice_index_or v.items z d).items ≡ []) }
 {
@@ -47,14 +61,14 @@ fn no_places(alloc: Global, zones: usize, room: usize) -> Result<Vec<Vec<usize>>
     Ok(lists)
 }
 
-/// Adds a place to the list of a zone.
-fn add_place(lists: &mut Vec<Vec<usize>>, zone: usize, place: usize) -> Result<(), AllocError>
+/// Adds an item to the list of a zone.
+fn add_to<T: Drop>(lists: &mut Vec<Vec<T>>, zone: usize, item: T) -> Result<(), AllocError>
     requires zone { zone < length lists.old.items }
     ensures long { length lists.new.items ≡ length lists.old.items }
-    ensures here { OnOk result ((d e : _) → (slice_index_or lists.new.items zone d).items ≡ (slice_index_or lists.old.items zone e).items ++ place ∷ []) }
+    ensures here { OnOk result ((d e : _) → (slice_index_or lists.new.items zone d).items ≡ (slice_index_or lists.old.items zone e).items ++ item ∷ []) }
     ensures others { (z : ℕ) (d : _) → z ≢ zone → slice_index_or lists.new.items z d ≡ slice_index_or lists.old.items z d }
 {
-    lists[zone].push(place)?;
+    lists[zone].push(item)?;
     Ok(())
 }
 
@@ -68,39 +82,100 @@ fn meeting_borders(
     ensures long { IfOk result (λ v. length v.items ≡ zones) }
     ensures meeting { IfOk result (λ v. (z : ℕ) (d : _) → z < zones → AreMeeting borders.now z (slice_index_or v.items z d).items) }
 {
-    let mut meeting = no_places(alloc, zones, 8)?;
+    let mut meeting = empty_lists(alloc, zones, 8)?;
     for (i, border) in borders.iter().enumerate() {
-        add_place(&mut meeting, border.from as usize, i)?;
-        add_place(&mut meeting, border.to as usize, i)?;
+        add_to(&mut meeting, border.from as usize, i)?;
+        add_to(&mut meeting, border.to as usize, i)?;
     }
     Ok(meeting)
 }
 
-/// For each zone the places of its slots.
-fn slots_by_zone(alloc: Global, slots: &[Slot], zones: usize) -> Result<Vec<Vec<usize>>, AllocError>
-    requires zones { All (λ s. s.zone < zones) slots.now }
-    requires some { 0 < zones }
-    ensures long { IfOk result (λ v. length v.items ≡ zones) }
-    ensures members { IfOk result (λ v. (z : ℕ) (d : _) → z < zones → AreMembers slots.now (length slots.now) z (slice_index_or v.items z d).items) }
+/// The rung of a slot.
+fn rung_at(slots: &[Slot], place: usize) -> Rung
+    requires { place < length slots.now }
+    ensures { result ≡ rung_of slots.now place }
 {
-    let even = slots.len() / zones;
-    let mut members = no_places(alloc, zones, even + even / 2)?;
-    for (i, slot) in slots.iter().enumerate() {
-        add_place(&mut members, slot.zone as usize, i)?;
+    Rung {
+        price: slots[place].price,
+        place,
     }
-    Ok(members)
 }
 
-/// The places by zone of these slots and of a market's borders. They rest on the slots' zones alone.
-pub fn places_of(alloc: Global, market: &Market, slots: &[Slot]) -> Result<Places, AllocError>
+/// For each zone the rungs of those of the first slots that are of it.
+fn rungs_by_zone(
+    alloc: Global,
+    slots: &[Slot],
+    zones: usize,
+    on_ladders: usize,
+) -> Result<Vec<Vec<Rung>>, AllocError>
+    requires zones { All (λ s. s.zone < zones) slots.now }
+    requires some { 0 < zones }
+    requires few { on_ladders ≤ length slots.now }
+    ensures long { IfOk result (λ v. length v.items ≡ zones) }
+    ensures rungs { IfOk result (λ v. (z : ℕ) (d : _) → z < zones → AreRungs slots.now on_ladders z (slice_index_or v.items z d).items) }
+{
+    let even = on_ladders / zones;
+    let mut rungs = empty_lists(alloc, zones, even + even / 2)?;
+    for place in 0..on_ladders {
+        let zone = slots[place].zone as usize;
+        add_to(&mut rungs, zone, rung_at(slots, place))?;
+    }
+    Ok(rungs)
+}
+
+/// Sorts rungs by their price, the cheapest first; of two that cost the same, that of the lesser place stays first.
+fn sort_rungs(rungs: &mut Vec<Rung>) -> Result<(), AllocError>
+    ensures same { IsPermutation rungs.old.items rungs.new.items }
+    ensures rising { OnOk result (IsRising rungs.new.items) }
+{
+    rungs.sort_by_key(|rung| rung.price)?;
+    Ok(())
+}
+
+/// For each zone its ladder: the rungs of those of the first slots that are of it, the cheapest first.
+fn ladders_of(
+    alloc: Global,
+    slots: &[Slot],
+    zones: usize,
+    on_ladders: usize,
+) -> Result<Vec<Vec<Rung>>, AllocError>
+    requires zones { All (λ s. s.zone < zones) slots.now }
+    requires some { 0 < zones }
+    requires few { on_ladders ≤ length slots.now }
+    ensures long { IfOk result (λ v. length v.items ≡ zones) }
+    ensures ladders { IfOk result (λ v. (z : ℕ) (d : _) → z < zones → IsLadder slots.now on_ladders z (slice_index_or v.items z d).items) }
+{
+    let mut ladders = rungs_by_zone(alloc, slots, zones, on_ladders)?;
+    for zone in 0..zones {
+        sort_rungs(&mut ladders[zone])?;
+    }
+    Ok(ladders)
+}
+
+/// The places by zone of these slots and of a market's borders. The first slots stand on ladders; after them one may
+/// stand for each zone, whose price may change. Places rest on how many zones there are, on the zones of the slots and
+/// of the borders, and on the prices of the slots on ladders.
+pub fn places_of(
+    alloc: Global,
+    market: &Market,
+    slots: &[Slot],
+    on_ladders: usize,
+) -> Result<Places, AllocError>
     requires market { IsValid market.now }
     requires slots { All (IsNetworkSlot market.now.zones) slots.now }
-    ensures { IfOk result (ArePlaces market.now.zones slots.now market.now.borders) }
+    requires few { on_ladders ≤ length slots.now }
+    requires stand_ins { AreInOrder on_ladders slots.now }
+    ensures places { IfOk result (ArePlaces market.now.zones slots.now market.now.borders) }
+    ensures on_ladders { IfOk result (λ p. p.on_ladders ≡ on_ladders) }
 {
     let borders = market.borders.as_slice();
-    let members = slots_by_zone(alloc, slots, market.zones as usize)?;
+    let ladders = ladders_of(alloc, slots, market.zones as usize, on_ladders)?;
     let meeting = meeting_borders(alloc, borders, market.zones as usize)?;
-    Ok(Places { members, meeting })
+    Ok(Places {
+        ladders,
+        on_ladders,
+        meeting,
+    })
 }
 
 /// The network of a market's borders and of these slots, of which the first are those of its orders, with the places
@@ -115,23 +190,24 @@ pub fn network_of<'a>(market: &'a Market, slots: &'a [Slot], places: &'a Places)
     ensures slots { result.slots.now ≡ slots.now }
 {
     let borders = market.borders.as_slice();
-    let members = places.members.as_slice();
+    let ladders = places.ladders.as_slice();
     let meeting = places.meeting.as_slice();
     Network {
         slots,
         borders,
-        members,
+        ladders,
+        on_ladders: places.on_ladders,
         meeting,
     }
 }
 
-/// The places of a zone's slots.
-pub fn members_at<'a>(network: &'a Network, zone: usize) -> &'a [usize]
+/// A zone's ladder.
+pub fn ladder_at<'a>(network: &'a Network, zone: usize) -> &'a [Rung]
     requires network { IsNetwork network.now }
     requires zone { zone < length network.now.meeting.now }
-    ensures { AreMembers network.now.slots.now (length network.now.slots.now) zone result.now }
+    ensures { IsLadder network.now.slots.now network.now.on_ladders zone result.now }
 {
-    network.members[zone].as_slice()
+    network.ladders[zone].as_slice()
 }
 
 /// The places of the borders that meet a zone.

@@ -4,19 +4,18 @@ ghost use Rattle.std.specs.Prelude.{◌≡◌, List, ◌<◌, ◌≤◌, ◌<ℤ
 ghost use Rattle.std.specs.Int.{int_max};
 ghost use Rattle.std.specs.List.{AllZip};
 ghost use Rattle.mari_market.specs.declared.market.Order.{Order};
-ghost use Rattle.mari_market.specs.Activation.{welfare_of};
 ghost use Rattle.mari_market.specs.Bounds.{Span};
 ghost use Rattle.mari_market.specs.Cut.{is_in, IsRising};
 ghost use Rattle.mari_market.specs.Market.{IsValid};
 ghost use Rattle.mari_network.specs.declared.optimum.SolveFault.TheVariants.{Memory as NoMemory};
-ghost use Rattle.mari_market.specs.Sums.{int_at};
+ghost use Rattle.mari_market.specs.Sums.{int_at, sum_along};
 ghost use Rattle.mari_network.specs.Network.{IsNetwork, Runs};
-ghost use Rattle.mari_network.specs.Orders.{capped_cents, is_inside, ArePuts, CanPut};
+ghost use Rattle.mari_network.specs.Orders.{amount_gain, capped_cents, is_inside, CanPut};
 ghost use Rattle.mari_network.specs.declared.slots.Slot.{Slot};
 ghost use Rattle.mari_network.specs.Searching.{AreTightPrices};
-ghost use Rattle.mari_network.specs.Solving.{IsAnswer, IsNetworkOf, AreSlotsOf};
+ghost use Rattle.mari_network.specs.Solving.{FitsOrders, IsWritten, IsFoundOptimum, IsNetworkOf, AreSlotsOf};
 
-use crate::finish::{cap_all, cut_zones, first_short, quantities, stated};
+use crate::finish::{cap_all, cut_zones, first_short, quantities, stated, welfare_at};
 use crate::network::Network;
 use mari_market::{Activation, Cut, CutSide, Market, Prices};
 use mari_units::{Items, MOST_ZONES, Memory};
@@ -32,6 +31,20 @@ pub struct Solved {
     /// One potential for each zone, in cents per MWh.
     pub potentials: Prices,
     /// The welfare, in quarter-cents.
+    pub welfare: u64,
+}
+
+/// The relaxed optimum of a market as its network has it, and potentials that show it. It is written as an activation
+/// only where one is asked for.
+#[derive(Drop)]
+pub struct Optimum {
+    /// What each slot puts in, in MW; the market's orders stand first.
+    pub amounts: Vec<i64>,
+    /// What flows over each border, in MW.
+    pub flows: Vec<i64>,
+    /// One potential for each zone, in cents per MWh.
+    pub potentials: Prices,
+    /// The welfare, in quarter-cents; 0 where it is negative.
     pub welfare: u64,
 }
 
@@ -60,6 +73,41 @@ impl From<Memory> for SolveFault {
     }
 }
 
+impl Optimum {
+    /// The activation that it is.
+    pub fn activation(&self, alloc: Global, market: &Market) -> Result<Activation, AllocError>
+        requires market { IsValid market.now }
+        requires fits { FitsOrders market.now self.now }
+        ensures { IfOk result (IsWritten market.now self.now) }
+    {
+        let mw = quantities(alloc, market.orders.as_slice(), &self.amounts)?;
+        let flow = Vec::from_slice(alloc, &self.flows)?;
+        Ok(Activation {
+            mw: Items::of(mw),
+            flow: Items::of(flow),
+        })
+    }
+
+    /// The same with the activation.
+    pub fn solved(self, alloc: Global, market: &Market) -> Result<Solved, AllocError>
+        requires market { IsValid market.now }
+        requires fits { FitsOrders market.now self }
+        ensures activation { IfOk result (λ s. IsWritten market.now self s.activation) }
+        ensures potentials { IfOk result (λ s. s.potentials ≡ self.potentials) }
+        ensures welfare { IfOk result (λ s. s.welfare ≡ self.welfare) }
+    {
+        let mw = quantities(alloc, market.orders.as_slice(), &self.amounts)?;
+        Ok(Solved {
+            activation: Activation {
+                mw: Items::of(mw),
+                flow: Items::of(self.flows),
+            },
+            potentials: self.potentials,
+            welfare: self.welfare,
+        })
+    }
+}
+
 /// The side of the cut where a stand-in has this amount: too much energy where it is taken away, too little where it is
 /// given.
 fn side_of(amount: i64) -> CutSide
@@ -73,40 +121,36 @@ fn side_of(amount: i64) -> CutSide
     }
 }
 
-/// The orders' part of what runs as an activation, with prices as potentials.
-fn solved_from(
+/// What runs as an optimum, with prices as potentials.
+fn optimum_of(
     alloc: Global,
     market: &Market,
-    amounts: &[i64],
-    flows: &[i64],
+    amounts: Vec<i64>,
+    flows: Vec<i64>,
     prices: &[i64],
-) -> Result<Solved, AllocError>
+) -> Result<Optimum, AllocError>
     // The orders of the market stand first.
     requires market { IsValid market.now }
-    requires long { length market.now.orders ≤ length amounts.now }
-    requires fits { AllZip (λ o x. CanPut o.side x) market.now.orders (take (length market.now.orders) amounts.now) }
+    requires long { length market.now.orders ≤ length amounts.items }
+    requires fits { AllZip (λ o x. CanPut o.side x) market.now.orders (take (length market.now.orders) amounts.items) }
 
-    // The activation.
-    ensures puts { IfOk result (λ s. ArePuts market.now.orders (take (length market.now.orders) amounts.now) s.activation.mw) }
-    ensures flow { IfOk result (λ s. s.activation.flow ≡ flows.now) }
+    // What runs.
+    ensures amounts { IfOk result (λ o. o.amounts ≡ amounts) }
+    ensures flows { IfOk result (λ o. o.flows ≡ flows) }
 
     // The potentials, within the cap, and the welfare as it is stated.
-    ensures potentials { IfOk result (λ s. s.potentials.cents ≡ map capped_cents prices.now) }
-    ensures stated { IfOk result (λ s. pos s.welfare ≡ int_max (pos 0) (welfare_of market.now s.activation)) }
+    ensures potentials { IfOk result (λ o. o.potentials.cents ≡ map capped_cents prices.now) }
+    ensures stated { IfOk result (λ o. pos o.welfare ≡ int_max (pos 0) (sum_along amount_gain market.now.orders (take (length market.now.orders) amounts.items))) }
 {
-    let orders = market.orders.as_slice();
-    let (mw, gain) = quantities(alloc, orders, amounts)?;
-    let flow = Vec::from_slice(alloc, flows)?;
+    let welfare = stated(welfare_at(market.orders.as_slice(), &amounts));
     let cents = cap_all(alloc, prices)?;
-    Ok(Solved {
-        activation: Activation {
-            mw: Items::of(mw),
-            flow: Items::of(flow),
-        },
+    Ok(Optimum {
+        amounts,
+        flows,
         potentials: Prices {
             cents: Items::of(cents),
         },
-        welfare: stated(gain),
+        welfare,
     })
 }
 
@@ -129,27 +173,27 @@ pub fn answer(
     alloc: Global,
     market: &Market,
     network: &Network,
-    amounts: &[i64],
-    flows: &[i64],
+    amounts: Vec<i64>,
+    flows: Vec<i64>,
     prices: &[i64],
-) -> Result<Solved, SolveFault>
+) -> Result<Optimum, SolveFault>
     // The network is the market's.
     requires market { IsValid market.now }
     requires network { IsNetwork network.now }
     requires same { IsNetworkOf market.now network.now }
 
     // What runs in it, where no chain is left.
-    requires runs { Runs network.now amounts.now flows.now }
-    requires tight { AreTightPrices network.now amounts.now flows.now prices.now }
-    requires long { length market.now.orders ≤ length amounts.now }
+    requires runs { Runs network.now amounts.items flows.items }
+    requires tight { AreTightPrices network.now amounts.items flows.items prices.now }
+    requires long { length market.now.orders ≤ length amounts.items }
 
     // The answer, by whatever bounds the slots were made.
-    ensures { (spans : Order → Span) (more : List Slot) → AreSlotsOf spans market.now more network.now.slots.now → IsAnswer spans market.now result }
+    ensures { (spans : Order → Span) (more : List Slot) → AreSlotsOf spans market.now more network.now.slots.now → IsFoundOptimum spans market.now result }
 {
     // What runs is said by the network, whose amounts, flows and prices these are.
     let _network = network;
-    match first_short(amounts, market.orders.as_slice().len()) {
-        None => Ok(solved_from(alloc, market, amounts, flows, prices)?),
+    match first_short(&amounts, market.orders.as_slice().len()) {
+        None => Ok(optimum_of(alloc, market, amounts, flows, prices)?),
         Some(short) => {
             let cut = cut_from(alloc, side_of(amounts[short]), prices)?;
             Err(SolveFault::Cut(cut))

@@ -128,6 +128,7 @@ fn look(
     requires marks { length marked.old ≡ length network.now.meeting.now }
     requires at { at < length hops.old.items }
     requires zone { (hop_at hops.old.items at).zone < length network.now.meeting.now }
+    requires marked { is_marked marked.old (hop_at hops.old.items at).zone ≡ true }
 
     // Flows that may be.
     requires flows { length flows.now ≡ length network.now.borders.now }
@@ -144,23 +145,13 @@ fn look(
     // By no border anything comes to its zone from one that isn't marked.
     ensures into { OnOk result (AllZip (MarkedInto marked.new (hop_at hops.old.items at).zone) network.now.borders.now flows.now) }
 {
-    let places = meeting_at(network, hops[at].zone);
+    let zone = hops[at].zone;
+    let places = meeting_at(network, zone);
     let borders = network.borders;
     for border in places {
-        reach_over(
-            borders,
-            flows,
-            marked,
-            hops,
-            hop_over(borders, *border, true, at),
-        )?;
-        reach_over(
-            borders,
-            flows,
-            marked,
-            hops,
-            hop_over(borders, *border, false, at),
-        )?;
+        let forth = borders[*border].to == zone;
+        let hop = hop_over(borders, *border, forth, at);
+        reach_over(borders, flows, marked, hops, hop)?;
     }
     Ok(())
 }
@@ -184,7 +175,7 @@ fn spread(
     requires limits { AllZip IsWithinLimits network.now.borders.now flows.now }
     requires closed { AreClosed network.now.borders.now flows.now marked.old }
 
-    // The chains, and marks as a next search wants them.
+    // The chains, and marks as a next search needs them.
     ensures spread { IfOk result (λ hops. IsSpread network.now.borders.now flows.now marked.old start marked.new hops.items) }
     ensures closed { OnOk result (AreClosed network.now.borders.now flows.now marked.new) }
 {

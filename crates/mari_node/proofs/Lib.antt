@@ -1,3 +1,5 @@
 pub mod Decided
 pub mod Findings
+pub mod Gated
+pub mod Paid
 pub mod Running

@@ -1,10 +1,11 @@
 -- What runs within bounds and in balance is feasible where the orders of each gate run together, at least their least.
-use Rattle.std.proofs.Common.{◌≡◌, ◌&&◌, if◌then◌else◌, Bool, true, false, ℕ, zero, suc, ◌+◌, ◌<◌, ◌≤◌, List, [], ◌∷◌, ◌++◌, Option, Some, None, length, length-append, arith, refl, ap, ◌∙◌, inl, inr}
-use Rattle.std.proofs.lemmas.Bool.{both_ways, cases_lt, or_left, or_right}
+use Rattle.std.proofs.Common.{◌≡◌, ◌&&◌, if◌then◌else◌, Bool, true, false, ℕ, zero, suc, ◌+◌, ◌<◌, ◌≤◌, List, [], ◌∷◌, ◌++◌, Option, Some, None, length, length-append, arith, refl, sym, ap, subst, ◌∙◌, inl, inr}
+use Rattle.std.proofs.Math.Path.{fun_ext}
+use Rattle.std.proofs.lemmas.Bool.{both_ways, cases_lt, false≢true, or_left, or_right}
 use Rattle.std.proofs.lemmas.List.FromFn.{length-map-range_with_len}
 use Rattle.std.proofs.lemmas.Option.{slice_get_past}
-use Rattle.std.specs.Prelude.{◌↔◌, IsTrue, nat_lt, slice_get, option_and_then, MatchOption}
-use Rattle.std.specs.List.{AllZip}
+use Rattle.std.specs.Prelude.{◌↔◌, is_some, IsTrue, nat_lt, slice_get, option_and_then, MatchOption}
+use Rattle.std.specs.List.{All, AllZip, Any}
 use Rattle.mari_market.specs.declared.market.GateInfo.{GateInfo}
 use Rattle.mari_market.specs.declared.market.Order.{Order}
 use Rattle.mari_market.specs.declared.market.Market.{Market}
@@ -14,7 +15,7 @@ use Rattle.mari_market.specs.Activation.{is_gate, is_open, runs_gate}
 use Rattle.mari_market.specs.Bounds.{IsWithin, GateState, gated_span, span_of, span_in, own_bounds}
 use Rattle.mari_market.specs.Bounds.GateState.{Open, Closed, Free}
 use Rattle.mari_market.specs.Gates.{KeepsGateRules}
-use Rattle.mari_market.specs.Market.{IsValid, IsValidOrder}
+use Rattle.mari_market.specs.Market.{GateFits, IsValid, IsValidOrder}
 use Rattle.mari_market.specs.Optimal.{IsFeasible}
 use Rattle.mari_market.specs.Prefix.{bit_of, word_of, opens_in, bounds_of_word, IsFeasibleWord}
 use Rattle.mari_market.specs.Relaxation.{IsWithinBounds}
@@ -23,8 +24,14 @@ use Rattle.mari_market.proofs.Prefixes.{opens_within}
 use Rattle.mari_market.proofs.Search.{parents_earlier}
 use Rattle.mari_market.proofs.Sums.{AllZip-both, AllZip-with, AnyZip-meets}
 use Rattle.mari_market.proofs.Words.{Begins, begins_get, begins_push, in_word, word_is_feasible}
+use Rattle.mari_network.specs.declared.optimum.Optimum.{Optimum}
+use Rattle.mari_network.specs.Orders.{no_order}
+use Rattle.mari_network.specs.Solving.{IsWritten}
+use Rattle.mari_paths.specs.Starts.{order_at}
+use Rattle.mari_paths.specs.Warm.{AreGated}
+use Rattle.mari_node.proofs.Gated.{any_of_gated, gated_of_zip, runs_as_gated, zip_by_gated}
 use Rattle.mari_node.proofs.Decided.{busy, its_gate, word_at}
-use Rattle.mari_node.specs.Running.{IsBounded, IsNotPartial, IsPartial, RunsWhereOpen}
+use Rattle.mari_node.specs.Running.{quantity_at, runs_among, IsBounded, IsNotPartial, IsPartial, RunsWhereOpen}
 
 -- ---- within the bounds of any word
 
@@ -144,6 +151,49 @@ feasible_by m a b whole runs rules =
       borders = b.borders;
       balance = b.balance;
     }
+
+-- ---- by the places of the orders of gates
+
+gateless_least : (n : ℕ) (o : Order) → GateFits n o → is_some o.gate ≡ false → o.least ≡ 0
+gateless_least n o fits none = by_gate o.gate fits none
+  where
+    by_gate : (gate : Option ℕ) → MatchOption gate (o.least ≡ 0) (λ g. (g < n) × (1 ≤ o.least)) → is_some gate ≡ false → o.least ≡ 0
+    by_gate None f e = f
+    by_gate (Some g) f e = absurd (cc)
+
+gateless_runs : (opens : ℕ → Bool) (o : Order) (q : ℕ) → is_some o.gate ≡ false → RunsWhereOpen opens o q
+gateless_runs opens o q none = λ g e t. let some : is_some o.gate ≡ true = ap is_some e in absurd (both_ways (is_some o.gate) none some)
+
+opened_at : (m : Market) (o : Optimum) (a : Activation) (gated : List ℕ) (word : List Bool) → AreGated m gated → IsWritten m o a → ((g : ℕ) → opens_in word g ≡ runs_among g m o gated) → opens_in word ≡ is_open m a
+opened_at m o a gated word at w runs = fun_ext (λ g. runs g ∙ runs_as_gated m o a gated g w at)
+
+-- an order that runs less than its least
+pub partial_at : (m : Market) (o : Optimum) (a : Activation) (gated : List ℕ) → IsValid m → AreGated m gated → IsWritten m o a → Any (λ k. IsPartial (order_at m k) (quantity_at o k)) gated → IsTrue false ↔ IsFeasible m a
+partial_at m o a gated v at w some = (λ t. absurd (false≢true t), λ f. absurd (none_partial m a v (any_of_gated m o a gated IsPartial w at some) f))
+
+-- an order that rests though its gate runs
+pub apart_at : (m : Market) (o : Optimum) (a : Activation) (gated : List ℕ) (word : List Bool) (b : Bool) → IsValid m → AreGated m gated → IsWritten m o a
+    → ((g : ℕ) → opens_in word g ≡ runs_among g m o gated)
+    → IsTrue b ↔ All (λ k. RunsWhereOpen (opens_in word) (order_at m k) (quantity_at o k)) gated → b ≡ false
+    → IsTrue b ↔ IsFeasible m a
+apart_at m o a gated word b v at w runs is apart = (
+  λ t. absurd (both_ways b apart t),
+  λ f. (is.1 (subst (λ (opens : ℕ → Bool). All (λ k. RunsWhereOpen opens (order_at m k) (quantity_at o k)) gated) (sym (opened_at m o a gated word at w runs)) (gated_of_zip m o a gated (RunsWhereOpen (is_open m a)) w at (run_together_of m a v f)))),
+)
+
+-- and where neither is so, the rules decide
+pub feasible_by_gated : (m : Market) (o : Optimum) (a : Activation) (gated : List ℕ) (word : List Bool) (b : Bool) → IsValid m → AreGated m gated → IsWritten m o a → IsBounded m a
+    → ((g : ℕ) → opens_in word g ≡ runs_among g m o gated)
+    → All (λ k. IsNotPartial (order_at m k) (quantity_at o k)) gated
+    → All (λ k. RunsWhereOpen (opens_in word) (order_at m k) (quantity_at o k)) gated
+    → IsTrue b ↔ KeepsGateRules m.gates (opens_in word) → IsTrue b ↔ IsFeasible m a
+feasible_by_gated m o a gated word b v at w bounded runs whole together rules =
+    let opens = opened_at m o a gated word at w runs in
+    let all_whole : AllZip IsNotPartial m.orders a.mw = zip_by_gated m o a gated IsNotPartial w at whole (λ k l none _. let least = gateless_least (length m.gates) (order_at m k) (v.orders k no_order l).gate none in omega arith) in
+    let all_run : AllZip (RunsWhereOpen (is_open m a)) m.orders a.mw = zip_by_gated m o a gated (RunsWhereOpen (is_open m a)) w at (subst (λ (opens : ℕ → Bool). All (λ k. RunsWhereOpen opens (order_at m k) (quantity_at o k)) gated) opens together) (λ k l none. gateless_runs (is_open m a) (order_at m k) (quantity_at o k) none) in (
+      λ t. feasible_by m a bounded all_whole all_run (subst (KeepsGateRules m.gates) opens (rules.0 t)),
+      λ f. rules.1 (subst (KeepsGateRules m.gates) (sym opens) f.gates),
+    )
 
 -- ---- the rules of gates, read from a word
 

@@ -1,10 +1,21 @@
 -- What the orders of gates run.
-use Rattle.std.specs.Prelude.{◌≡◌, ℕ, ◌<◌, ◌≤◌, Bool, true, Some}
-use Rattle.std.specs.List.{AllZip}
+use Rattle.std.specs.Prelude.{◌≡◌, ℕ, ◌<◌, ◌≤◌, Bool, true, Some, List, unsigned_abs}
+use Rattle.std.specs.List.{AllZip, list_any}
 use Rattle.mari_market.specs.declared.market.Order.{Order}
 use Rattle.mari_market.specs.declared.market.Market.{Market}
 use Rattle.mari_market.specs.declared.activation.Activation.{Activation}
-use Rattle.mari_market.specs.Activation.{IsBalanced, IsWithinLimits}
+use Rattle.mari_market.specs.Activation.{is_run_of, IsBalanced, IsWithinLimits}
+use Rattle.mari_market.specs.Sums.{int_at}
+use Rattle.mari_network.specs.declared.optimum.Optimum.{Optimum}
+use Rattle.mari_paths.specs.Starts.{order_at}
+
+-- how many MW the order at this place of an optimum runs
+abbrev pub quantity_at : Optimum → ℕ → ℕ
+quantity_at o k = unsigned_abs (int_at o.amounts.items k)
+
+-- whether one of the orders at these places is of the gate and runs
+abbrev pub runs_among : ℕ → Market → Optimum → List ℕ → Bool
+runs_among g m o ks = list_any (λ (k : ℕ). is_run_of g (order_at m k) (quantity_at o k)) ks
 
 -- an order that runs, but less than its least
 pub record IsPartial (o : Order) (q : ℕ) : Type 0 where

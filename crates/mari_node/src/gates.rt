@@ -1,36 +1,53 @@
-//! Whether what the orders of gates run is feasible, where it is within the orders' greatest and in balance.
+//! Whether what the orders of gates run is feasible, where all is within the orders' greatest and in balance.
 //!
-//! It is a pass of its own beside `is_feasible` of `mari_welfare`, since bounds and balance of an optimum are settled
-//! by the solver.
+//! It is a test of its own beside `is_feasible` of `mari_welfare`: bounds and balance of an optimum are settled by the
+//! solver, and an order without a gate has the least 0. So only the orders of gates are looked at.
 
-ghost use Rattle.std.specs.Prelude.{◌≡◌, ◌↔◌, ◌<◌, ℕ, IfSome, IsTrue, MatchOption, length};
-ghost use Rattle.std.specs.List.{All, AllZip};
-ghost use Rattle.mari_market.specs.Activation.{runs_gate};
+ghost use Rattle.std.specs.Prelude.{◌≡◌, ◌↔◌, ◌<◌, ◌≤◌, ℕ, IfSome, IsTrue, MatchOption, length};
+ghost use Rattle.std.specs.List.{All, Any};
+ghost use Rattle.mari_market.specs.declared.activation.Activation.{Activation};
 ghost use Rattle.mari_market.specs.Gates.{KeepsGateRules};
 ghost use Rattle.mari_market.specs.Market.{IsValid};
 ghost use Rattle.mari_market.specs.Optimal.{IsFeasible};
-ghost use Rattle.mari_market.specs.Sums.{AnyZip};
-ghost use Rattle.mari_node.specs.Running.{IsBounded, IsNotPartial, IsPartial, RunsWhereOpen};
-ghost use Rattle.mari_welfare.specs.Gates.{IsOfFewGates};
 ghost use Rattle.mari_market.specs.Prefix.{opens_in};
+ghost use Rattle.mari_network.specs.Solving.{FitsOrders, IsWritten};
+ghost use Rattle.mari_node.specs.Running.{quantity_at, runs_among, IsBounded, IsNotPartial, IsPartial, RunsWhereOpen};
+ghost use Rattle.mari_paths.specs.Starts.{order_at};
+ghost use Rattle.mari_paths.specs.Warm.{AreGated};
+ghost use Rattle.mari_welfare.specs.Gates.{IsOfFewGates};
 
 use mari_gates::{child_of, empty_prefix, may_branch_up};
-use mari_market::{Activation, Market, Order};
+use mari_market::{Market, Order};
+use mari_paths::Optimum;
+use mari_units::MOST_MW;
 use mari_welfare::OpenGates;
 
-/// The gates of which some order runs; or nothing, where an order runs less than its least.
-fn running(orders: &[Order], mw: &[u32]) -> Option<OpenGates>
-    requires lengths { length mw.now ≡ length orders.now }
-    requires gates { All IsOfFewGates orders.now }
-    ensures runs { IfSome result (λ runs. (g : ℕ) → opens_in runs g ≡ runs_gate g orders.now mw.now) }
-    ensures whole { MatchOption result (AnyZip IsPartial orders.now mw.now) (λ _. AllZip IsNotPartial orders.now mw.now) }
+/// How many MW the order at this place runs.
+fn quantity(optimum: &Optimum, place: usize) -> u32
+    requires place { place < length optimum.now.amounts.items }
+    requires small { quantity_at optimum.now place ≤ MOST_MW }
+    ensures { result ≡ quantity_at optimum.now place }
 {
+    optimum.amounts[place].unsigned_abs() as u32
+}
+
+/// The gates of which some order runs; or nothing, where an order runs less than its least.
+fn running(market: &Market, gated: &[usize], optimum: &Optimum) -> Option<OpenGates>
+    requires valid { IsValid market.now }
+    requires gated { AreGated market.now gated.now }
+    requires fits { FitsOrders market.now optimum.now }
+    ensures runs { IfSome result (λ runs. (g : ℕ) → opens_in runs g ≡ runs_among g market.now optimum.now gated.now) }
+    ensures whole { MatchOption result (Any (λ k. IsPartial (order_at market.now k) (quantity_at optimum.now k)) gated.now) (λ _. All (λ k. IsNotPartial (order_at market.now k) (quantity_at optimum.now k)) gated.now) }
+{
+    let orders = market.orders.as_slice();
     let mut runs = OpenGates::none();
-    for (i, order) in orders.iter().enumerate() {
-        if 0 < mw[i] && mw[i] < order.least {
+    for place in gated {
+        let order = &orders[*place];
+        let mw = quantity(optimum, *place);
+        if 0 < mw && mw < order.least {
             return None;
         }
-        runs.mark(order, mw[i]);
+        runs.mark(order, mw);
     }
     Some(runs)
 }
@@ -47,13 +64,15 @@ fn runs_with_gate(runs: &OpenGates, order: &Order, mw: u32) -> bool
 }
 
 /// Whether each order of the gates that run does.
-fn run_together(runs: &OpenGates, orders: &[Order], mw: &[u32]) -> bool
-    requires lengths { length mw.now ≡ length orders.now }
-    requires gates { All IsOfFewGates orders.now }
-    ensures { IsTrue result ↔ AllZip (RunsWhereOpen (opens_in runs.now)) orders.now mw.now }
+fn run_together(market: &Market, gated: &[usize], optimum: &Optimum, runs: &OpenGates) -> bool
+    requires valid { IsValid market.now }
+    requires gated { AreGated market.now gated.now }
+    requires fits { FitsOrders market.now optimum.now }
+    ensures { IsTrue result ↔ All (λ k. RunsWhereOpen (opens_in runs.now) (order_at market.now k) (quantity_at optimum.now k)) gated.now }
 {
-    for (i, order) in orders.iter().enumerate() {
-        if !runs_with_gate(runs, order, mw[i]) {
+    let orders = market.orders.as_slice();
+    for place in gated {
+        if !runs_with_gate(runs, &orders[*place], quantity(optimum, *place)) {
             return false;
         }
     }
@@ -76,18 +95,19 @@ fn keep_rules(market: &Market, runs: &OpenGates) -> bool
     true
 }
 
-/// Whether an activation is feasible that is within the orders' greatest and the borders' limits, and in balance.
+/// Whether the activation that an optimum is written as is feasible, given that it is within the orders' greatest and
+/// the borders' limits, and in balance. `gated` has the places of the orders of gates.
 ///
 /// That is so where each order of a gate runs at least its least or nothing, the orders of a gate run together, and
 /// the gates that run keep the rules of parents and groups. The first order that runs less than its least decides.
-pub(crate) fn keeps_gates(market: &Market, activation: &Activation) -> bool
+pub(crate) fn keeps_gates(market: &Market, gated: &[usize], optimum: &Optimum) -> bool
     requires valid { IsValid market.now }
-    requires bounded { IsBounded market.now activation.now }
-    ensures { IsTrue result ↔ IsFeasible market.now activation.now }
+    requires gated { AreGated market.now gated.now }
+    requires fits { FitsOrders market.now optimum.now }
+    ensures { (a : Activation) → IsWritten market.now optimum.now a → IsBounded market.now a → IsTrue result ↔ IsFeasible market.now a }
 {
-    let (orders, mw) = (market.orders.as_slice(), activation.mw.as_slice());
-    match running(orders, mw) {
+    match running(market, gated, optimum) {
         None => false,
-        Some(runs) => run_together(&runs, orders, mw) && keep_rules(market, &runs),
+        Some(runs) => run_together(market, gated, optimum, &runs) && keep_rules(market, &runs),
     }
 }

@@ -4,8 +4,8 @@
 //! holds, and at a prefix that decides every gate it settles what that gate word has.
 #![tactic(auto)]
 
-mod admissibility;
 mod gates;
 mod node;
+mod prices;
 
 pub use node::{examine, examine_from, examine_warm};

@@ -4,16 +4,16 @@ ghost use Rattle.std.specs.Prelude.{◌≡◌, ◌<◌, Bool, List, Option, IfOk
 ghost use Rattle.mari_market.specs.declared.activation.Activation.{Activation as TheActivation};
 ghost use Rattle.mari_market.specs.Finding.{IsFinding, IsRelaxedFinding};
 ghost use Rattle.mari_market.specs.Market.{IsValid};
-ghost use Rattle.mari_market.specs.Optimal.{IsAdmissible, IsFeasible};
+ghost use Rattle.mari_market.specs.Optimal.{IsAdmissible};
 ghost use Rattle.mari_market.specs.Prefix.{word_of, bounds_at, IsFeasiblePrefix};
-ghost use Rattle.mari_network.specs.Solving.{NoneWithin, OfCut, IsAnswer};
-ghost use Rattle.mari_node.specs.Nodes.{best_found, bound_found, conflict_found, left_by, optimum_in, IsEmptyWhereNone, IsInnerNode, IsLastNode, IsLeft, IsRelaxedOptimum};
-ghost use Rattle.mari_node.specs.Running.{IsBounded};
-ghost use Rattle.mari_paths.specs.Warm.{IsWarmStart};
+ghost use Rattle.mari_network.specs.Solving.{FitsOrders, NoneWithin, OfCut, IsFoundOptimum, IsWritten};
+ghost use Rattle.mari_node.specs.Nodes.{best_found, bound_found, conflict_found, left_by, IsEmptyWhereNone, IsInnerNode, IsLastNode, IsLeft, IsRelaxedOptimum, IsWrittenOf};
+ghost use Rattle.mari_paths.specs.Warm.{AreGated, IsWarmStart};
 
-use crate::admissibility::{contradiction, is_admissible};
-use mari_market::{Activation, Attained, Conflict, Finding, Market, Prefix, Relaxed};
-use mari_paths::{SolveFault, Solved, WarmStart, solve_from};
+use crate::gates::keeps_gates;
+use crate::prices::priced;
+use mari_market::{Activation, Attained, Conflict, Finding, Market, Prefix, Prices, Relaxed};
+use mari_paths::{Optimum, SolveFault, Solved, WarmStart, gated_places, optimum_from};
 use mari_units::{Items, Memory};
 use std::alloc::{AllocError, Global};
 
@@ -32,13 +32,13 @@ fn best_of(solved: Solved) -> Relaxed
     }
 }
 
-/// The solved optimum as a bound alone.
-fn bound_alone(solved: Solved) -> Relaxed
-    ensures { result ≡ bound_found solved }
+/// An optimum's potentials and its welfare as a bound, and no more.
+fn bound_alone(potentials: Prices, welfare: u64) -> Relaxed
+    ensures { result ≡ bound_found potentials welfare }
 {
     Relaxed {
-        potentials: solved.potentials,
-        bound: solved.welfare,
+        potentials,
+        bound: welfare,
         best: None,
         conflict: None,
     }
@@ -63,12 +63,19 @@ fn conflict_by(solved: Solved, chain: Items<u32>) -> Result<Relaxed, AllocError>
 
 /// What is found where every gate is decided: the optimum runs exactly the open gates, and it is the best of its gate
 /// word or shows that the word has none.
-fn last_node(alloc: Global, market: &Market, solved: Solved) -> Result<Relaxed, Memory>
+fn last_node(
+    alloc: Global,
+    market: &Market,
+    gated: &[usize],
+    optimum: Optimum,
+) -> Result<Relaxed, Memory>
     requires valid { IsValid market.now }
-    requires feasible { IsFeasible market.now solved.activation }
-    ensures { (word : List Bool) → IsLastNode market.now word solved → IfOk result (IsRelaxedFinding market.now word) }
+    requires gated { AreGated market.now gated.now }
+    requires optimum { (word : List Bool) × IsLastNode market.now word optimum }
+    ensures { (word : List Bool) → IsLastNode market.now word optimum → IfOk result (IsRelaxedFinding market.now word) }
 {
-    match contradiction(alloc, market, &solved.activation)? {
+    let (solved, chain) = priced(alloc, market, gated, optimum)?;
+    match chain {
         None => Ok(best_of(solved)),
         Some(chain) => Ok(conflict_by(solved, chain)?),
     }
@@ -76,16 +83,25 @@ fn last_node(alloc: Global, market: &Market, solved: Solved) -> Result<Relaxed, 
 
 /// What is found where a gate is undecided: the optimum is the best where it is admissible, and else there is its bound
 /// alone.
-fn inner_node(alloc: Global, market: &Market, solved: Solved) -> Result<Relaxed, Memory>
+fn inner_node(
+    alloc: Global,
+    market: &Market,
+    gated: &[usize],
+    optimum: Optimum,
+) -> Result<Relaxed, Memory>
     requires valid { IsValid market.now }
-    requires bounded { IsBounded market.now solved.activation }
-    ensures finding { (word : List Bool) → IsInnerNode market.now word solved → IfOk result (IsRelaxedFinding market.now word) }
-    ensures best { IfOk result (λ relaxed. IsAdmissible market.now solved.activation → is_some relaxed.best ≡ true) }
+    requires gated { AreGated market.now gated.now }
+    requires optimum { (word : List Bool) × IsInnerNode market.now word optimum }
+    ensures finding { (word : List Bool) → IsInnerNode market.now word optimum → IfOk result (IsRelaxedFinding market.now word) }
+    ensures best { (a : TheActivation) → IsWritten market.now optimum a → IsAdmissible market.now a → IfOk result (λ relaxed. is_some relaxed.best ≡ true) }
 {
-    if is_admissible(alloc, market, &solved.activation)? {
-        Ok(best_of(solved))
-    } else {
-        Ok(bound_alone(solved))
+    if !keeps_gates(market, gated, &optimum) {
+        return Ok(bound_alone(optimum.potentials, optimum.welfare));
+    }
+    let (solved, chain) = priced(alloc, market, gated, optimum)?;
+    match chain {
+        None => Ok(best_of(solved)),
+        Some(_chain) => Ok(bound_alone(solved.potentials, solved.welfare)),
     }
 }
 
@@ -94,39 +110,43 @@ fn relaxed_node(
     alloc: Global,
     market: &Market,
     prefix: &Prefix,
-    solved: Solved,
+    gated: &[usize],
+    optimum: Optimum,
 ) -> Result<Relaxed, Memory>
     requires valid { IsValid market.now }
     requires prefix { IsFeasiblePrefix market.now prefix.now }
-    requires optimum { IsRelaxedOptimum market.now (word_of prefix.now) solved }
+    requires gated { AreGated market.now gated.now }
+    requires optimum { IsRelaxedOptimum market.now (word_of prefix.now) optimum }
     ensures finding { IfOk result (IsRelaxedFinding market.now (word_of prefix.now)) }
-    ensures best { IfOk result (λ relaxed. length (word_of prefix.now) < length market.now.gates → IsAdmissible market.now solved.activation → is_some relaxed.best ≡ true) }
+    ensures best { (a : TheActivation) → IsWritten market.now optimum a → IsAdmissible market.now a → IfOk result (λ relaxed. length (word_of prefix.now) < length market.now.gates → is_some relaxed.best ≡ true) }
 {
     if prefix.length as usize == market.gates.as_slice().len() {
-        last_node(alloc, market, solved)
+        last_node(alloc, market, gated, optimum)
     } else {
-        inner_node(alloc, market, solved)
+        inner_node(alloc, market, gated, optimum)
     }
 }
 
-/// What is found of a prefix, by what the solver answers there.
+/// What is found of a prefix, by what the solver finds there. `gated` has the places of the orders of gates.
 fn finding_by(
     alloc: Global,
     market: &Market,
     prefix: &Prefix,
-    solved: Result<Solved, SolveFault>,
+    gated: &[usize],
+    found: Result<Optimum, SolveFault>,
 ) -> Result<Finding, Memory>
     requires valid { IsValid market.now }
     requires prefix { IsFeasiblePrefix market.now prefix.now }
-    requires answer { IsAnswer (bounds_at market.now prefix.now) market.now solved }
-    requires empty { IfErr solved (λ fault. OfCut fault (λ _. NoneWithin (bounds_at market.now prefix.now) market.now)) }
+    requires gated { AreGated market.now gated.now }
+    requires found { IsFoundOptimum (bounds_at market.now prefix.now) market.now found }
+    requires empty { IfErr found (λ fault. OfCut fault (λ _. NoneWithin (bounds_at market.now prefix.now) market.now)) }
     ensures finding { IfOk result (IsFinding market.now (word_of prefix.now)) }
     ensures empty { IfOk result (IsEmptyWhereNone market.now (word_of prefix.now)) }
-    ensures left { (start : Option TheActivation) → IfOk result (λ finding. IsLeft market.now (word_of prefix.now) finding start (left_by solved start)) }
+    ensures left { (optimum start : Option TheActivation) → IsWrittenOf market.now found optimum → IfOk result (λ finding. IsLeft market.now (word_of prefix.now) finding start (left_by optimum start)) }
 {
-    match solved {
-        Ok(solved) => {
-            let relaxed = relaxed_node(alloc, market, prefix, solved)?;
+    match found {
+        Ok(optimum) => {
+            let relaxed = relaxed_node(alloc, market, prefix, gated, optimum)?;
             Ok(Finding::Relaxed(relaxed))
         }
         Err(SolveFault::Cut(cut)) => Ok(Finding::Empty(cut)),
@@ -134,12 +154,18 @@ fn finding_by(
     }
 }
 
-/// A copy of the optimum that the solver answers, if it does.
-fn optimum_of(solved: &Result<Solved, SolveFault>) -> Result<Option<Activation>, AllocError>
-    ensures { IfOk result (λ optimum. optimum ≡ optimum_in solved.now) }
+/// The activation of the optimum that the solver finds, if it does.
+fn activation_of(
+    alloc: Global,
+    market: &Market,
+    found: &Result<Optimum, SolveFault>,
+) -> Result<Option<Activation>, AllocError>
+    requires valid { IsValid market.now }
+    requires fits { IfOk found.now (FitsOrders market.now) }
+    ensures { IfOk result (IsWrittenOf market.now found.now) }
 {
-    match solved {
-        Ok(solved) => Ok(Some(solved.activation.clone()?)),
+    match found {
+        Ok(optimum) => Ok(Some(optimum.activation(alloc, market)?)),
         Err(_fault) => Ok(None),
     }
 }
@@ -151,15 +177,15 @@ fn optimum_of(solved: &Result<Solved, SolveFault>) -> Result<Option<Activation>,
 /// or 0 where it is negative; and it may have an admissible activation. At a prefix that decides every gate the
 /// activation is the best of that gate word, or a conflict shows that the word has no admissible activation. At any
 /// other prefix there is no conflict, and no activation only where some optimum of that welfare isn't admissible.
-#[tactic(auto, using(crate::proofs::Findings::answered))]
 pub fn examine(alloc: Global, market: &Market, prefix: &Prefix) -> Result<Finding, Memory>
     requires valid { IsValid market.now }
     requires prefix { IsFeasiblePrefix market.now prefix.now }
     ensures finding { IfOk result (IsFinding market.now (word_of prefix.now)) }
     ensures empty { IfOk result (IsEmptyWhereNone market.now (word_of prefix.now)) }
 {
-    let solved = solve_from(alloc, market, prefix, None);
-    finding_by(alloc, market, prefix, solved)
+    let gated = gated_places(alloc, market)?;
+    let found = optimum_from(alloc, market, prefix, None);
+    finding_by(alloc, market, prefix, &gated, found)
 }
 
 /// Examines one node of the search from an activation to start with, and leaves the relaxed optimum there.
@@ -167,7 +193,6 @@ pub fn examine(alloc: Global, market: &Market, prefix: &Prefix) -> Result<Findin
 /// What is found is what `examine` may find, whatever the start is: of any lengths, within the prefix's bounds or not.
 /// At a prefix that leaves a gate to decide there is an activation wherever the optimum that is left is admissible.
 /// The start is as it was where nothing lies within the bounds, and when out of memory.
-#[tactic(auto, using(crate::proofs::Findings::answered))]
 pub fn examine_from(
     alloc: Global,
     market: &Market,
@@ -181,9 +206,10 @@ pub fn examine_from(
     ensures left { IfOk result (λ finding. IsLeft market.now (word_of prefix.now) finding start.old start.new) }
     ensures kept { OnErr result (start.new ≡ start.old) }
 {
-    let solved = solve_from(alloc, market, prefix, start.as_ref());
-    let optimum = optimum_of(&solved)?;
-    let finding = finding_by(alloc, market, prefix, solved)?;
+    let gated = gated_places(alloc, market)?;
+    let found = optimum_from(alloc, market, prefix, start.as_ref());
+    let optimum = activation_of(alloc, market, &found)?;
+    let finding = finding_by(alloc, market, prefix, &gated, found)?;
     if optimum.is_some() {
         *start = optimum;
     }
@@ -193,7 +219,6 @@ pub fn examine_from(
 /// Examines one node of the search from a warm start of the market, and leaves no optimum.
 ///
 /// What is found is what `examine` may find.
-#[tactic(auto, using(crate::proofs::Findings::answered))]
 pub fn examine_warm(
     alloc: Global,
     market: &Market,
@@ -206,6 +231,6 @@ pub fn examine_warm(
     ensures finding { IfOk result (IsFinding market.now (word_of prefix.now)) }
     ensures empty { IfOk result (IsEmptyWhereNone market.now (word_of prefix.now)) }
 {
-    let solved = warm.solve(alloc, market, prefix);
-    finding_by(alloc, market, prefix, solved)
+    let found = warm.optimum(alloc, market, prefix);
+    finding_by(alloc, market, prefix, warm.gated(), found)
 }

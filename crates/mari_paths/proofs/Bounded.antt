@@ -1,7 +1,8 @@
 -- Orders' slots at a prefix.
-use Rattle.std.proofs.Common.{◌≡◌, ◌≢◌, false, ℕ, ◌+◌, ◌<◌, ◌≤◌, List, length, take, Option, Some, None, arith, refl, sym, ap, ◌∙◌, subst, get_or}
+use Rattle.std.proofs.Common.{◌≡◌, ◌≢◌, ◌⊎◌, inl, inr, false, ℕ, ◌+◌, ◌<◌, ◌≤◌, List, length, take, Option, Some, None, arith, refl, sym, ap, ◌∙◌, subst, get_or}
 use Rattle.std.specs.Prelude.{is_some}
 use Rattle.std.specs.List.{Contains}
+use Rattle.std.proofs.lemmas.Bool.{cases_Bool, cases_eq, false≢true}
 use Rattle.std.proofs.lemmas.List.{ext_get_or, get_or-map, get_or-take, get_or_default, length-map, length-take-le}
 use Rattle.mari_market.specs.declared.market.Market.{Market}
 use Rattle.mari_market.specs.declared.market.Order.{Order}
@@ -15,7 +16,7 @@ use Rattle.mari_network.specs.Slots.{no_slot, slot_at}
 use Rattle.mari_network.specs.Orders.{no_order, slot_of, slots_of, AreOrderSlots}
 use Rattle.mari_network.proofs.Fits.{fine_spans, order_slots_fine}
 use Rattle.mari_paths.specs.Starts.{order_at, FitsOrder}
-use Rattle.mari_paths.specs.Warm.{plain_span}
+use Rattle.mari_paths.specs.Warm.{plain_span, AreGated, IsPlain}
 use Rattle.mari_paths.proofs.Starts.{fits_order}
 
 abbrev pub slot_in : Market → Prefix → ℕ → Slot
@@ -74,3 +75,41 @@ pub still_ahead : (places : List ℕ) (i k : ℕ) → k ≢ get_or places i 0 �
 still_ahead places i k other h =
     let apart : h.0 ≢ i = λ e. other (sym h.3 ∙ ap (λ (j : ℕ). get_or places j 0) e) in
     (h.0, omega (arith, h.1, apart), h.2, h.3)
+
+-- a plain order is at none of the places of the orders of gates
+pub not_gated : (m : Market) (places : List ℕ) (k : ℕ) → AreGated m places → IsPlain m k → Contains places k → ⊥
+not_gated m places k gated plain h =
+    let only = gated.only h.0 k h.1 in
+    false≢true (sym plain.1 ∙ ap (λ (j : ℕ). is_some (order_at m j).gate) (sym h.2) ∙ only)
+
+-- a plain order, or one whose place is among the first i
+abbrev pub IsTaken : Market → List ℕ → (i k : ℕ) → Type 0
+IsTaken m places i k = IsPlain m k ⊎ ((j : ℕ) × (j < i) × (get_or places j 0 ≡ k))
+
+pub take_one : (m : Market) (places : List ℕ) (i k : ℕ) → IsTaken m places (i + 1) k → IsTaken m places i k ⊎ (k ≡ get_or places i 0)
+take_one m places i k h = elim h [
+  | inl plain ↦ inl (inl plain)
+  | inr j ↦ elim (cases_eq j.0 i) [
+    | inl e ↦ inr (sym j.2 ∙ ap (λ (n : ℕ). get_or places n 0) e)
+    | inr other ↦ inl (inr (j.0, omega (arith, j.1, other), j.2))
+  ]
+]
+
+pub still_taken : (m : Market) (places : List ℕ) (i k : ℕ) → IsTaken m places i k → IsTaken m places (i + 1) k
+still_taken m places i k h = elim h [
+  | inl plain ↦ inl plain
+  | inr j ↦ inr (j.0, omega (arith, j.1), j.2)
+]
+
+-- with the orders of gates all orders are taken, and nothing else
+pub all_taken : (m : Market) (places : List ℕ) (i k : ℕ) → AreGated m places → length places ≤ i → k < length m.orders → IsTaken m places i k
+all_taken m places i k gated all l = elim (cases_Bool (is_some (order_at m k).gate)) [
+  | inl e ↦ let h = gated.all k l e in inr (h.0, omega (arith, h.1, all), get_or_default places h.0 0 k h.1 ∙ h.2)
+  | inr e ↦ inl (l, e)
+]
+
+pub taken_there : (m : Market) (places : List ℕ) (i k : ℕ) → AreGated m places → i ≤ length places → IsTaken m places i k → k < length m.orders
+taken_there m places i k gated few h = elim h [
+  | inl plain ↦ plain.0
+  | inr j ↦ subst (λ (n : ℕ). n < length m.orders) j.2 (gated.there j.0 0 (omega (arith, j.1, few)))
+]

@@ -10,16 +10,12 @@ use Rattle.std.specs.Ordering.{int_eq}
 use Rattle.mari_market.specs.declared.market.Market.{Market}
 use Rattle.mari_market.specs.Sums.{sum_along, int_at}
 use Rattle.mari_market.proofs.Sums.{AllZip-at}
-use Rattle.mari_network.specs.declared.margins.Margin.{Margin}
 use Rattle.mari_network.specs.declared.slots.Slot.{Slot}
 use Rattle.mari_network.specs.Fits.{IsNetworkSlot}
-use Rattle.mari_network.specs.Margins.{IsMarginOf}
 use Rattle.mari_network.specs.Orders.{stand_in_of}
-use Rattle.mari_network.specs.Spread.{is_marked}
 use Rattle.mari_network.specs.Slots.{no_slot, slot_at, slot_into, zone_of, at_zone, IsWithinSlot}
 use Rattle.mari_network.proofs.Fits.{slot_small}
 use Rattle.mari_network.proofs.Lists.{zip_long}
-use Rattle.mari_network.proofs.Marginal.{margin_stays_among}
 use Rattle.mari_network.proofs.StandIns.{stands_in}
 use Rattle.mari_paths.proofs.Shortages.{near_more, near_wider}
 use Rattle.mari_paths.specs.Starts.{order_at, AreFilled, FitsOrder, IsNear, StandInsNear}
@@ -175,18 +171,8 @@ module _ (m : Market) (slots : List Slot) (xs : List ℤ) (p : ℕ) (s : Slot) (
         (near_wider most (most + 200000) (int_at xs (length m.orders + z)) (near z l) (omega arith))
   ]
 
-  -- in another zone than the slot's nothing changed
-  far_first : (z k : ℕ) → z ≢ s.zone → zone_of slots k ≡ z → k ≢ p
-  far_first z k other e same = other (sym e ∙ ap (zone_of slots) same ∙ sym c.zone)
-
-  far_second : (z k : ℕ) → z ≢ s.zone → zone_of slots k ≡ z → k ≢ stand_at m s
-  far_second z k other e same = other (sym e ∙ ap (zone_of slots) same ∙ stand_zone)
-
-  pub stays_after : (z : ℕ) (t : Margin) → z ≢ s.zone → IsMarginOf slots xs z t → IsMarginOf (slots_after m slots p s w) (amounts_after m xs p s v w) z t
-  stays_after z t other h =
-      margin_stays_among slots (slots_after m slots p s w) xs (amounts_after m xs p s v w) z t (two_long slots p (stand_at m s) s (stand_in_of s.zone w)) zones_after
-      (λ k e. two_others slots p (stand_at m s) k s (stand_in_of s.zone w) no_slot (far_first z k other e) (far_second z k other e))
-      (λ k e. two_others xs p (stand_at m s) k v w (pos 0) (far_first z k other e) (far_second z k other e)) h
+  pub amounts_after_others : (k : ℕ) → k < length m.orders → k ≢ p → int_at (amounts_after m xs p s v w) k ≡ int_at xs k
+  amounts_after_others k l other = let apart : k ≢ stand_at m s = omega arith in two_others xs p (stand_at m s) k v w (pos 0) other apart
 
 -- what an amount loses that goes from one slot of an order to another
 pub small_loss : (m : Market) (slots : List Slot) (xs : List ℤ) (p : ℕ) (s : Slot) (less : ℤ) → AreFilled m slots xs → p < length m.orders → FitsOrder m.zones (order_at m p) s
@@ -229,7 +215,7 @@ pub record IsChanged (m : Market) (p : ℕ) (s : Slot) (slots new : List Slot) (
   pub here : slot_at new p ≡ s
   pub others : (k : ℕ) → k < length m.orders → k ≢ p → slot_at new k ≡ slot_at slots k
   pub zones : (k : ℕ) → zone_of new k ≡ zone_of slots k
-  pub stays : (z : ℕ) (t : Margin) → z ≢ s.zone → IsMarginOf slots xs z t → IsMarginOf new ys z t
+  pub amounts : (k : ℕ) → k < length m.orders → k ≢ p → int_at ys k ≡ int_at xs k
 
 changed : (m : Market) (slots new : List Slot) (xs ys : List ℤ) (p : ℕ) (s : Slot) (v w less : ℤ) → AreFilled m slots xs → IsChange m slots xs p s v w less
     → IsNear 200000 less → new ≡ slots_after m slots p s w → ys ≡ amounts_after m xs p s v w
@@ -243,7 +229,7 @@ changed m slots new xs ys p s v w less a c small e f =
       here = here_after m slots xs p s v w less a c;
       others = others_after m slots xs p s v w less a c;
       zones = zones_after m slots xs p s v w less a c;
-      stays = stays_after m slots xs p s v w less a c;
+      amounts = amounts_after_others m slots xs p s v w less a c;
     }))
 
 -- the same of lists that were changed one after the other
@@ -257,13 +243,6 @@ change_made m slots mid_slots new xs mid ys p q s less a near l fits zone within
     (small_loss m slots xs p s less a l fits within)
     (subst (λ (j : ℕ). new ≡ set (set slots p s) j (stand_in_of s.zone (int_at mid j +ℤ less))) e (to_slots ∙ ap (λ (ss : List Slot). set ss q (stand_in_of s.zone (int_at mid q +ℤ less))) f))
     (subst (λ (j : ℕ). ys ≡ set (set xs p (int_at xs p -ℤ less)) j (int_at mid j +ℤ less)) e (to_amounts ∙ ap (λ (zs : List ℤ). set zs q (int_at mid q +ℤ less)) g))
-
--- a mark that another zone doesn't get
-pub marked_other : (marks : List Bool) (y z : ℕ) → y < length marks → is_marked (set marks y true) z ≡ false → (is_marked marks z ≡ false) × (z ≢ y)
-marked_other marks y z l h = elim (cases_eq z y) [
-  | inl e ↦ absurd (false≢true (sym h ∙ ap (is_marked (set marks y true)) e ∙ get_or-set_same marks y true false l))
-  | inr other ↦ (sym (get_or-set_other marks y z true false other) ∙ h, other)
-]
 
 -- what stands in is as before where the order's amount changed
 pub stood_before : (m : Market) (xs mid : List ℤ) (p q most : ℕ) (s : Slot) (v : ℤ) → p < length m.orders → s.zone < m.zones → StandInsNear most m xs → q ≡ stand_at m s → mid ≡ set xs p v → IsNear most (int_at mid q)

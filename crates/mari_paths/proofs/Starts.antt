@@ -1,5 +1,5 @@
 -- What a start leaves out of balance, and what stands in for it.
-use Rattle.std.proofs.Common.{◌≡◌, ◌==◌, if◌then◌else◌, ℕ, zero, suc, ◌+◌, ◌<◌, ◌≤◌, ℤ, pos, List, [], ◌∷◌, ◌++◌, length, take, drop, arith, refl, sym, ap, ◌∙◌, subst, get_or, length-append, length-drop, get_or-drop, get_or-take}
+use Rattle.std.proofs.Common.{◌≡◌, ◌==◌, if◌then◌else◌, ℕ, zero, suc, ◌+◌, ◌-◌, ◌<◌, ◌≤◌, ℤ, pos, List, [], ◌∷◌, ◌++◌, length, take, drop, arith, refl, sym, ap, ◌∙◌, subst, get_or, length-append, length-drop, get_or-drop, get_or-take}
 use Rattle.std.proofs.lemmas.Int.{ints}
 use Rattle.std.proofs.lemmas.List.{get_or-append-add, get_or_append_left, get_or_default, length-take-le, take-append-drop, take_at}
 use Rattle.std.specs.List.{All, AllZip}
@@ -13,7 +13,8 @@ use Rattle.mari_market.specs.Activation.{IsWithinLimits}
 use Rattle.mari_market.proofs.Sums.{AllZip-at}
 use Rattle.mari_network.specs.declared.slots.Slot.{Slot}
 use Rattle.mari_network.specs.declared.slots.TheConstants.{BEYOND}
-use Rattle.mari_network.specs.Slots.{no_slot, slot_at, slot_into, IsWithinSlot, IsRunning}
+use Rattle.mari_network.specs.Slots.{no_slot, slot_at, slot_into, zone_of, IsWithinSlot, IsRunning}
+use Rattle.mari_network.specs.Network.{AreInOrder}
 use Rattle.mari_network.specs.Orders.{no_order, slots_of, stand_in_of, AreOrderSlots, CanPut, IsStandIn}
 use Rattle.mari_network.specs.Solving.{AreSlotsOf}
 use Rattle.mari_paths.specs.Starts.{order_at, stand_ins, AreEven, AreFilled, AreShort, FitsOrder, IsNear, StandInsNear}
@@ -169,3 +170,12 @@ filled_slots spans m slots xs a e = record {
       get_or-drop (length m.orders) slots k d ∙ get_or_default slots (length m.orders + k) d no_slot there ∙ a.stand_ins k (omega (arith, a.long, there)) in
       subst (λ (s : Slot). IsStandIn BEYOND s) (sym is) (stands_in k (int_at xs (length m.orders + k))).kind;
 }
+
+-- what stands in for the zones comes after the orders, in order of the zones
+pub filled_in_order : (m : Market) (slots : List Slot) (xs : List ℤ) → AreFilled m slots xs → AreInOrder (length m.orders) slots
+filled_in_order m slots xs a k g l =
+    let z = k - length m.orders in
+    let at : length m.orders + (k - length m.orders) ≡ k = omega arith in
+    let zone : zone_of slots (length m.orders + (k - length m.orders)) ≡ k - length m.orders =
+    ap (λ (s : Slot). s.zone) (a.stand_ins z (omega (arith, a.long))) ∙ (stands_in z (int_at xs (length m.orders + z))).zone in
+    omega (arith, zone, ap (zone_of slots) at, at)

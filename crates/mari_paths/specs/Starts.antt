@@ -35,8 +35,8 @@ abbrev pub most_stood_in : ℕ
 most_stood_in = 2000000000
 
 -- the least of a slot is at most its greatest
-abbrev pub IsOrdered : Slot → Type 0
-IsOrdered s = s.low ≤ℤ s.high
+abbrev pub IsInOrder : Slot → Type 0
+IsInOrder s = s.low ≤ℤ s.high
 
 -- at most `most` from 0
 pub record IsNear (most : ℕ) (x : ℤ) : Type 0 where
@@ -60,7 +60,7 @@ pub record AreShort (zones : ℕ) (slots : List Slot) (bs : List Border) (xs fs 
 abbrev pub order_at : Market → ℕ → Order
 order_at m k = slice_index_or m.orders k no_order
 
--- a slot in which the order can run
+-- a slot between two amounts that an order of this side can put in
 pub record FitsOrder (zones : ℕ) (o : Order) (s : Slot) : Type 0 where
   pub fine : IsOrderSlot zones s
   pub low : CanPut o.side s.low

@@ -1,35 +1,43 @@
 -- What the nodes of one search start from.
-use Rattle.std.specs.Prelude.{◌≡◌, ℕ, ◌<◌, ◌≤◌, false, true, is_some, List, length}
+use Rattle.std.specs.Prelude.{◌≡◌, ℕ, ◌<◌, ◌≤◌, false, true, is_some, None, List, length}
 use Rattle.std.specs.List.{All, AllZip, Contains}
 use Rattle.mari_market.specs.declared.market.Market.{Market}
 use Rattle.mari_market.specs.declared.market.Order.{Order}
 use Rattle.mari_market.specs.Activation.{IsWithinLimits}
-use Rattle.mari_market.specs.Bounds.{Span}
-use Rattle.mari_network.specs.Margins.{AreMargins}
+use Rattle.mari_market.specs.Bounds.{Span, Free, span_of}
+use Rattle.mari_network.specs.Margins.{AreMarginsOfThese}
 use Rattle.mari_network.specs.Network.{ArePlaces}
 use Rattle.mari_network.specs.Orders.{slot_of}
-use Rattle.mari_network.specs.Slots.{slot_at, zone_of}
+use Rattle.mari_network.specs.Slots.{price_of, slot_at, zone_of}
 use Rattle.mari_paths.specs.declared.warm.WarmStart.{WarmStart}
 use Rattle.mari_paths.specs.Starts.{most_short, order_at, AreEven, AreFilled, StandInsNear}
 
 -- the bounds of an order without a gate, at every prefix
 abbrev pub plain_span : Order → Span
-plain_span o = record { lo = 0; hi = o.greatest }
+plain_span o = span_of (λ gate. Free) None o
+
+-- the place of an order without a gate
+abbrev pub IsPlain : Market → ℕ → Type 0
+IsPlain m k = (k < length m.orders) × (is_some (order_at m k).gate ≡ false)
 
 -- the places of the orders that have a gate
 pub record AreGated (m : Market) (places : List ℕ) : Type 0 where
   pub there : All (λ k. k < length m.orders) places
   pub few : length places ≤ length m.orders
+  pub only : All (λ k. is_some (order_at m k).gate ≡ true) places
   pub all : (k : ℕ) → k < length m.orders → is_some (order_at m k).gate ≡ true → Contains places k
 
--- what runs in a network of the market, in balance, with the slots that orders without a gate have at every prefix
+-- what runs in a network of the market, in balance, with the slots that orders without a gate have at every prefix and
+-- their margins
 pub record IsWarmStart (m : Market) (w : WarmStart) : Type 0 where
   pub filled : AreFilled m w.slots.items w.amounts.items
   pub limits : AllZip IsWithinLimits m.borders w.flows.items
   pub even : AreEven m w.slots.items w.amounts.items w.flows.items
   pub near : StandInsNear most_short m w.amounts.items
   pub places : ArePlaces m.zones w.slots.items m.borders w.places
-  pub margins : AreMargins w.slots.items w.amounts.items m.zones (length w.slots.items) w.margins.items
+  pub on_ladders : w.places.on_ladders ≡ length m.orders
+  pub margins : AreMarginsOfThese (IsPlain m) w.slots.items w.amounts.items m.zones w.plain.items
   pub zones : (k : ℕ) → k < length m.orders → zone_of w.slots.items k ≡ (order_at m k).zone
+  pub prices : (k : ℕ) → k < length m.orders → price_of w.slots.items k ≡ (order_at m k).price.0
   pub gated : AreGated m w.gated.items
-  pub plain : (k : ℕ) → k < length m.orders → is_some (order_at m k).gate ≡ false → slot_at w.slots.items k ≡ slot_of (plain_span (order_at m k)) (order_at m k)
+  pub plain : (k : ℕ) → IsPlain m k → slot_at w.slots.items k ≡ slot_of (plain_span (order_at m k)) (order_at m k)

@@ -4,17 +4,18 @@
 //! of the margins only those of the two ends are looked at again. `solve_from` carries the promise: an activation
 //! whose welfare is both the relaxed welfare of the prefix and the dual value of its potentials, or a cut that no
 //! activation can balance, whatever the start is. `WarmStart` promises the same for all prefixes of a search, each from
-//! one start.
+//! one start. `optimum_from` and `WarmStart::optimum` give the same optimum with no activation made of it.
 #![tactic(auto)]
 
 mod changes;
 mod drains;
+mod margins;
 mod merit;
 mod optimum;
 mod run;
 mod start;
 mod warm;
 
-pub use mari_network::{SolveFault, Solved};
-pub use optimum::solve_from;
-pub use warm::WarmStart;
+pub use mari_network::{Optimum, SolveFault, Solved};
+pub use optimum::{optimum_from, solve_from};
+pub use warm::{WarmStart, gated_places};

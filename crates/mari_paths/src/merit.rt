@@ -1,11 +1,11 @@
-//! What runs at one price for the whole market, from which a search without a start begins.
+//! What runs at one price for the whole market, from which a solve without an activation starts.
 
 ghost use Rattle.std.specs.Prelude.{◌≡◌, ◌≤◌, length, map, IfOk};
 ghost use Rattle.std.specs.List.{All};
 ghost use Rattle.mari_market.specs.Sums.{int_sum};
 ghost use Rattle.mari_network.specs.Slots.{IsSmallSlot};
 ghost use Rattle.mari_paths.specs.Merit.{run_at, IsBalancing};
-ghost use Rattle.mari_paths.specs.Starts.{IsOrdered};
+ghost use Rattle.mari_paths.specs.Starts.{IsInOrder};
 
 use mari_market::MOST_ORDERS;
 use mari_network::{BEYOND, Slot};
@@ -25,7 +25,7 @@ fn amount_at_price(slot: &Slot, price: i64) -> i64
 /// What slots put in at a price, together.
 fn put_in_at(slots: &[Slot], price: i64) -> i64
     requires few { length slots.now ≤ MOST_ORDERS }
-    requires order { All IsOrdered slots.now }
+    requires order { All IsInOrder slots.now }
     requires small { All IsSmallSlot slots.now }
     ensures { result ≡ int_sum (run_at price) slots.now }
 {
@@ -39,7 +39,7 @@ fn put_in_at(slots: &[Slot], price: i64) -> i64
 /// The price at which slots put in no more than they take, and a cent above it more, if there is one.
 pub fn balancing_price(slots: &[Slot]) -> i64
     requires few { length slots.now ≤ MOST_ORDERS }
-    requires order { All IsOrdered slots.now }
+    requires order { All IsInOrder slots.now }
     requires small { All IsSmallSlot slots.now }
     ensures { IsBalancing slots.now result }
 {

@@ -16,16 +16,16 @@ ghost use Rattle.mari_network.specs.declared.slots.Slot.{Slot};
 ghost use Rattle.mari_network.specs.Fits.{IsNetworkSlot};
 ghost use Rattle.mari_network.specs.Orders.{slots_of, CanPut, AreOrderSlots};
 ghost use Rattle.mari_network.specs.Margins.{AreMargins};
-ghost use Rattle.mari_network.specs.Network.{IsNetwork, Runs};
+ghost use Rattle.mari_network.specs.Network.{AreInOrder, IsNetwork, Runs};
 ghost use Rattle.mari_network.specs.Slots.{IsRunning};
-ghost use Rattle.mari_network.specs.Solving.{NoneWithin, OfCut, IsAnswer, IsNetworkOf, AreSlotsOf};
+ghost use Rattle.mari_network.specs.Solving.{NoneWithin, OfCut, IsFoundOptimum, IsNetworkOf, AreSlotsOf};
 
 use crate::run::run;
 use crate::start::start_from;
 use mari_market::{Activation, Market, Prefix};
 use mari_network::{
-    Margin, Network, Slot, SolveFault, Solved, answer, margins_of, network_of, order_slots,
-    places_of,
+    Margin, Network, Optimum, Slot, SolveFault, Solved, answer, margins_of, network_of,
+    order_slots, places_of,
 };
 use std::alloc::Global;
 
@@ -34,24 +34,24 @@ pub fn solve_network(
     alloc: Global,
     market: &Market,
     network: &Network,
-    amounts: &mut [i64],
-    flows: &mut [i64],
+    mut amounts: Vec<i64>,
+    mut flows: Vec<i64>,
     margins: &mut [Margin],
-) -> Result<Solved, SolveFault>
+) -> Result<Optimum, SolveFault>
     // The network is the market's.
     requires market { IsValid market.now }
     requires network { IsNetwork network.now }
     requires same { IsNetworkOf market.now network.now }
 
     // What runs in it, with its margins.
-    requires runs { Runs network.now amounts.old flows.old }
-    requires margins { AreMargins network.now.slots.now amounts.old (length network.now.meeting.now) (length network.now.slots.now) margins.old }
-    requires long { length market.now.orders ≤ length amounts.old }
+    requires runs { Runs network.now amounts.items flows.items }
+    requires margins { AreMargins network.now.slots.now amounts.items (length network.now.meeting.now) (length network.now.slots.now) margins.old }
+    requires long { length market.now.orders ≤ length amounts.items }
 
     // The answer, by whatever bounds the slots were made.
-    ensures { (spans : Order → Span) (more : List Slot) → AreSlotsOf spans market.now more network.now.slots.now → IsAnswer spans market.now result }
+    ensures { (spans : Order → Span) (more : List Slot) → AreSlotsOf spans market.now more network.now.slots.now → IsFoundOptimum spans market.now result }
 {
-    let prices = run(alloc, network, amounts, flows, margins)?;
+    let prices = run(alloc, network, &mut amounts, &mut flows, margins)?;
     answer(alloc, market, network, amounts, flows, &prices)
 }
 
@@ -61,19 +61,21 @@ fn solve_slots(
     alloc: Global,
     market: &Market,
     slots: &[Slot],
-    amounts: &mut [i64],
-    flows: &mut [i64],
-) -> Result<Solved, SolveFault>
+    amounts: Vec<i64>,
+    flows: Vec<i64>,
+) -> Result<Optimum, SolveFault>
     requires market { IsValid market.now }
     requires slots { All (IsNetworkSlot market.now.zones) slots.now }
     requires sides { AllZip (λ o s. CanPut o.side s.low × CanPut o.side s.high) market.now.orders (take (length market.now.orders) slots.now) }
-    requires runs { IsRunning market.now.zones slots.now market.now.borders amounts.old flows.old }
-    requires long { length market.now.orders ≤ length amounts.old }
-    ensures { (spans : Order → Span) (more : List Slot) → AreSlotsOf spans market.now more slots.now → IsAnswer spans market.now result }
+    requires stand_ins { AreInOrder (length market.now.orders) slots.now }
+    requires runs { IsRunning market.now.zones slots.now market.now.borders amounts.items flows.items }
+    requires long { length market.now.orders ≤ length amounts.items }
+    ensures { (spans : Order → Span) (more : List Slot) → AreSlotsOf spans market.now more slots.now → IsFoundOptimum spans market.now result }
 {
-    let places = places_of(alloc, market, slots)?;
+    let orders = market.orders.as_slice().len();
+    let places = places_of(alloc, market, slots, orders)?;
     let network = network_of(market, slots, &places);
-    let mut margins = margins_of(alloc, &network, amounts)?;
+    let mut margins = margins_of(alloc, &network, &amounts)?;
     solve_network(alloc, market, &network, amounts, flows, &mut margins)
 }
 
@@ -84,19 +86,33 @@ fn solve_reals(
     market: &Market,
     reals: Vec<Slot>,
     start: Option<&Activation>,
-) -> Result<Solved, SolveFault>
+) -> Result<Optimum, SolveFault>
     requires market { IsValid market.now }
     requires reals { AreOrderSlots market.now.zones market.now.orders reals.items }
-    ensures { (spans : Order → Span) → reals.items ≡ slots_of spans market.now.orders → IsAnswer spans market.now result }
+    ensures { (spans : Order → Span) → reals.items ≡ slots_of spans market.now.orders → IsFoundOptimum spans market.now result }
 {
-    let mut begun = start_from(alloc, market, reals, start)?;
-    solve_slots(
-        alloc,
-        market,
-        &begun.slots,
-        &mut begun.amounts,
-        &mut begun.flows,
-    )
+    let begun = start_from(alloc, market, reals, start)?;
+    let slots = begun.slots;
+    solve_slots(alloc, market, &slots, begun.amounts, begun.flows)
+}
+
+/// The relaxed optimum of a prefix from an activation to start with, as the network has it.
+pub fn optimum_from(
+    alloc: Global,
+    market: &Market,
+    prefix: &Prefix,
+    start: Option<&Activation>,
+) -> Result<Optimum, SolveFault>
+    // What the caller knows of the market and the prefix; of the start nothing.
+    requires market { IsValid market.now }
+    requires prefix { IsFeasiblePrefix market.now prefix.now }
+
+    // The optimum, or a cut, and that there is no optimum then.
+    ensures found { IsFoundOptimum (bounds_at market.now prefix.now) market.now result }
+    ensures empty { IfErr result (λ fault. OfCut fault (λ _. NoneWithin (bounds_at market.now prefix.now) market.now)) }
+{
+    let reals = order_slots(alloc, market, prefix)?;
+    solve_reals(alloc, market, reals, start)
 }
 
 /// The relaxed optimum of a prefix, from an activation to start with: for every start, an activation within the
@@ -132,6 +148,6 @@ pub fn solve_from(
     ensures cut { IfErr result (λ fault. OfCut fault (IsCut (bounds_at market.now prefix.now) market.now)) }
     ensures empty { IfErr result (λ fault. OfCut fault (λ _. NoneWithin (bounds_at market.now prefix.now) market.now)) }
 {
-    let reals = order_slots(alloc, market, prefix)?;
-    solve_reals(alloc, market, reals, start)
+    let optimum = optimum_from(alloc, market, prefix, start)?;
+    Ok(optimum.solved(alloc, market)?)
 }

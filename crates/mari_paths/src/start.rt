@@ -1,5 +1,7 @@
-//! What a search starts from: the quantities and flows of an activation, set right, or what runs at one price; and what
+//! What a solve starts from: the quantities and flows of an activation, set right, or what runs at one price; and what
 //! stands in for what they leave out of balance.
+//!
+//! That they are the nearest which the bounds allow is no part of a contract: no promise rests on it.
 
 ghost use Rattle.std.specs.Prelude.{◌≡◌, ◌<◌, ◌≤◌, ℕ, pos, neg_ℤ, ◌+ℤ◌, ◌-ℤ◌, ◌++◌, length, slice_set, take, IfOk, OnOk};
 ghost use Rattle.std.specs.List.{All, AllZip};
@@ -8,7 +10,7 @@ ghost use Rattle.mari_market.specs.Activation.{IsWithinLimits, carried_out, put_
 ghost use Rattle.mari_market.specs.Market.{IsValid, IsBetween};
 ghost use Rattle.mari_network.specs.Orders.{IsOrderSlot, AreOrderSlots};
 ghost use Rattle.mari_network.specs.Slots.{slot_into, IsSmallSlot, IsWithinSlot};
-ghost use Rattle.mari_paths.specs.Starts.{most_halfway, most_moved, most_put_in, most_short, stand_ins, IsOrdered, IsNear, AreEven, AreFilled, AreSmallLimits, AreShort, StandInsNear};
+ghost use Rattle.mari_paths.specs.Starts.{most_halfway, most_moved, most_put_in, most_short, stand_ins, IsInOrder, IsNear, AreEven, AreFilled, AreSmallLimits, AreShort, StandInsNear};
 
 use crate::merit::{amounts_at, balancing_price};
 use mari_market::{Activation, Border, MOST_ORDERS, Market, Order, Side};
@@ -18,7 +20,7 @@ use std::alloc::{AllocError, Global};
 
 /// The amount that a slot may put in which is nearest to this one.
 pub fn nearest_within(slot: Slot, amount: i64) -> i64
-    requires order { IsOrdered slot }
+    requires order { IsInOrder slot }
     requires small { IsSmallSlot slot }
     ensures { IsWithinSlot slot result }
 {
@@ -44,7 +46,7 @@ fn amounts_near(
 ) -> Result<Vec<i64>, AllocError>
     requires orders { length orders.now ≡ length slots.now }
     requires mw { length mw.now ≡ length slots.now }
-    requires order { All IsOrdered slots.now }
+    requires order { All IsInOrder slots.now }
     requires small { All IsSmallSlot slots.now }
     ensures within { IfOk result (λ v. AllZip IsWithinSlot slots.now v.items) }
 {
@@ -84,7 +86,7 @@ pub fn first_run(
 ) -> Result<(Vec<i64>, Vec<i64>), AllocError>
     requires few { length slots.now ≤ MOST_ORDERS }
     requires lengths { length slots.now ≡ length market.now.orders }
-    requires order { All IsOrdered slots.now }
+    requires order { All IsInOrder slots.now }
     requires small { All IsSmallSlot slots.now }
     ensures amounts { IfOk result (λ r. AllZip IsWithinSlot slots.now r.0.items) }
     ensures flows { IfOk result (λ r. AllZip IsWithinLimits market.now.borders r.1.items) }

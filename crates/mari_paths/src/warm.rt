@@ -2,6 +2,7 @@
 
 ghost use Rattle.std.specs.Prelude.{◌≡◌, pos, length, IfOk, IfErr};
 ghost use Rattle.std.specs.Int.{int_max};
+ghost use Rattle.mari_market.specs.declared.market.Market.{Market};
 ghost use Rattle.mari_market.specs.Activation.{welfare_of};
 ghost use Rattle.mari_market.specs.Cut.{IsCut};
 ghost use Rattle.mari_market.specs.Dual.{IsTight, dual_value_of};
@@ -9,37 +10,39 @@ ghost use Rattle.mari_market.specs.Market.{IsValid};
 ghost use Rattle.mari_market.specs.Prefix.{word_of, bounds_at, IsFeasiblePrefix};
 ghost use Rattle.mari_market.specs.Price.{ArePrices};
 ghost use Rattle.mari_market.specs.Relaxation.{IsWithinBounds, IsRelaxedWelfare};
-ghost use Rattle.mari_network.specs.Solving.{IsAnswer, NoneWithin, OfCut};
+ghost use Rattle.mari_network.specs.Solving.{IsFoundOptimum, NoneWithin, OfCut};
 ghost use Rattle.mari_paths.specs.Warm.{AreGated, IsWarmStart};
 
 use crate::changes::set_bounds;
+use crate::margins::plain_margins;
 use crate::optimum::solve_network;
 use crate::start::start_from;
 use mari_gates::empty_prefix;
 use mari_market::{Activation, Market, Prefix};
 use mari_network::{
-    Margin, Places, Slot, SolveFault, Solved, margins_of, network_of, order_slots, places_of,
+    Margin, Optimum, Places, Slot, SolveFault, Solved, network_of, order_slots, places_of,
 };
 use std::alloc::{AllocError, Global};
 
 /// A market's network with what an activation runs in it, made once for all prefixes of a search.
 ///
 /// Only orders of gates have bounds that depend on the prefix. So a prefix is solved from a copy of this, in which just
-/// those orders are given their bounds, in place of a network made anew from all orders: it costs a copy, and one look
-/// at the slots of the zone of each order whose bounds differ. What is found is what `solve_from` finds from that
-/// activation, if it is a relaxed optimum of the prefix that decides no gate.
+/// those orders are given their bounds, in place of a network made anew from all orders: it costs a copy, and a step for
+/// each of those orders and for each zone. What is found is what `solve_from` finds from that activation, if it is a
+/// relaxed optimum of the prefix that decides no gate; no clause says so, but a test compares them.
 #[derive(Drop)]
 pub struct WarmStart {
     slots: Vec<Slot>,
     amounts: Vec<i64>,
     flows: Vec<i64>,
     places: Places,
-    margins: Vec<Margin>,
+    /// The margin of each zone among the orders without a gate.
+    plain: Vec<Margin>,
     gated: Vec<usize>,
 }
 
-/// The places of the orders that have a gate, rising.
-fn gated_places(alloc: Global, market: &Market) -> Result<Vec<usize>, AllocError>
+/// The places of the orders that have a gate.
+pub fn gated_places(alloc: Global, market: &Market) -> Result<Vec<usize>, AllocError>
     ensures { IfOk result (λ v. AreGated market.now v.items) }
 {
     let orders = market.orders.as_slice();
@@ -66,16 +69,16 @@ impl WarmStart {
         let reals = order_slots(alloc, market, &empty_prefix())?;
         let begun = start_from(alloc, market, reals, start)?;
         let slots = begun.slots.as_slice();
-        let places = places_of(alloc, market, slots)?;
-        let network = network_of(market, slots, &places);
-        let margins = margins_of(alloc, &network, begun.amounts.as_slice())?;
+        let orders = market.orders.as_slice().len();
+        let places = places_of(alloc, market, slots, orders)?;
+        let plain = plain_margins(alloc, market, slots, begun.amounts.as_slice())?;
         let gated = gated_places(alloc, market)?;
         Ok(WarmStart {
             slots: begun.slots,
             amounts: begun.amounts,
             flows: begun.flows,
             places,
-            margins,
+            plain,
             gated,
         })
     }
@@ -86,35 +89,53 @@ impl WarmStart {
         alloc: Global,
         market: &Market,
         prefix: &Prefix,
-    ) -> Result<Solved, SolveFault>
+    ) -> Result<Optimum, SolveFault>
         requires market { IsValid market.now }
         requires prefix { IsFeasiblePrefix market.now prefix.now }
         requires warm { IsWarmStart market.now self.now }
-        ensures { IsAnswer (bounds_at market.now prefix.now) market.now result }
+        ensures { IsFoundOptimum (bounds_at market.now prefix.now) market.now result }
     {
         let mut slots = Vec::from_slice(alloc, self.slots.as_slice())?;
         let mut amounts = Vec::from_slice(alloc, self.amounts.as_slice())?;
-        let mut flows = Vec::from_slice(alloc, self.flows.as_slice())?;
-        let mut margins = Vec::from_slice(alloc, self.margins.as_slice())?;
+        let flows = Vec::from_slice(alloc, self.flows.as_slice())?;
+        let mut margins = Vec::from_slice(alloc, self.plain.as_slice())?;
         let gated = self.gated.as_slice();
         set_bounds(
             market,
             prefix,
             gated,
-            &self.places,
             &mut slots,
             &mut amounts,
             &mut margins,
         );
         let network = network_of(market, &slots, &self.places);
-        solve_network(
-            alloc,
-            market,
-            &network,
-            &mut amounts,
-            &mut flows,
-            &mut margins,
-        )
+        solve_network(alloc, market, &network, amounts, flows, &mut margins)
+    }
+
+    /// The relaxed optimum of a prefix from what runs in this, as the network has it.
+    pub fn optimum(
+        &self,
+        alloc: Global,
+        market: &Market,
+        prefix: &Prefix,
+    ) -> Result<Optimum, SolveFault>
+        // What the caller knows of the market, the prefix and what this was made of.
+        requires market { IsValid market.now }
+        requires prefix { IsFeasiblePrefix market.now prefix.now }
+        requires warm { IsWarmStart market.now self.now }
+
+        // The optimum, or a cut, and that there is no optimum then.
+        ensures found { IsFoundOptimum (bounds_at market.now prefix.now) market.now result }
+        ensures empty { IfErr result (λ fault. OfCut fault (λ _. NoneWithin (bounds_at market.now prefix.now) market.now)) }
+    {
+        self.answer_at(alloc, market, prefix)
+    }
+
+    /// The places of the orders that have a gate.
+    pub fn gated(&self) -> &[usize]
+        ensures { (m : Market) → IsWarmStart m self.now → AreGated m result.now }
+    {
+        self.gated.as_slice()
     }
 
     /// The relaxed optimum of a prefix: an activation within the prefix's bounds, where orders of undecided gates may
@@ -145,6 +166,7 @@ impl WarmStart {
         ensures cut { IfErr result (λ fault. OfCut fault (IsCut (bounds_at market.now prefix.now) market.now)) }
         ensures empty { IfErr result (λ fault. OfCut fault (λ _. NoneWithin (bounds_at market.now prefix.now) market.now)) }
     {
-        self.answer_at(alloc, market, prefix)
+        let optimum = self.optimum(alloc, market, prefix)?;
+        Ok(optimum.solved(alloc, market)?)
     }
 }

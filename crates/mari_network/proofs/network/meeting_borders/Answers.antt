@@ -4,12 +4,12 @@ use Rattle.mari_network.proofs.network.meeting_borders.Goals as goal
 
 pub loop-i-preserved : goal.loop-i-preserved
 loop-i-preserved c = record {
-  long = c.add_place-in-loop-i.ensures.long ∙ c.add_place.ensures.long ∙ c.loop-i.invariant.long;
+  long = c.add_to-in-loop-i.ensures.long ∙ c.add_to.ensures.long ∙ c.loop-i.invariant.long;
   meeting = λ z d l.
-      meeting_more c.args.borders.now c.loop-i.i z (get_or c.loop-i.meeting.items z d).items (get_or c.add_place.new.lists.items z d).items
-      (get_or c.add_place-in-loop-i.new.lists.items z d).items c.loop-i-test.true
-      (record { here = λ e. ap (λ (k : ℕ). (get_or c.add_place.new.lists.items k d).items) e ∙ c.in_ok-add_place.ensures.here d d ∙ ap (λ (k : ℕ). (get_or c.loop-i.meeting.items k d).items ++ c.loop-i.i ∷ []) (sym e); other = λ n. ap (λ (v : Vec ℕ Global). v.items) (c.add_place.ensures.others z d n) })
-      (record { here = λ e. ap (λ (k : ℕ). (get_or c.add_place-in-loop-i.new.lists.items k d).items) e ∙ c.in_ok-add_place-2.ensures.here d d ∙ ap (λ (k : ℕ). (get_or c.add_place.new.lists.items k d).items ++ c.loop-i.i ∷ []) (sym e); other = λ n. ap (λ (v : Vec ℕ Global). v.items) (c.add_place-in-loop-i.ensures.others z d n) })
+      meeting_more c.args.borders.now c.loop-i.i z (get_or c.loop-i.meeting.items z d).items (get_or c.add_to.new.lists.items z d).items
+      (get_or c.add_to-in-loop-i.new.lists.items z d).items c.loop-i-test.true
+      (record { here = λ e. ap (λ (k : ℕ). (get_or c.add_to.new.lists.items k d).items) e ∙ c.in_ok-add_to.ensures.here d d ∙ ap (λ (k : ℕ). (get_or c.loop-i.meeting.items k d).items ++ c.loop-i.i ∷ []) (sym e); other = λ n. ap (λ (v : Vec ℕ Global). v.items) (c.add_to.ensures.others z d n) })
+      (record { here = λ e. ap (λ (k : ℕ). (get_or c.add_to-in-loop-i.new.lists.items k d).items) e ∙ c.in_ok-add_to-2.ensures.here d d ∙ ap (λ (k : ℕ). (get_or c.add_to.new.lists.items k d).items ++ c.loop-i.i ∷ []) (sym e); other = λ n. ap (λ (v : Vec ℕ Global). v.items) (c.add_to-in-loop-i.ensures.others z d n) })
       (c.loop-i.invariant.meeting z d l);
 }
 

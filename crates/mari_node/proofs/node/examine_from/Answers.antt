@@ -7,13 +7,12 @@ use Rattle.mari_node.proofs.node.examine_from.Goals.{then-is_some+in-Some-1, the
 
 pub returns-clause-left : goal.returns-clause-left
 returns-clause-left c =
-    let solved = c.solve_from-solved.result in
     let optimum = c.in_ok-optimum.optimum in
     let old = c.args.start.now in
-    let is : left_by solved old ≡ c.if-is_some.start = elim c.if-is_some.branch [
-      | then-is_some+in-Some-1 w ↦ left_there solved optimum old c.in_ok-optimum.ensures (sym c.is_some.ensures ∙ w.if-is_some.true) ∙ sym w.start-is
-      | then-is_some+in-None-1 w ↦ left_there solved optimum old c.in_ok-optimum.ensures (sym c.is_some.ensures ∙ w.if-is_some.true) ∙ sym w.start-is
-      | else-is_some+in-Some-1 w ↦ left_as_it_was solved optimum old c.in_ok-optimum.ensures (sym c.is_some.ensures ∙ w.if-is_some.false) ∙ sym w.start-is
-      | else-is_some+in-None-1 w ↦ left_as_it_was solved optimum old c.in_ok-optimum.ensures (sym c.is_some.ensures ∙ w.if-is_some.false) ∙ sym w.start-is
+    let is : left_by optimum old ≡ c.if-is_some.start = elim c.if-is_some.branch [
+      | then-is_some+in-Some-1 w ↦ left_there optimum old (sym c.is_some.ensures ∙ w.if-is_some.true) ∙ sym w.start-is
+      | then-is_some+in-None-1 w ↦ left_there optimum old (sym c.is_some.ensures ∙ w.if-is_some.true) ∙ sym w.start-is
+      | else-is_some+in-Some-1 w ↦ left_as_it_was optimum old (sym c.is_some.ensures ∙ w.if-is_some.false) ∙ sym w.start-is
+      | else-is_some+in-None-1 w ↦ left_as_it_was optimum old (sym c.is_some.ensures ∙ w.if-is_some.false) ∙ sym w.start-is
     ] in
-    subst (IsLeft c.args.market.now (word_of c.args.prefix.now) c.in_ok-finding.finding old) is (c.in_ok-finding.ensures.left old)
+    subst (IsLeft c.args.market.now (word_of c.args.prefix.now) c.in_ok-finding.finding old) is (c.in_ok-finding.ensures.left optimum old c.in_ok-optimum.ensures)

@@ -4,7 +4,7 @@ use Rattle.mari_market.specs.Sums.{int_at}
 use Rattle.mari_network.specs.Slots.{slot_at, IsWithinSlot}
 use Rattle.mari_network.proofs.Lists.{zip_long}
 use Rattle.mari_paths.proofs.Shortages.{near_wider}
-use Rattle.mari_paths.proofs.Changed.{change_made, marked_other, same_slot, small_loss, small_order, stood_before, IsChanged}
+use Rattle.mari_paths.proofs.Changed.{change_made, same_slot, small_loss, small_order, stood_before, IsChanged}
 use Rattle.mari_paths.proofs.changes.change_slot.Goals as goal
 
 pub returns-then-eq-clause-near : goal.returns-then-eq-clause-near
@@ -49,7 +49,5 @@ returns c =
       here = all.here;
       others = all.others;
       zones = all.zones;
-      stale = λ z h.
-          let other = marked_other c.args.stale.now c.args.slot.zone z (omega arith) h in
-          (other.0, λ t right. all.stays z t other.1 right);
+      amounts = all.amounts;
     }

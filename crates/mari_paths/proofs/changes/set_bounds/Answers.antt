@@ -1,98 +1,38 @@
-use Rattle.std.proofs.Common.{◌≡◌, ◌+◌, ◌*◌, ℕ, length, refl, sym, ◌∙◌, subst, arith, inl, inr, get_or}
-use Rattle.std.proofs.lemmas.Bool.{cases_eq}
-use Rattle.mari_market.specs.Bounds.{span_in}
-use Rattle.mari_gates.specs.GateTable.{state_in}
-use Rattle.mari_network.specs.declared.slots.Slot.{Slot}
-use Rattle.mari_network.specs.Orders.{no_order}
-use Rattle.mari_network.specs.Margins.{no_margin}
-use Rattle.mari_network.specs.Slots.{slot_at, IsWithinSlot}
-use Rattle.mari_network.proofs.Lists.{zip_long}
-use Rattle.mari_network.proofs.Marginal.{margins_at, margins_from, places_stay}
+use Rattle.std.proofs.Common.{◌≡◌, ◌<◌, ℕ, length, arith, sym, ap, ◌∙◌, inl, inr}
+use Rattle.std.specs.Prelude.{is_some}
+use Rattle.std.proofs.lemmas.Bool.{cases_Bool}
+use Rattle.mari_market.specs.Bounds.{Span}
 use Rattle.mari_market.specs.Prefix.{bounds_at}
-use Rattle.mari_market.specs.Sums.{int_at}
-use Rattle.mari_paths.specs.Starts.{order_at, FitsOrder}
-use Rattle.mari_paths.proofs.Bounded.{slot_in, order_fits, slots_are, slot_made, gate_fits, all_ahead, still_ahead}
-use Rattle.mari_paths.proofs.Shortages.{near_wider}
+use Rattle.mari_network.specs.declared.slots.Slot.{Slot}
+use Rattle.mari_network.specs.Orders.{slot_of}
+use Rattle.mari_network.specs.Slots.{price_of}
+use Rattle.mari_network.proofs.Gathered.{these_stay}
+use Rattle.mari_network.proofs.Rungs.{places_stay}
+use Rattle.mari_paths.specs.Starts.{order_at}
+use Rattle.mari_paths.specs.Warm.{IsPlain}
+use Rattle.mari_paths.proofs.Bounded.{plain_bounds, not_gated, slot_is}
 use Rattle.mari_paths.proofs.changes.set_bounds.Goals as goal
 
-pub change_slot-requires-clause-slot : goal.change_slot-requires-clause-slot
-change_slot-requires-clause-slot c =
+pub change_slots-requires-clause-rest : goal.change_slots-requires-clause-rest
+change_slots-requires-clause-rest c = λ k l.
     let m = c.args.market.now in
-    let p = get_or c.args.gated.now c.loop-place.place-index 0 in
-    let there = c.requires.there c.loop-place.place-index 0 c.loop-place-test.true in
-    let order = get_or c.as_slice-orders.result.now p no_order in
-    let is : c.slot_from-slot.result ≡ slot_in c.args.market.now c.args.prefix.now (get_or c.args.gated.now c.loop-place.place-index 0) =
-    slot_made m c.args.prefix.now c.as_slice-orders.result.now p _ _ (span_in (state_in c.states_at-states.result) order) c.slot_from-slot.result c.as_slice-orders.ensures
-    (c.states_at-states.ensures.bounds order (gate_fits m c.as_slice-orders.result.now p c.requires.market c.as_slice-orders.ensures there)) c.span-least.ensures.least c.span-least.ensures.greatest c.slot_from-slot.ensures in
-    subst (λ (s : Slot). FitsOrder c.args.market.now.zones (order_at c.args.market.now (get_or c.args.gated.now c.loop-place.place-index 0)) s) (sym is) (order_fits m c.args.prefix.now p c.requires.market there)
+    elim (cases_Bool (is_some (order_at c.args.market.now k).gate)) [
+      | inl e ↦ inl (c.requires.gated.all k l e)
+      | inr e ↦ inr (c.requires.plain k (l, e) ∙ sym (ap (λ (s : Span). slot_of s (order_at c.args.market.now k)) (plain_bounds m c.args.prefix.now (order_at c.args.market.now k) e)))
+    ]
 
-pub change_slot-requires-clause-near : goal.change_slot-requires-clause-near
-change_slot-requires-clause-near c = λ z l.
-    let few = c.requires.market.few_orders in
-    near_wider (700000000 + 200000 * c.loop-place.place-index) 2000000000 (int_at c.loop-place.amounts (length c.args.market.now.orders + z)) (c.loop-place.invariant.near z l)
-    (omega (arith, few, c.requires.few, c.loop-place-test.true))
-
-pub loop-place-init : goal.loop-place-init
-loop-place-init c = record {
-  filled = c.requires.filled;
-  near = c.requires.near;
-  into = λ z. refl;
-  zones = λ k. refl;
-  rest = λ k l. elim (c.requires.rest k l) [
-    | inl h ↦ inl (all_ahead c.args.gated.now k h)
-    | inr h ↦ inr h
-  ];
-  right = λ z l h. margins_at c.args.slots.now c.args.amounts.now c.args.market.now.zones c.args.margins.now z c.requires.margins l;
-}
-
-pub loop-place-preserved : goal.loop-place-preserved
-loop-place-preserved c =
+pub complete_margins-requires-clause-margins : goal.complete_margins-requires-clause-margins
+complete_margins-requires-clause-margins c =
     let m = c.args.market.now in
-    let p = get_or c.args.gated.now c.loop-place.place-index 0 in
-    let there = c.requires.there c.loop-place.place-index 0 c.loop-place-test.true in
-    let order = get_or c.as_slice-orders.result.now p no_order in
-    let is : c.slot_from-slot.result ≡ slot_in c.args.market.now c.args.prefix.now (get_or c.args.gated.now c.loop-place.place-index 0) =
-    slot_made m c.args.prefix.now c.as_slice-orders.result.now p _ _ (span_in (state_in c.states_at-states.result) order) c.slot_from-slot.result c.as_slice-orders.ensures
-    (c.states_at-states.ensures.bounds order (gate_fits m c.as_slice-orders.result.now p c.requires.market c.as_slice-orders.ensures there)) c.span-least.ensures.least c.span-least.ensures.greatest c.slot_from-slot.ensures in
-    let here : slot_at c.change_slot.new.slots p ≡ slot_in m c.args.prefix.now p = c.change_slot.ensures.here ∙ is in
-    let all = c.change_slot.ensures in
-    record {
-      filled = all.filled;
-      near = λ z l. near_wider (700000000 + 200000 * c.loop-place.place-index + 200000) (700000000 + 200000 * (c.loop-place.place-index + 1)) (int_at c.change_slot.new.amounts (length c.args.market.now.orders + z))
-          (all.near (700000000 + 200000 * c.loop-place.place-index) c.loop-place.invariant.near z l) (omega arith);
-      into = λ z. all.into z ∙ c.loop-place.invariant.into z;
-      zones = λ k. all.zones k ∙ c.loop-place.invariant.zones k;
-      rest = λ k l. elim (cases_eq k p) [
-        | inl e ↦ inr (subst (λ (j : ℕ). slot_at c.change_slot.new.slots j ≡ slot_in m c.args.prefix.now j) (sym e) here)
-        | inr other ↦ elim (c.loop-place.invariant.rest k l) [
-          | inl h ↦ inl (still_ahead c.args.gated.now c.loop-place.place-index k other h)
-          | inr h ↦ inr (all.others k l other ∙ h)
-        ]
-      ];
-      right = λ z l h. let kept = all.stale z h in kept.1 (get_or c.args.margins.now z no_margin) (c.loop-place.invariant.right z l kept.0);
-    }
-
-pub renew_stale-requires-clause-lengths : goal.renew_stale-requires-clause-lengths
-renew_stale-requires-clause-lengths c = sym (zip_long IsWithinSlot c.loop-place.slots c.loop-place.amounts c.loop-place.invariant.filled.within)
-
-pub renew_stale-requires-clause-members : goal.renew_stale-requires-clause-members
-renew_stale-requires-clause-members c = λ z v l.
-    let places = places_stay c.args.market.now.zones c.args.slots.now c.loop-place.slots c.args.market.now.borders c.args.places.now c.loop-place.auto.slots c.loop-place.invariant.zones c.requires.places in
-    rw c.as_slice-members.ensures.value (places.members z v (omega (arith, c.requires.margins.long, l)))
+    these_stay (IsPlain m) c.args.slots.now c.change_slots.new.slots c.args.amounts.now c.change_slots.new.amounts c.args.market.now.zones c.args.margins.now
+    c.change_slots.auto.slots c.change_slots.ensures.zones
+    (λ k plain. (c.change_slots.ensures.others k plain.0 (not_gated m c.args.gated.now k c.requires.gated plain)).0)
+    (λ k plain. (c.change_slots.ensures.others k plain.0 (not_gated m c.args.gated.now k c.requires.gated plain)).1) c.requires.margins
 
 pub returns-clause-places : goal.returns-clause-places
-returns-clause-places c = places_stay c.args.market.now.zones c.args.slots.now c.loop-place.slots c.args.market.now.borders c.args.places.now c.loop-place.auto.slots c.loop-place.invariant.zones c.requires.places
-
-pub returns-clause-margins : goal.returns-clause-margins
-returns-clause-margins c =
-    margins_from c.loop-place.slots c.loop-place.amounts c.args.market.now.zones c.renew_stale.new.margins (c.renew_stale.auto.margins ∙ c.requires.margins.long)
-    (λ z l. c.renew_stale.ensures z (omega (arith, c.renew_stale.auto.margins, c.requires.margins.long, l)))
-
-pub returns-clause-orders : goal.returns-clause-orders
-returns-clause-orders c =
+returns-clause-places c = λ places on a.
     let m = c.args.market.now in
-    slots_are (bounds_at m c.args.prefix.now) m c.loop-place.slots (omega (arith, c.loop-place.invariant.filled.long))
-    (λ k l. elim (c.loop-place.invariant.rest k l) [
-      | inl h ↦ absurd (omega (arith, h.1, h.2, c.loop-place-test.false))
-      | inr h ↦ h
-    ])
+    let prices : (k : ℕ) → k < places.on_ladders → price_of c.change_slots.new.slots k ≡ price_of c.args.slots.now k = λ k l.
+    let there : k < length c.args.market.now.orders = omega (arith, on, l) in
+    ap (λ (s : Slot). s.price) (slot_is (bounds_at c.args.market.now c.args.prefix.now) m c.change_slots.new.slots k there c.change_slots.ensures.orders) ∙ sym (c.requires.prices k there) in
+    places_stay m.zones c.args.slots.now c.change_slots.new.slots m.borders places c.change_slots.auto.slots c.change_slots.ensures.zones prices a

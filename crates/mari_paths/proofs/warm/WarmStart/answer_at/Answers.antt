@@ -14,8 +14,8 @@ pub solve_network-requires-clause-runs : goal.solve_network-requires-clause-runs
 solve_network-requires-clause-runs c =
     let slots : c.network_of-network.result.slots.now ≡ c.set_bounds.new.slots =
     c.network_of-network.ensures.slots ∙ c.deref.ensures.value ∙ with_items_is c.in_ok-slots.slots c.set_bounds.new.slots (c.set_bounds.auto.slots ∙ c.deref_mut.ensures.len) in
-    let amounts : c.deref_mut-4.result.now ≡ c.set_bounds.new.amounts = c.deref_mut-4.ensures.value ∙ with_items_is c.in_ok-amounts.amounts c.set_bounds.new.amounts (c.set_bounds.auto.amounts ∙ c.deref_mut-2.ensures.len) in
-    let flows : c.deref_mut-5.result.now ≡ c.args.self.now.flows.items = c.deref_mut-5.ensures.value ∙ c.in_ok-flows.ensures.items ∙ c.as_slice-3.ensures.value in
+    let amounts = with_items_is c.in_ok-amounts.amounts c.set_bounds.new.amounts (c.set_bounds.auto.amounts ∙ c.deref_mut-2.ensures.len) in
+    let flows : c.in_ok-flows.flows.items ≡ c.args.self.now.flows.items = c.in_ok-flows.ensures.items ∙ c.as_slice-3.ensures.value in
     let even : AreEven c.args.market.now c.set_bounds.new.slots c.set_bounds.new.amounts c.args.self.now.flows.items = λ z l.
     rw (c.deref_mut.ensures.value, c.in_ok-slots.ensures.items, c.as_slice.ensures.value, c.deref_mut-2.ensures.value, c.in_ok-amounts.ensures.items, c.as_slice-2.ensures.value) at c.set_bounds.ensures.into z
     ∙ c.requires.warm.even z l in
@@ -24,7 +24,7 @@ solve_network-requires-clause-runs c =
 
 pub solve_network-requires-clause-long : goal.solve_network-requires-clause-long
 solve_network-requires-clause-long c =
-    let amounts : c.deref_mut-4.result.now ≡ c.set_bounds.new.amounts = c.deref_mut-4.ensures.value ∙ with_items_is c.in_ok-amounts.amounts c.set_bounds.new.amounts (c.set_bounds.auto.amounts ∙ c.deref_mut-2.ensures.len) in
+    let amounts = with_items_is c.in_ok-amounts.amounts c.set_bounds.new.amounts (c.set_bounds.auto.amounts ∙ c.deref_mut-2.ensures.len) in
     rw amounts (filled_long c.args.market.now c.set_bounds.new.slots c.set_bounds.new.amounts c.set_bounds.ensures.filled)
 
 pub returns : goal.returns

@@ -1,10 +1,38 @@
-use Rattle.std.proofs.Common.{List, length, sym, ap, ◌∙◌}
+use Rattle.std.proofs.Common.{◌≡◌, ◌<◌, ℕ, List, length, take, sym, ap, ◌∙◌, subst}
+use Rattle.mari_market.specs.Bounds.{Span}
+use Rattle.mari_market.specs.declared.market.Order.{Order}
+use Rattle.mari_market.specs.Prefix.{bounds_at}
 use Rattle.mari_network.specs.declared.slots.Slot.{Slot}
-use Rattle.mari_network.specs.Slots.{IsWithinSlot}
-use Rattle.mari_network.proofs.Lists.{zip_long}
+use Rattle.mari_network.specs.Network.{ArePlaces}
+use Rattle.mari_network.specs.Orders.{slot_of, slots_of}
+use Rattle.mari_network.specs.Slots.{slot_at}
+use Rattle.mari_paths.specs.Starts.{order_at}
+use Rattle.mari_paths.proofs.Bounded.{plain_bounds, slot_is}
+use Rattle.mari_paths.proofs.Starts.{filled_in_order}
 use Rattle.mari_paths.proofs.warm.WarmStart.of.Goals as goal
 
-pub margins_of-requires-clause-amounts : goal.margins_of-requires-clause-amounts
-margins_of-requires-clause-amounts c =
-    ap length c.as_slice.ensures.value ∙ sym (zip_long IsWithinSlot c.in_ok-begun.begun.slots.items c.in_ok-begun.begun.amounts.items c.in_ok-begun.ensures.filled.within)
-    ∙ sym (ap (λ (ss : List Slot). length ss) (c.network_of-network.ensures.slots ∙ c.as_slice-slots.ensures.value))
+pub places_of-requires-clause-stand_ins : goal.places_of-requires-clause-stand_ins
+places_of-requires-clause-stand_ins c =
+    rw (ap (λ (os : List Order). length os) c.as_slice-orders.ensures, c.as_slice-slots.ensures.value)
+    (filled_in_order c.args.market.now c.in_ok-begun.begun.slots.items c.in_ok-begun.begun.amounts.items c.in_ok-begun.ensures.filled)
+
+pub returns : goal.returns
+returns c =
+    let m = c.args.market.now in
+    let slots = c.in_ok-begun.begun.slots.items in
+    let made : take (length c.args.market.now.orders) c.in_ok-begun.begun.slots.items ≡ slots_of (bounds_at c.args.market.now c.empty_prefix.result) c.args.market.now.orders = c.in_ok-begun.ensures.reals ∙ c.in_ok-reals.ensures.slots in
+    let is : (k : ℕ) → k < length c.args.market.now.orders → slot_at c.in_ok-begun.begun.slots.items k ≡ slot_of (bounds_at c.args.market.now c.empty_prefix.result (order_at c.args.market.now k)) (order_at c.args.market.now k) =
+    λ k l. slot_is (bounds_at m c.empty_prefix.result) m slots k l made in
+    record {
+      filled = c.in_ok-begun.ensures.filled;
+      limits = c.in_ok-begun.ensures.limits;
+      even = c.in_ok-begun.ensures.even;
+      near = c.in_ok-begun.ensures.near;
+      places = subst (λ (ss : List Slot). ArePlaces m.zones ss m.borders c.in_ok-places.places) c.as_slice-slots.ensures.value c.in_ok-places.ensures.places;
+      on_ladders = c.in_ok-places.ensures.on_ladders ∙ ap (λ (os : List Order). length os) c.as_slice-orders.ensures;
+      margins = rw (sym c.as_slice-slots.ensures.value, sym c.as_slice.ensures.value) c.in_ok-plain.ensures;
+      zones = λ k l. ap (λ (s : Slot). s.zone) (is k l);
+      prices = λ k l. ap (λ (s : Slot). s.price) (is k l);
+      gated = c.in_ok-gated.ensures;
+      plain = λ k plain. is k plain.0 ∙ ap (λ (s : Span). slot_of s (order_at m k)) (plain_bounds m c.empty_prefix.result (order_at m k) plain.1);
+    }

@@ -1,11 +1,11 @@
-use Rattle.mari_market.specs.declared.certificate.Cut.{Cut as CutRecord}
 use Rattle.mari_market.specs.Prefix.{bounds_at}
-use Rattle.mari_market.proofs.Cuts.{cut_is_empty}
-use Rattle.mari_network.proofs.Readings.{cut_says}
+use Rattle.mari_network.specs.Solving.{IsSolution}
+use Rattle.mari_network.proofs.Readings.{solved_says}
 use Rattle.mari_paths.proofs.warm.WarmStart.solve.Goals as goal
 
-pub returns-clause-empty : goal.returns-clause-empty
-returns-clause-empty c =
-    let m = c.args.market.now in
-    let spans = bounds_at c.args.market.now c.args.prefix.now in
-    cut_says spans m _ (λ (cut : CutRecord) a. λ b w. cut_is_empty spans m b cut.side cut.zones c.requires.market w a.side) c.answer_at.result c.answer_at.ensures
+pub returns-clause-tight : goal.returns-clause-tight
+returns-clause-tight c =
+    let s = c.in_ok-solved.ensures in
+    let solution : IsSolution (bounds_at c.args.market.now c.args.prefix.now) c.args.market.now c.in_ok-solved.field-0 =
+    solved_says (bounds_at c.args.market.now c.args.prefix.now) c.args.market.now c.in_ok-optimum.optimum c.in_ok-solved.field-0 c.in_ok-optimum.ensures.found s.activation s.potentials s.welfare in
+    solution.tight

@@ -1,9 +1,0 @@
-use Rattle.std.proofs.Common.{◌≡◌, ◌<◌, ℕ, Some, length}
-use Rattle.mari_network.specs.Margins.{IsDearestAmong}
-use Rattle.mari_network.proofs.margins.dearest_among.Given as goal
-
-abbrev pub invariant-loop-place : goal.invariant-loop-place
-invariant-loop-place l = record {
-  dearest : IsDearestAmong l.slots l.amounts l.places l.place-index l.best;
-  there : (i : ℕ) → l.best ≡ Some i → i < length l.slots;
-}

@@ -1,0 +1,10 @@
+use Rattle.std.proofs.Common.{◌≡◌, ◌<◌, ℕ, length, get_or}
+use Rattle.mari_network.specs.Network.{AreRungs, IsLadder}
+use Rattle.mari_network.proofs.network.ladders_of.Given as goal
+
+abbrev pub invariant-loop-zone : goal.invariant-loop-zone
+invariant-loop-zone l = record {
+  long : length l.ladders.items ≡ l.zones;
+  rungs : (z : ℕ) (d : _) → z < l.zones → AreRungs l.slots l.on_ladders z (get_or l.ladders.items z d).items;
+  done : (z : ℕ) (d : _) → z < l.zone → IsLadder l.slots l.on_ladders z (get_or l.ladders.items z d).items;
+}

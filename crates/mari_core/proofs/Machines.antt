@@ -20,7 +20,7 @@ use Rattle.mari_core.specs.declared.event.StepFault.TheVariants.{Memory}
 use Rattle.mari_core.specs.declared.node.NodeState.{NodeState}
 use Rattle.mari_core.specs.declared.node.NodeState.TheVariants.{Untaken, Taken, Branched, Closed}
 use Rattle.mari_core.specs.Nodes.{TreeNode, new_node, in_state, changed, branch_of}
-use Rattle.mari_core.specs.Growth.{Grown, Entry, MaySettle, grown, settling, settling_by, closing_leaf, children_at, IsGrowth, AreCutAt, IsCutAt, IsEntryCutAt, IsCutoff, IsRefusal, IsAnswer}
+use Rattle.mari_core.specs.Growth.{Grown, Entry, MaySettle, grown, settling, settling_by, closing_leaf, children_at, IsGrowth, AreCutAt, IsCutAt, IsEntryCutAt, IsCutoff, IsRefusal}
 use Rattle.mari_core.specs.Growth.Entry.{Take, Close, Branch, Full, GiveBack}
 use Rattle.mari_core.specs.Machine.{Machine, started, new_actor, seeing, offering, by_actor, seen_by, after, IsProper, KeepsFacts, IsActor, IsBest, best_or, best_of}
 use Rattle.mari_market.specs.declared.clearing.Clearing.{Clearing}
@@ -189,12 +189,6 @@ entry_step_kept s e tree (Ok u) h grows c change same =
 entry_step_kept s e tree (Err f) h grows c change same =
     tree_kept s tree h grows (ap (λ (g : Grown). g.market) same) (subst (λ (g : Grown). AreCutAt s.incumbent g.nodes) (sym same) h.cutoffs)
 
--- ---- answers
-
-pub answer_by_refusal : {X : Type 0} (refused : Option StepFault) (r : Result X StepFault) → IsRefusal refused r → IsAnswer refused r
-answer_by_refusal refused (Ok x) h = h
-answer_by_refusal refused (Err f) h = subst (λ (o : Option StepFault). MatchOption o (f ≡ Memory) (λ g. f ≡ g)) (sym h) refl
-
 -- ---- the start
 
 replicated : (m : Market) (w : ℕ) (n : ℕ) → All (IsActor m w w) (replicate n (new_actor w))
@@ -224,8 +218,8 @@ pub by_actor_there : (actors : List Actor) (k : ℕ) (refused : Option StepFault
 by_actor_there actors k refused l = ap (λ (o : Option Actor). by_actor o refused) (slice_get-get_or actors k (new_actor 0) l)
 
 pub answer_there : {X : Type 0} (actors : List Actor) (k : ℕ) (refused : Option StepFault) (r : Result X StepFault)
-    → k < length actors → IsAnswer refused r → IsAnswer (by_actor (slice_get actors k) refused) r
-answer_there actors k refused r l h = subst (λ (o : Option StepFault). IsAnswer o r) (sym (by_actor_there actors k refused l)) h
+    → k < length actors → IsRefusal refused r → IsRefusal (by_actor (slice_get actors k) refused) r
+answer_there actors k refused r l h = subst (λ (o : Option StepFault). IsRefusal o r) (sym (by_actor_there actors k refused l)) h
 
 -- what an actor that is there saw
 pub actor_at : (s : Machine) (k : ℕ) (a : Actor) → KeepsFacts s → slice_get s.actors k ≡ Some a → IsActor s.tree.market s.first.welfare s.incumbent a

@@ -280,11 +280,6 @@ abbrev pub IsRefusal : {X : Type 0} → Option StepFault → Result X StepFault 
 IsRefusal refused (Ok x) = refused ≡ None
 IsRefusal refused (Err fault) = refused ≡ Some fault
 
--- the same, where it may run out of memory too
-abbrev pub IsAnswer : {X : Type 0} → Option StepFault → Result X StepFault → Type 0
-IsAnswer refused (Ok x) = refused ≡ None
-IsAnswer refused (Err fault) = MatchOption refused (fault ≡ Memory) (λ r. fault ≡ r)
-
 -- some actor may close the node by the leaf at the cutoff
 pub record CanClose (g : Grown) (x : ℕ) (leaf : Leaf) (cutoff : ℕ) : Type 0 where
   pub actor : ℕ

@@ -8,7 +8,7 @@ ghost use Rattle.mari_market.specs.Market.{IsValid};
 ghost use Rattle.mari_market.specs.Prefix.{word_of, IsFeasiblePrefix};
 ghost use Rattle.mari_market.specs.Relaxation.{IsClosedWelfare};
 ghost use Rattle.mari_market.specs.SearchTree.{IsLarger};
-ghost use Rattle.mari_core.specs.Growth.{NoneWaits, IsLeastUntaken, IsAnswer};
+ghost use Rattle.mari_core.specs.Growth.{NoneWaits, IsLeastUntaken, IsRefusal};
 ghost use Rattle.mari_core.specs.Machine.{started, new_actor, seeing, offering, after, refusal, IsProper, KeepsFacts, best_of};
 ghost use Rattle.mari_core.specs.declared.event.Event.TheVariants.{Look, Offer, Take, Settle, GiveBack};
 ghost use Rattle.mari_core.specs.declared.event.StepFault.TheVariants.{Memory as NoStepMemory};
@@ -143,7 +143,7 @@ impl<'m> Search<'m> {
         requires { IsProper self.old event }
         ensures change { IfOk result (λ _. self.new ≡ after self.old event) }
         ensures same { IfErr result (λ _. self.new ≡ self.old) }
-        ensures answer { IsAnswer (refusal self.old event) result }
+        ensures answer { IsRefusal (refusal self.old event) result }
         ensures memory { IfErr result (λ fault. fault ≢ NoStepMemory) }
         ensures facts { KeepsFacts self.new }
     {
@@ -168,7 +168,7 @@ impl<'m> Search<'m> {
         requires there { actor < length self.old.actors }
         ensures change { IfOk result (λ _. self.new ≡ after self.old (Look actor)) }
         ensures same { IfErr result (λ _. self.new ≡ self.old) }
-        ensures answer { IsAnswer (refusal self.old (Look actor)) result }
+        ensures answer { IsRefusal (refusal self.old (Look actor)) result }
         ensures memory { IfErr result (λ fault. fault ≢ NoStepMemory) }
         ensures facts { KeepsFacts self.new }
     {
@@ -183,10 +183,10 @@ impl<'m> Search<'m> {
         requires there { actor < length self.old.actors }
         requires attained { IsAttained self.old.tree.market attained }
 
-        // What the event changes, or why nothing does; memory is never wanted.
+        // What the event changes, or why nothing does; no step takes memory.
         ensures change { IfOk result (λ _. self.new ≡ after self.old (Offer actor attained)) }
         ensures same { IfErr result (λ _. self.new ≡ self.old) }
-        ensures answer { IsAnswer (refusal self.old (Offer actor attained)) result }
+        ensures answer { IsRefusal (refusal self.old (Offer actor attained)) result }
         ensures memory { IfErr result (λ fault. fault ≢ NoStepMemory) }
 
         // What every event keeps.
@@ -203,7 +203,7 @@ impl<'m> Search<'m> {
         requires there { actor < length self.old.actors }
         ensures change { IfOk result (λ _. self.new ≡ after self.old (Take actor node)) }
         ensures same { IfErr result (λ _. self.new ≡ self.old) }
-        ensures answer { IsAnswer (refusal self.old (Take actor node)) result }
+        ensures answer { IsRefusal (refusal self.old (Take actor node)) result }
         ensures memory { IfErr result (λ fault. fault ≢ NoStepMemory) }
         ensures facts { KeepsFacts self.new }
     {
@@ -216,10 +216,10 @@ impl<'m> Search<'m> {
         requires there { actor < length self.old.actors }
         requires proper { IsProper self.old (Settle actor node finding) }
 
-        // What the event changes, or why nothing does; memory is never wanted.
+        // What the event changes, or why nothing does; no step takes memory.
         ensures change { IfOk result (λ _. self.new ≡ after self.old (Settle actor node finding)) }
         ensures same { IfErr result (λ _. self.new ≡ self.old) }
-        ensures answer { IsAnswer (refusal self.old (Settle actor node finding)) result }
+        ensures answer { IsRefusal (refusal self.old (Settle actor node finding)) result }
         ensures memory { IfErr result (λ fault. fault ≢ NoStepMemory) }
 
         // What every event keeps.
@@ -235,7 +235,7 @@ impl<'m> Search<'m> {
         requires there { actor < length self.old.actors }
         ensures change { IfOk result (λ _. self.new ≡ after self.old (GiveBack actor node)) }
         ensures same { IfErr result (λ _. self.new ≡ self.old) }
-        ensures answer { IsAnswer (refusal self.old (GiveBack actor node)) result }
+        ensures answer { IsRefusal (refusal self.old (GiveBack actor node)) result }
         ensures memory { IfErr result (λ fault. fault ≢ NoStepMemory) }
         ensures facts { KeepsFacts self.new }
     {

@@ -1,9 +1,9 @@
 use Rattle.std.proofs.Common.{subst}
 use Rattle.mari_core.specs.Nodes.{state_at}
-use Rattle.mari_core.specs.Growth.{return_refused, IsAnswer}
+use Rattle.mari_core.specs.Growth.{return_refused, IsRefusal}
 use Rattle.mari_core.specs.Growth.Entry.{GiveBack}
 use Rattle.mari_core.specs.Machine.{Machine}
-use Rattle.mari_core.proofs.Machines.{entry_step_kept, answer_there, answer_by_refusal}
+use Rattle.mari_core.proofs.Machines.{entry_step_kept, answer_there}
 use Rattle.mari_core.proofs.search.Search.give_back.Goals as goal
 
 pub invariant_of-self : goal.invariant_of-self
@@ -18,7 +18,7 @@ returns-clause-facts c =
 
 pub returns-clause-answer : goal.returns-clause-answer
 returns-clause-answer c =
-    let refused = answer_by_refusal (return_refused c.args.actor (state_at c.self.inside.tree.nodes c.args.node)) c.give_back.result c.give_back.ensures.answer in
+    let refused = c.give_back.ensures.answer in
     answer_there c.args.self.now.actors c.args.actor (return_refused c.args.actor (state_at c.args.self.now.tree.nodes c.args.node)) c.give_back.result
     (c.requires.there)
-    (subst (λ (s : Machine). IsAnswer (return_refused c.args.actor (state_at s.tree.nodes c.args.node)) c.give_back.result) c.self.view_is refused)
+    (subst (λ (s : Machine). IsRefusal (return_refused c.args.actor (state_at s.tree.nodes c.args.node)) c.give_back.result) c.self.view_is refused)

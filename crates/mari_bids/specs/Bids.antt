@@ -85,8 +85,8 @@ has_bad_field row = not (is_name (id_of row) && is_name (provider_of row) && is_
 abbrev pub count_of : ℕ → List Row → ℕ → ℕ
 count_of quarters rows quarter = count_by (λ row. quarter_at quarters row == quarter) rows
 
--- a line is refused for a bad field, for a bid of an earlier line, for an unknown zone, for a quarter that the day has
--- not, for a price or a quantity out of range, and for a least quantity above the greatest
+-- a line is refused for a bad field, for a bid of an earlier line, for an unknown zone, for a quarter that the day
+-- doesn't have, for a price or a quantity out of range, and for a least quantity above the greatest
 abbrev pub bid_checks : ZoneBook → ℕ → List Row → Row → Checks
 bid_checks zones quarters earlier row =
     (has_bad_field row, bid_check_number BadField)

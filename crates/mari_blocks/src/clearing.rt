@@ -23,7 +23,7 @@ use std::alloc::Global;
 pub struct JointText {
     /// Its text.
     pub text: Items<u8>,
-    /// Whether it is published; else its search has more nodes than the budget.
+    /// Whether it is published; else its search tree has more nodes than the budget.
     pub published: bool,
 }
 

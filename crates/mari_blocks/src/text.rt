@@ -77,7 +77,7 @@ fn put_quarters(alloc: Global, out: &mut Vec<u8>, blocks: &[QuarterBlock]) -> Re
     Ok(())
 }
 
-/// Appends the two lines that a joint market begins with which is published.
+/// Appends the first two lines of a joint market that is published.
 fn put_heading(alloc: Global, out: &mut Vec<u8>, block: &JointBlock) -> Result<(), Memory>
     ensures { OnOk result (out.new.items ≡ out.old.items ++ heading_text block.now) }
 {
@@ -116,7 +116,7 @@ fn put_count(alloc: Global, out: &mut Vec<u8>, count: u32) -> Result<(), Memory>
     put(out, b"\n")
 }
 
-/// The text of one that isn't, since its search has more nodes than the budget: with the count of nodes so far.
+/// The text of one that isn't, since its search tree has more nodes than the budget: with the count of nodes so far.
 pub fn unpublished_text(alloc: Global, first: u32, last: u32, count: u32) -> Result<Vec<u8>, Memory>
     ensures { IfOk result (λ text. text.items ≡ unpublished_text_of first last count) }
 {

@@ -28,6 +28,7 @@ pub record IsBorderWorth (m : Market) (a : Activation) (ps : List Cents) (more b
   pub forth : IsWorth m a ps (record { border = border; forth = true; more = more }) w.forth
   pub back : IsWorth m a ps (record { border = border; forth = false; more = more }) w.back
 
+-- what is worth nothing, either way
 abbrev pub no_worth : BorderWorth
 no_worth = record { forth = record { gain = record { 0 = pos 0 }; rise = record { 0 = pos 0 } }; back = record { gain = record { 0 = pos 0 }; rise = record { 0 = pos 0 } } }
 
@@ -36,7 +37,7 @@ pub record AreWorths (m : Market) (a : Activation) (ps : List Cents) (more : ℕ
   pub one_each : length ws ≡ length m.borders
   pub each : (k : ℕ) → k < length m.borders → IsBorderWorth m a ps more k (slice_index_or ws k no_worth)
 
--- what is worth on the one limit or on the other
+-- what more MW are worth on the one limit or on the other
 abbrev pub worth_on : (forth : Bool) → BorderWorth → Worth
 worth_on true w = w.forth
 worth_on false w = w.back

@@ -24,7 +24,7 @@ use Rattle.mari_check.specs.declared.stream.Stream.{Stream}
 use Rattle.mari_check.specs.declared.stream.StreamFault.{StreamFault}
 use Rattle.mari_check.specs.declared.stream.StreamFault.TheVariants.{Fetch as OfFetch, Text as OfText, Memory as NoMemory}
 use Rattle.mari_check.specs.declared.verdict.Verdict.{Verdict}
-use Rattle.mari_check.specs.Streams.{EndStates, FaultStops, FaultStates, IsAllRead, IsVerdictSoFar, HasRead, IsStreamFetch, IsWrappedMemory, LineStates, SameAsRead, StopsAtFault, StreamStates, fault_of_fetch, fault_of_text}
+use Rattle.mari_check.specs.Streams.{EndStates, FaultStops, FaultStates, IsAllRead, IsVerdictSoFar, HasRead, IsStreamFetch, IsWrapped, LineStates, SameAsRead, StopsAtFault, StreamStates, fault_of_fetch, fault_of_text}
 use Rattle.mari_check.specs.Verdicts.{IsVerdict}
 
 -- ---- faults
@@ -43,7 +43,7 @@ end-fault T books text parts (fault.Truncated n) h = h
 end-fault T books text parts fault.Memory h = absurd h
 
 -- no fault of the text says that memory ran out, nor that a fetch failed
-pub line-never : (T : Type 0) (text : List ℕ) (f : StreamFault) → LineStates text f → IsWrappedMemory {T = T} (Err f) → ⊥
+pub line-never : (T : Type 0) (text : List ℕ) (f : StreamFault) → LineStates text f → IsWrapped {T = T} (Err f) → ⊥
 line-never T text (OfText fault.Memory) h w = h
 line-never T text (OfText (fault.BadLine n)) h w = absurd cc
 line-never T text (OfText (fault.BadOrder n)) h w = absurd cc
@@ -56,7 +56,7 @@ line-no-fetch T text (OfText f) g h w = w
 line-no-fetch T text (OfFetch f) g h w = h
 line-no-fetch T text NoMemory g h w = w
 
-pub end-never : (books : Books) (text : List ℕ) (result : Result Verdict StreamFault) → EndStates books text result → IsWrappedMemory result → ⊥
+pub end-never : (books : Books) (text : List ℕ) (result : Result Verdict StreamFault) → EndStates books text result → IsWrapped result → ⊥
 end-never books text (Ok v) h w = w
 end-never books text (Err (OfText fault.Memory)) h w = h
 end-never books text (Err (OfText (fault.BadLine n))) h w = h
@@ -93,7 +93,7 @@ all-read books text parts stream None e n s w f = record { parts = parts; read =
 
 -- ---- faults of the shelf
 
-pub never-wrapped : (T : Type 0) (f : Fetch) → IsWrappedMemory {T = T} (Err (fault_of_fetch f)) → ⊥
+pub never-wrapped : (T : Type 0) (f : Fetch) → IsWrapped {T = T} (Err (fault_of_fetch f)) → ⊥
 never-wrapped T fetch.Failed h = absurd cc
 never-wrapped T fetch.Missing h = absurd cc
 never-wrapped T fetch.TooLong h = absurd cc

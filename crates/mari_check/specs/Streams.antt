@@ -96,11 +96,11 @@ IsStreamFetch f (Err NoMemory) = ⊥
 IsStreamFetch f (Ok x) = ⊥
 
 -- out of memory is reported as a fault of the shelf or of the text
-abbrev pub IsWrappedMemory : {T : Type 0} → Result T StreamFault → Type 0
-IsWrappedMemory (Err (OfFetch f)) = f ≡ fetch.Memory
-IsWrappedMemory (Err (OfText f)) = f ≡ fault.Memory
-IsWrappedMemory (Err NoMemory) = ⊥
-IsWrappedMemory (Ok x) = ⊥
+abbrev pub IsWrapped : {T : Type 0} → Result T StreamFault → Type 0
+IsWrapped (Err (OfFetch f)) = f ≡ fetch.Memory
+IsWrapped (Err (OfText f)) = f ≡ fault.Memory
+IsWrapped (Err NoMemory) = ⊥
+IsWrapped (Ok x) = ⊥
 
 -- how a fault of the shelf is reported, and one of the text
 abbrev pub fault_of_fetch : Fetch → StreamFault

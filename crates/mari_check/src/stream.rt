@@ -9,7 +9,7 @@ ghost use Rattle.mari_publish.specs.declared.publication.Part.{Part as ThePart};
 ghost use Rattle.mari_publish.specs.declared.publication.Publication.{Publication as ThePublication};
 ghost use Rattle.mari_remain.specs.Accepted.{IsAccepted};
 ghost use Rattle.mari_remain.specs.declared.books.Books.{Books as TheBooks};
-ghost use Rattle.mari_check.specs.Streams.{Comes, EndStates, FaultStops, IsAllRead, IsVerdictSoFar, IsOpen, HasRead, IsStreamFetch, IsWrappedMemory, PiecesReport, PushStates, SameAsRead, StreamStates, fault_of_fetch, fault_of_text};
+ghost use Rattle.mari_check.specs.Streams.{Comes, EndStates, FaultStops, IsAllRead, IsVerdictSoFar, IsOpen, HasRead, IsStreamFetch, IsWrapped, PiecesReport, PushStates, SameAsRead, StreamStates, fault_of_fetch, fault_of_text};
 
 use crate::day::DayCheck;
 use crate::verdict::Verdict;
@@ -180,7 +180,7 @@ fn read_pieces<S: Shelf>(
     ensures stops { (page : List ℕ) → S.rest shelf.old ≡ Some page → IfErr result (FaultStops S.rest S.fetches page shelf.new) }
 
     // Why it wasn't read to its end. Out of memory is reported as such.
-    ensures memory { IsWrappedMemory result → ⊥ }
+    ensures memory { IsWrapped result → ⊥ }
     ensures failed { Counts (IsStreamFetch fetch.Failed result) (S.faults shelf.old) (S.faults shelf.new) }
     ensures missing { Counts (IsStreamFetch fetch.Missing result) (S.misses shelf.old) (S.misses shelf.new) }
     ensures too_long { Counts (IsStreamFetch fetch.TooLong result) (S.overs shelf.old) (S.overs shelf.new) }
@@ -221,7 +221,7 @@ pub fn check_stream<S: Shelf>(
     ensures stops { (reported : Pages) (page : List ℕ) → S.pages shelf.old ≡ Some reported → page_of reported name.now ≡ Some page → IfErr result (FaultStops S.rest S.fetches page shelf.new) }
 
     // Why there is no verdict. Out of memory is reported as such.
-    ensures memory { IsWrappedMemory result → ⊥ }
+    ensures memory { IsWrapped result → ⊥ }
     ensures failed { Counts (IsStreamFetch fetch.Failed result) (S.faults shelf.old) (S.faults shelf.new) }
     ensures missing { Counts (IsStreamFetch fetch.Missing result) (S.misses shelf.old) (S.misses shelf.new) }
     ensures too_long { Counts (IsStreamFetch fetch.TooLong result) (S.overs shelf.old) (S.overs shelf.new) }

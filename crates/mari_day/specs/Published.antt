@@ -24,8 +24,8 @@ pub record IsReportedOf (books : Books) (run : ℕ) (made : RunMarket) (also : O
   pub prices : HasPrices made.market b
   pub ledger : HasLedger books made also b
 
--- a published run of a market: a first activation of its market, with its welfare and a certificate tree of at most so
--- many items that holds at it for its gate word; the prices, intervals and areas; and the ledger
+-- a published run of a market: a first activation of its market, with its welfare and a certificate tree of at most
+-- `budget` items that holds at it for its gate word; the prices, intervals and areas; and the ledger
 pub record IsPublishedOf (books : Books) (budget run : ℕ) (made : RunMarket) (also : Option (List Cents)) (b : FullBlock) : Type 0 where
   pub heading : b.heading ≡ heading_of books run
   pub names : NamesMarket books made b

@@ -32,7 +32,7 @@ use Rattle.mari_day.specs.Files.Gap.{NotHeld, OverLimit}
 abbrev pub file_refusal : File → (line number : ℕ) → Refusal
 file_refusal file line number = record { file = file_number file; line = line; number = number }
 
--- the book of a file, or its refusal, which names the file; no page's book wants memory
+-- the book of a file, or its refusal, which names the file; no page's book is out of memory
 abbrev pub of_file : {Book : Type 0} → File → Result Book BookFault → Result Book Refusal
 of_file file (Ok book) = Ok book
 of_file file (Err (refused.At line number)) = Err (file_refusal file line number)

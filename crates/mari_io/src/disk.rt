@@ -165,8 +165,8 @@ fn reading_fault(error: &io::Error) -> Fetch
     }
 }
 
-/// Appends what is left of a file, if that is no more than a page may have. Of a longer file it reads no more than
-/// that.
+/// Appends what is left of a file, if that is no more than a page may have. Of a longer file it appends no more than that,
+/// and reads at most a buffer more.
 fn read_page<F: Read>(file: &mut F, into: &mut Vec<u8>) -> Result<(), Fetch>
     ensures ok { OnOk result (AppendsAtMost MOST_PAGE into.old.items into.new.items) }
     ensures kept { take (length into.old.items) into.new.items ≡ into.old.items }

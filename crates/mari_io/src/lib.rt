@@ -3,7 +3,7 @@
 //!
 //! In memory a shelf reports its pages and a sink what it took, and both fail by a plan; over real files and standard
 //! output neither reports anything. The crate stands on `mari_units`. Its promise: an answer other than success or
-//! `Memory` comes only where its count rose in that call.
+//! `Memory` comes only where its count rose in that call, or stands at its last value.
 #![tactic(auto)]
 
 mod disk;

@@ -3,10 +3,12 @@
 use mari_market::Cut;
 use mari_units::{Cents, Items, Name, Quarters};
 
-/// The most bytes of a line: no line of a text has more.
+/// The most bytes of a line: no line of a text has more. The longest list the quantities of `MOST_ORDERS` orders, each of
+/// at most five digits and a space.
 pub const MOST_LINE: usize = 32_768;
 
-/// The greatest amount of money in a line, either way, in quarter-cents.
+/// The greatest amount of money in a line, either way, in quarter-cents: that of a provider in `MOST_RUNS` runs, each of at
+/// most 4 · 10^15, which is twice that of an operator.
 pub const MOST_MONEY: u64 = 4_000_000_000_000_000_000;
 
 /// A zone and its prices, in cents per MWh.

@@ -42,6 +42,7 @@ owed_in full (Taken k) = 1
 owed_in full (Branched closed opened) = 0
 owed_in full (Closed leaf cutoff) = 0
 
+-- how many entries these nodes may still have
 -- Counted from the list's head, as one node more is read, where `count_by` of the kit counts from its end; so is
 -- `taken_among`.
 abbrev pub owed_among : Bool → List TreeNode → ℕ

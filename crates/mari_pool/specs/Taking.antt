@@ -38,6 +38,8 @@ module _ {N : Type 0} {g : Ghosts N} where
     pub word_is : slice_get (words_of p.tree.nodes) x.node ≡ Some (word_of x.prefix)
     pub change : q ≡ taking p worker x.node
 
+  -- what a worker gets, and the pool after it: a ticket, the number of nodes that others have taken, that nothing is left,
+  -- or that the budget is spent
   abbrev pub Takes : ℕ → Pooled → Pooled → Took N g → Type 0
   Takes worker p q (took.Took x) = IsTaken worker p q x
   Takes worker p q (took.Idle n) = IsIdle p q n × (0 < n)

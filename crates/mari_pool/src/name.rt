@@ -12,12 +12,16 @@ pub trait SearchName {
     ghost use Rattle.mari_market.specs.declared.market.Market.{Market};
     ghost use Rattle.mari_incumbent.specs.Incumbent.{IncumbentId};
 
+    /// The incumbent that its workers share.
     ghost incumbent: { IncumbentId };
 
+    /// The market that is searched.
     ghost market: { Market };
 
+    /// The most nodes that it may make.
     ghost budget: { ℕ };
 
+    /// The number of its workers.
     ghost workers: { ℕ };
 }
 

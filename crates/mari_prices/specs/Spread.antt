@@ -74,12 +74,13 @@ pub record IsGreatestBefore (n : ℕ) (own : ℕ → ℤ) (xs : List (Option Set
   pub free : IsFree xs z
   pub greatest : (u : ℕ) → u < n → IsFree xs u → own u ≤ℤ own z
 
--- the next zone to settle, with the entry that it gets
+-- the free zone of the greatest value, with the entry that it gets, where no settled zone leads to a free one
 pub record IsStart (lead : ℕ → ℕ → Type 0) (own : ℕ → ℤ) (xs : List (Option SettledZone)) (z : ℕ) (s : SettledZone) : Type 0 where
   pub greatest : IsGreatestBefore (length xs) own xs z
   pub none_led : NoneLed lead xs
   pub first : IsByItself own z s
 
+-- the next zone to settle, with the entry that it gets
 abbrev pub IsNext : (ℕ → ℕ → Type 0) → (ℕ → ℤ) → List (Option SettledZone) → ℕ → SettledZone → Type 0
 IsNext lead own xs z s = IsLed lead xs z s ⊎ IsStart lead own xs z s
 

@@ -27,10 +27,11 @@ money_lines_of names lines = map_along money_line names lines
 abbrev pub amount_line : List (List ℕ) → List Quarters → ℕ → AmountLine
 amount_line names amounts place = record { name = name_at names place; amount = slice_index_or amounts place nothing }
 
--- numbers in order of first appearance, each once
+-- the numbers with this one, which goes last where it is new
 abbrev pub with_number : List ℕ → ℕ → List ℕ
 with_number = listed_with (λ n m. m == n)
 
+-- each number once, in order of first appearance
 abbrev pub each_once : List ℕ → List ℕ
 each_once numbers = listed_once (λ n m. m == n) numbers
 

@@ -24,7 +24,7 @@ use Rattle.mari_publish.proofs.PartsGiven.{gives_nothing}
 use Rattle.mari_publish.proofs.Pieces.{progress, lacks_line}
 
 -- a reader of which nothing has come
-pub stands_for_nothing : (kept : Kept) (bytes : List ℕ) → kept ≡ nothing_kept → bytes ≡ [] → ComesFrom (record { kept = kept; lines = 0; ahead = mark.Kept; unread = bytes }) [] []
+pub stands_for_nothing : (kept : Kept) (bytes : List ℕ) → kept ≡ nothing_kept → bytes ≡ [] → ComesFrom (record { kept = kept; lines = 0; ahead = mark.Whole; unread = bytes }) [] []
 stands_for_nothing kept bytes k e = record { lines = []; rest = []; is = refl; in_range = tt; gives = subst (λ k. Gives [] [] k) (sym k) gives_nothing; number = refl; ahead = sym e }
 
 -- a reader with other bytes ahead
@@ -111,7 +111,7 @@ pub part_stays : (text piece : List ℕ) (parts : List Part) (x : Part) → HasP
 part_stays text piece parts x h = parts_stay text piece (parts ++ x ∷ []) h
 
 -- the end of the text
-nothing_ahead : (a : Ahead) (unread rest : List ℕ) → a ≡ mark.Kept → unread ≡ [] → IsAhead a unread rest → rest ≡ []
+nothing_ahead : (a : Ahead) (unread rest : List ℕ) → a ≡ mark.Whole → unread ≡ [] → IsAhead a unread rest → rest ≡ []
 nothing_ahead a unread rest all none h = let is : rest ≡ unread = subst (λ b. IsAhead b unread rest) all h in is ∙ none
 
 pub whole_end : {T : Type 0} (done : T) (r : ComeState) (text : List ℕ) (parts : List Part) → ComesFrom r text parts → IsWhole r → IsEnd text parts (Ok done)
@@ -120,8 +120,8 @@ whole_end done r text parts s w =
     let empty = nothing_ahead r.ahead r.unread s.rest w.all w.none s.ahead in
     (p, whole_text text s.rest (r.lines + 1) p p r.kept (progress r text parts s) w.done empty refl, s.gives.given ∙ ap (λ h. parts_so_far p h) w.done)
 
-at_end : (a : Ahead) (unread rest : List ℕ) → NoLineIn a unread → IsAhead a unread rest → rest ≡ [] → (a ≡ mark.Kept) × (unread ≡ [])
-at_end mark.Kept unread rest none h e = (refl, sym h ∙ e)
+at_end : (a : Ahead) (unread rest : List ℕ) → NoLineIn a unread → IsAhead a unread rest → rest ≡ [] → (a ≡ mark.Whole) × (unread ≡ [])
+at_end mark.Whole unread rest none h e = (refl, sym h ∙ e)
 at_end mark.TooLong unread rest none h e = let long = h.1 in let len = ap length e in absurd (omega (arith, long, len))
 at_end mark.Ended unread rest none h e = absurd none
 

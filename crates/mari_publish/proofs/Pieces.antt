@@ -106,7 +106,7 @@ one_next text parts a (Err fault.Memory) s t = inr (inr refl)
 
 -- where no whole line is left
 no_line_in : (a : Ahead) (unread rest : List ℕ) → IsAhead a unread rest → NoLineIn a unread → Lacks 10 rest
-no_line_in mark.Kept unread rest e none = subst (λ (w : List ℕ). Lacks 10 w) (sym e) none
+no_line_in mark.Whole unread rest e none = subst (λ (w : List ℕ). Lacks 10 w) (sym e) none
 no_line_in mark.TooLong unread rest e none = e.0
 no_line_in mark.Ended unread rest e none = absurd none
 
@@ -135,7 +135,7 @@ nothing_next r text parts s none =
     )
 
 -- a line of no form
-all_there : (a : Ahead) (unread rest : List ℕ) → a ≡ mark.Kept → IsAhead a unread rest → rest ≡ unread
+all_there : (a : Ahead) (unread rest : List ℕ) → a ≡ mark.Whole → IsAhead a unread rest → rest ≡ unread
 all_there a unread rest e h = subst (λ b. IsAhead b unread rest) e h
 
 ended_there : (a : Ahead) (unread rest : List ℕ) → a ≡ mark.Ended → IsAhead a unread rest → (here : List ℕ) × (after : List ℕ) × (rest ≡ here ++ 10 ∷ after) × Lacks 10 here × (MOST_LINE < length here)

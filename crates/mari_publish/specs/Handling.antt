@@ -16,7 +16,7 @@ use Rattle.mari_publish.specs.Pieces.{ComeState, HasNoLine}
 
 -- the bytes are all there, and begin with this line
 pub record BeginsWith (r : ComeState) (here following : List ℕ) : Type 0 where
-  pub all : r.ahead ≡ mark.Kept
+  pub all : r.ahead ≡ mark.Whole
   pub is : r.unread ≡ here ++ 10 ∷ following
   pub whole : Lacks 10 here
 
@@ -30,7 +30,7 @@ pub record IsTaken (old new : ComeState) (x : Option Part) : Type 0 where
   pub spelled : spelling line ≡ here
   pub follows : after old.kept old.kept.held line ≡ Some (new.kept, x)
   pub one_more : new.lines ≡ old.lines + 1
-  pub all : new.ahead ≡ mark.Kept
+  pub all : new.ahead ≡ mark.Whole
   pub left : new.unread ≡ following
 
 -- the line has no form

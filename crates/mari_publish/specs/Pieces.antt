@@ -63,7 +63,7 @@ pub record ReaderState : Type 0 where
 
 -- the bytes after the handled lines; of a line that is too long there is a mark in place of them
 abbrev pub IsAhead : Ahead → List ℕ → List ℕ → Type 0
-IsAhead mark.Kept unread rest = rest ≡ unread
+IsAhead mark.Whole unread rest = rest ≡ unread
 IsAhead mark.TooLong unread rest = Lacks 10 rest × (MOST_LINE < length rest)
 IsAhead mark.Ended unread rest = (here : List ℕ) × (after : List ℕ) × (rest ≡ here ++ 10 ∷ after) × Lacks 10 here × (MOST_LINE < length here)
 
@@ -84,7 +84,7 @@ IsCome r = (text : List ℕ) × (parts : List Part) × ComesFrom r text parts
 
 -- no whole line is left to be handled
 abbrev pub NoLineIn : Ahead → List ℕ → Type 0
-NoLineIn mark.Kept unread = Lacks 10 unread
+NoLineIn mark.Whole unread = Lacks 10 unread
 NoLineIn mark.TooLong unread = ⊤
 NoLineIn mark.Ended unread = ⊥
 
@@ -97,7 +97,7 @@ KeepsFew r = length r.unread ≤ MOST_LINE
 
 -- all that has come is handled, and the last line with it
 pub record IsWhole (r : ComeState) : Type 0 where
-  pub all : r.ahead ≡ mark.Kept
+  pub all : r.ahead ≡ mark.Whole
   pub none : r.unread ≡ []
   pub done : r.kept.held ≡ held.Done
 

@@ -18,7 +18,7 @@ use std::alloc::Global;
 #[derive(Clone, Copy)]
 pub enum Ahead {
     /// All of them.
-    Kept,
+    Whole,
     /// Of a line that is too long a mark; it has not ended.
     TooLong,
     /// Of a line that is too long a mark; it has ended.
@@ -59,7 +59,7 @@ fn handle_line(alloc: Global, coming: &mut Coming) -> Result<Handled, TextFault>
     ensures handled { coming.new.handled ≤ vec_len coming.new.bytes }
 {
     match coming.ahead {
-        Ahead::Kept => {}
+        Ahead::Whole => {}
         Ahead::TooLong => return Ok(Handled::Nothing),
         Ahead::Ended => return Err(TextFault::BadLine(coming.lines + 1)),
     }
@@ -130,7 +130,7 @@ pub fn append(coming: &mut Coming, piece: &[u8]) -> Result<(), Memory>
     ensures held { OnErr result (vec_len coming.new.bytes ≡ vec_len coming.old.bytes) }
 {
     match coming.ahead {
-        Ahead::Kept => coming.bytes.extend_from_slice(piece)?,
+        Ahead::Whole => coming.bytes.extend_from_slice(piece)?,
         Ahead::TooLong => {
             if split_once(b'\n', piece).is_some() {
                 coming.ahead = Ahead::Ended;
@@ -147,7 +147,7 @@ pub fn is_whole(coming: &Coming) -> bool
     ensures whole { result ≡ true → IsWhole (come_of coming.now) }
     ensures unfinished { result ≡ false → IsWhole (come_of coming.now) → ⊥ }
 {
-    if !matches!(coming.ahead, Ahead::Kept) {
+    if !matches!(coming.ahead, Ahead::Whole) {
         return false;
     }
     if coming.handled < coming.bytes.len() {

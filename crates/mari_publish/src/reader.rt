@@ -48,7 +48,7 @@ impl TextReader {
             coming: Coming {
                 kept: Kept::start(),
                 lines: 0,
-                ahead: Ahead::Kept,
+                ahead: Ahead::Whole,
                 bytes: Vec::new(alloc),
                 handled: 0,
             },
@@ -56,7 +56,7 @@ impl TextReader {
         }
     }
 
-    /// Whether the last call was a `next` that found no further part.
+    /// Whether the last `next` found no further part, and nothing was pushed since.
     pub fn waits(&self) -> bool
         ensures { result ≡ self.now.waits }
     {

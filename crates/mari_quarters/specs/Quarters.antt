@@ -109,7 +109,7 @@ RefusesQuartersByCheck (Err why.Memory) = ⊤
 abbrev pub IsAfterFiles : Refusal → Type 0
 IsAfterFiles refusal = (refusal.file ≡ BLOCKS) ⊎ ((check : JointCheck) × (refusal ≡ refusal_by check))
 
--- where something is refused after the market files, it isn't one of these
+-- where something is refused, it is such a refusal
 abbrev pub RefusesAfterFiles : {T : Type 0} → Result T BooksFault → Type 0
 RefusesAfterFiles (Ok x) = ⊤
 RefusesAfterFiles (Err (why.Fetch number f)) = ⊤

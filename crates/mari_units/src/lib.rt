@@ -1,7 +1,7 @@
 //! Whole MW, prices, money and names: how the market files write them and how the program prints them; the limits of
 //! files, markets and searches; and the list type that all public structs of the project use.
 //!
-//! The crate stands on std alone. Its promise: a reader answers exactly the number or the name that a text writes, or
+//! The crate stands on std and `itoa`. Its promise: a reader answers exactly the number or the name that a text writes, or
 //! exactly why it writes none, for texts of any length; a printer writes the one printed form.
 #![tactic(auto)]
 

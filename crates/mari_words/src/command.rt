@@ -98,7 +98,7 @@ pub enum Command {
 pub enum WordsFault {
     /// They are no command.
     Usage,
-    /// Out of memory: the command couldn't be kept.
+    /// Out of memory: the parser, what it found, or the command couldn't be kept.
     Memory,
 }
 

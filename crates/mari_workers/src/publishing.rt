@@ -22,7 +22,7 @@ use std::alloc::Global;
 /// given: the best with every gate closed, from which the search started.
 ///
 /// Of the optimal activations of one gate word many may be found, each at another prefix; this one rests on the market
-/// alone.
+/// alone. No clause says so; tests compare what is published.
 fn of_its_word(
     alloc: Global,
     market: &Market,
@@ -96,7 +96,7 @@ fn cut_and_refined(
 /// The same, where a tree that was refined for a later gate word than the first is cut back and refined again.
 ///
 /// So the tree rests on the market alone: its branches are those whose own certificate doesn't close them, at the
-/// welfare or, where they are early for the first gate word, at that less 1.
+/// welfare or, where they are early for the first gate word, at that less 1. No clause says so; tests compare trees.
 fn cut_and_refined_to_end(
     alloc: Global,
     market: &Market,

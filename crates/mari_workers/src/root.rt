@@ -16,7 +16,7 @@ use mari_units::Memory;
 use std::alloc::Global;
 
 /// A relaxed optimum of the root, from which every prefix of a search is examined. So what is found at a prefix rests
-/// on the market and the prefix, and not on what was examined before.
+/// on the market and the prefix, and not on what was examined before. No clause says so; tests compare what is found.
 #[derive(Drop)]
 pub struct Root {
     optimum: Activation,

@@ -349,8 +349,8 @@ fn search_under_name<G: Turnstile, R: Threads + Wait + Sync>(
 ///
 /// Workers take their findings from the turnstile, outside the lock. When all have ended this thread settles what is
 /// left by itself. Where a node could not branch within the budget, this thread searches again, alone: workers make
-/// other nodes than one does, and whether a run is published is not to rest on that. The answer is as that of
-/// `search_alone`; it comes if every worker ends.
+/// other nodes than one does, and a run that one publishes is then published too. No clause says so. The answer comes if
+/// every worker ends.
 pub fn search<G: Turnstile, R: Threads + Wait + Sync>(
     rt: &R,
     alloc: Global,

@@ -94,7 +94,7 @@ fn offer_rounded(
 }
 
 /// Finds out about a node from the root's optimum, offers what was found, and looks at the incumbent. The node may be
-/// settled with that then, at the greatest welfare that any worker had offered.
+/// settled with that then, at the greatest welfare that its worker has seen.
 pub(crate) fn visit<G: Turnstile>(
     alloc: Global,
     market: &Market,

@@ -50,8 +50,8 @@ pub fn empty<T>(alloc: Global) -> Items<T>
     Items::of(Vec::new(alloc))
 }
 
-/// Holds this from now on, with the same counts. No other function stores what is held but `follow`, which takes out
-/// what stood there, so that the letting go of it is proved once.
+/// Holds this from now on, with the same counts. What was held is let go of here alone, so that this is proved once: other
+/// functions (`close_block`, `close_tree` and so on) only take out what is held.
 pub fn hold(kept: &mut Kept, held: Held)
     ensures { kept.new ≡ kept_with kept.old held }
 {

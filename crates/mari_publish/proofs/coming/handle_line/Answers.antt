@@ -15,7 +15,7 @@ use Rattle.mari_publish.proofs.coming.handle_line.Goals as goal
 pub returns-then-here-gt-MOST_LINE-clause-handles : goal.returns-then-here-gt-MOST_LINE-clause-handles
 returns-then-here-gt-MOST_LINE-clause-handles c =
     let is = from_place c.args.coming.now.bytes.items c.deref.result.now c.args.coming.now.handled _ c.deref.ensures.value c.in-Some.ensures.1 in
-    (inr (c.in-Some.here.now, c.in-Some._after.now, record { all = c.in-Kept.is; is = is; whole = c.in-Some.ensures.0 }, too_long c.in-Some.here.now c.if-here-gt-MOST_LINE.true), refl, refl)
+    (inr (c.in-Some.here.now, c.in-Some._after.now, record { all = c.in-Whole.is; is = is; whole = c.in-Some.ensures.0 }, too_long c.in-Some.here.now c.if-here-gt-MOST_LINE.true), refl, refl)
 
 pub returns-in-Ok-clause-handles : goal.returns-in-Ok-clause-handles
 returns-in-Ok-clause-handles c =
@@ -24,13 +24,13 @@ returns-in-Ok-clause-handles c =
     record {
       here = c.in-Some.here.now;
       following = c.in-Some._after.now;
-      begins = record { all = c.in-Kept.is; is = is; whole = c.in-Some.ensures.0 };
+      begins = record { all = c.in-Whole.is; is = is; whole = c.in-Some.ensures.0 };
       line = t.0;
       in_range = t.1;
       spelled = t.2;
       follows = t.3;
       one_more = refl;
-      all = c.in-Kept.is;
+      all = c.in-Whole.is;
       left = drop_line c.args.coming.now.bytes.items c.in-Some.here.now c.in-Some._after.now c.args.coming.now.handled is;
     }
 
@@ -49,7 +49,7 @@ pub returns-in-Err-clause-handles : goal.returns-in-Err-clause-handles
 returns-in-Err-clause-handles c =
     let is = from_place c.args.coming.now.bytes.items c.deref.result.now c.args.coming.now.handled _ c.deref.ensures.value c.in-Some.ensures.1 in
     rw c.at.ensures
-    (refused c.args.coming.now c.take_line.new.kept c.in-Some.here.now c.in-Some._after.now c.in-Err.fault (record { all = c.in-Kept.is; is = is; whole = c.in-Some.ensures.0 }) c.in-Err.ensures)
+    (refused c.args.coming.now c.take_line.new.kept c.in-Some.here.now c.in-Some._after.now c.in-Err.fault (record { all = c.in-Whole.is; is = is; whole = c.in-Some.ensures.0 }) c.in-Err.ensures)
 
 pub returns-in-Ended-clause-handles : goal.returns-in-Ended-clause-handles
 returns-in-Ended-clause-handles c = (inl c.in-Ended.is, refl, refl)
@@ -60,6 +60,6 @@ returns-in-TooLong-clause-handles c = (subst (λ (a : Ahead). NoLineIn a (drop c
 pub returns-in_default-clause-handles : goal.returns-in_default-clause-handles
 returns-in_default-clause-handles c =
     let is = from_place c.args.coming.now.bytes.items c.deref.result.now c.args.coming.now.handled _ c.deref.ensures.value refl in (
-      subst (λ (a : Ahead). NoLineIn a (drop c.args.coming.now.handled c.args.coming.now.bytes.items)) (sym c.in-Kept.is) (subst (λ (w : List ℕ). Lacks 10 w) (sym is) c.in_default.ensures),
+      subst (λ (a : Ahead). NoLineIn a (drop c.args.coming.now.handled c.args.coming.now.bytes.items)) (sym c.in-Whole.is) (subst (λ (w : List ℕ). Lacks 10 w) (sym is) c.in_default.ensures),
       refl,
     )

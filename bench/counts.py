@@ -6,7 +6,8 @@ usage: python3 bench/counts.py [PROGRAM] [--nodes] [--gateless] [--growth] [--ru
 PROGRAM is the built program, by default crates/mari_app/out/mari_app. On Debian the others come by
     apt-get update; apt-get install -y liblemon-dev g++ valgrind
 Without options it makes all tables. A count is the same for the same program and folder, whatever else the machine does.
-It is no test: nothing fails where a count is high.
+It is no test: nothing fails where a count is high. Of a copy by `rep movsb`, which is one instruction, valgrind counts each
+byte, so all programs are counted with the C library's copies by 32 bytes at a time.
 
 A node of ours is one examination from the root (`Root::examine`) with all that it calls, the mean of all that the search
 makes; LEMON's is its search less its reading, by the nodes that it solves. Of a run without gates ours are the solver and
@@ -48,7 +49,7 @@ class Counter:
         """The instructions of a command, what it prints, and the profile's file."""
         profile = os.path.join(self.scratch, "profile")
         counted = subprocess.run(["valgrind", "--tool=callgrind", f"--callgrind-out-file={profile}", *words],
-                                 stdout=subprocess.PIPE, stderr=subprocess.PIPE, text=True, check=False)
+                                 stdout=subprocess.PIPE, stderr=subprocess.PIPE, text=True, check=False, env=os.environ | field.COPIES)
         assert counted.returncode in (0, 1), counted.stderr
         return int(re.search(r"Collected : (\d+)", counted.stderr).group(1)), counted.stdout, profile
 
@@ -91,7 +92,7 @@ def gateless(counter):
         for part in (1, 0.1, 0):
             folder = counter.folder(narrower(folders.market(**shape), part))
             _, _, profile = counter.clear(folder)
-            ours = sum(counter.of_function(profile, name)[0] for name in ("mari_paths::optimum::solve_from", "mari_node::node::finding_by"))
+            ours = sum(counter.of_function(profile, name)[0] for name in ("mari_paths::optimum::optimum_from", "mari_node::node::finding_by"))
             solved, _, _ = counter.count([counter.lemon, "--relaxed", folder])
             read, _, _ = counter.count([counter.lemon, "--read", folder])
             cells.append(f"{ours:,.0f} of {solved - read:,}: {ours / (solved - read):.2f}")

@@ -23,6 +23,8 @@ import clock
 import folders
 
 HERE = pathlib.Path(__file__).resolve().parent
+# Of a copy by `rep movsb`, which is one instruction, valgrind counts each byte; so copies are by 32 bytes at a time.
+COPIES = {"GLIBC_TUNABLES": "glibc.cpu.x86_rep_movsb_threshold=1000000000:glibc.cpu.x86_rep_stosb_threshold=1000000000"}
 GATED_30 = {"zones": 30, "borders": 60, "bids": 2000, "size": 5, "load": 40}
 GATED_64 = {"zones": 64, "borders": 256, "bids": 4096, "demands": 512, "gates": 40, "size": 5, "load": 40}
 GATED = {
@@ -104,7 +106,7 @@ class Bench:
         """How many instructions a command takes, or a function of it with all that it calls."""
         counts = os.path.join(self.scratch, "counts")
         counted = ["valgrind", "--tool=callgrind", f"--callgrind-out-file={counts}", *words]
-        subprocess.run(counted, stdout=subprocess.DEVNULL, stderr=subprocess.DEVNULL, check=True)
+        subprocess.run(counted, stdout=subprocess.DEVNULL, stderr=subprocess.DEVNULL, check=True, env=os.environ | COPIES)
         told = subprocess.run(["callgrind_annotate", "--inclusive=yes", "--threshold=100", counts], stdout=subprocess.PIPE, text=True, check=True).stdout
         found = re.search(rf"^ *([\d,]+) .*{function or 'PROGRAM TOTALS'}", told, re.M)
         return int(found.group(1).replace(",", ""))
@@ -162,7 +164,7 @@ def gateless(bench):
         cells = ["-"] * 3
         if has("valgrind"):
             words = [bench.mari, "clear", folder, "--workers", "1"]
-            ours = sum(bench.instructions(words, name) for name in ("mari_paths::optimum::solve_from", "mari_node::node::finding_by"))
+            ours = sum(bench.instructions(words, name) for name in ("mari_paths::optimum::optimum_from", "mari_node::node::finding_by"))
             lemons, read = (bench.instructions([bench.lemon + ".counted", mode, folder]) for mode in ("--relaxed", "--read"))
             cells = [f"{ours:,}", f"{lemons - read:,}", f"{ours / (lemons - read):.2f}"]
         print(row(name, f"{spent.processor:.4f}", f"{theirs.processor:.4f}", *cells), flush=True)

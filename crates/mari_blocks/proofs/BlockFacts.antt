@@ -4,27 +4,19 @@ use Rattle.std.specs.Prelude.{option_map}
 use Rattle.std.specs.List.{All, find, range_with_len}
 use Rattle.std.proofs.lemmas.Bool.{and_parts, cases_lt, eqb-true, leb-true, not-false}
 use Rattle.std.proofs.lemmas.List.{get_or_past}
-use Rattle.std.proofs.lemmas.List.Elements.{All-head, All-nil, All-push, All-tail}
+use Rattle.std.proofs.lemmas.List.Elements.{All-nil, All-push}
 use Rattle.std.proofs.lemmas.List.FromFn.{get_or-map-range_with_len, length-map-range_with_len}
 use Rattle.mari_rows.specs.Books.{GivesBook, book_in, first_failing}
 use Rattle.mari_rows.specs.declared.faults.BookFault.{BookFault}
 use Rattle.mari_rows.specs.declared.rows.Row.{Row}
 use Rattle.mari_rows.proofs.BookFacts.{all-passed, along-lines, place-below}
 use Rattle.mari_rows.proofs.BookLemmas.{book-page}
+use Rattle.mari_rows.proofs.FindLemmas.{found-has}
 use Rattle.mari_bids.specs.declared.bids.BidBook.{BidBook}
 use Rattle.mari_links.specs.declared.links.LinkBook.{LinkBook}
 use Rattle.mari_blocks.specs.Blocks.{IsBlockBook, IsOfBlock, bid_at, block_at, block_book, block_grammar, block_in, block_name, block_place, is_linked, line_checks, names_of, quarter_at}
 use Rattle.mari_blocks.specs.declared.blocks.BlockBook.{BlockBook}
 use Rattle.mari_blocks.proofs.BlockLemmas.{named-there}
-
--- what is found passes, and is one of the list
-found : {X : Type 0} (test : X → Bool) (P : X → Type 0) (xs : List X) (x : X) → find test xs ≡ Some x → All P xs → (test x ≡ true) × P x
-found test P [] x e all = cc e
-found test P (y ∷ ys) x e all = by (test y) refl e (found test P ys x)
-  where
-    by : (b : Bool) → test y ≡ b → (if b then Some y else find test ys) ≡ Some x → (find test ys ≡ Some x → All P ys → (test x ≡ true) × P x) → (test x ≡ true) × P x
-    by true t f more = let same : y ≡ x = cc f in (rw (sym same) t, rw (sym same) (All-head P y ys all))
-    by false t f more = more f (All-tail P y ys all)
 
 module _ (bids : BidBook) (links : LinkBook) (first last : ℕ) where
   -- a bid that may be in a block
@@ -49,7 +41,7 @@ module _ (bids : BidBook) (links : LinkBook) (first last : ℕ) where
         → IsOfBlock bids links first last (length (names_of rows)) bid block
     of-line bid block None e f = cc f
     of-line bid block (Some row) e f =
-        let is = found (λ row. bid_at bids row == bid) (λ row. IsFree (bid_at bids row)) rows row e free in
+        let is = found-has (λ row. bid_at bids row == bid) (λ row. IsFree (bid_at bids row)) rows row e free in
         let same : bid_at bids row ≡ bid = eqb-true (bid_at bids row) bid is.0 in
         let place : block_place rows row ≡ block = cc f in
         let own = rw same at is.1 in

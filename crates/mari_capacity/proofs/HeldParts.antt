@@ -19,25 +19,14 @@ use Rattle.mari_publish.specs.declared.publication.Part.{Part}
 use Rattle.mari_publish.specs.declared.publication.Publication.{Publication}
 use Rattle.mari_publish.proofs.Fits.{lines_in_range}
 use Rattle.mari_publish.proofs.Follows.{accepted, in_parts}
+use Rattle.mari_publish.proofs.MoreText.{parts_stay}
 use Rattle.mari_publish.proofs.Outcomes.{compare, first_text}
 use Rattle.mari_publish.proofs.PartsGiven.{gives_nothing, longer_parts, next_gives}
 use Rattle.mari_publish.proofs.Whole.{all_front}
 
--- ---- a text that goes on
-
-pub parts-stay : (text more : List ℕ) (parts : List Part) → HoldsParts text parts → HoldsParts (text ++ more) parts
-parts-stay text more parts h = record {
-  lines = h.lines;
-  after = h.after ++ more;
-  is = ap (λ (t : List ℕ). t ++ more) h.is ∙ append_assoc (text_of_lines h.lines) h.after more;
-  in_range = h.in_range;
-  kept = h.kept;
-  gives = h.gives;
-}
-
 -- what is held of a page as far as it is given, the page holds
 pub given-parts : (page : List ℕ) (parts : List Part) → HoldsParts (take most_given page) parts → HoldsParts page parts
-given-parts page parts h = subst (λ (t : List ℕ). HoldsParts t parts) (take-append-drop most_given page) (parts-stay (take most_given page) (drop most_given page) parts h)
+given-parts page parts h = subst (λ (t : List ℕ). HoldsParts t parts) (take-append-drop most_given page) (parts_stay (take most_given page) (drop most_given page) parts h)
 
 -- ---- lines that give more parts give the next part first
 

@@ -13,6 +13,7 @@ use Rattle.mari_publish.specs.declared.publication.Block.{Block}
 use Rattle.mari_publish.specs.declared.publication.Part.{Part}
 use Rattle.mari_publish.specs.declared.publication.Publication.{Publication}
 use Rattle.mari_publish.proofs.FirstParts.{come_parts, no_more}
+use Rattle.mari_publish.proofs.MoreText.{parts_stay}
 use Rattle.mari_publish.proofs.Paging.{Under, all-of-it, fault-reported, given-front, last-piece, one-piece, overlong-front, overlong-page, with-piece}
 use Rattle.mari_remain.specs.declared.books.Books.{Books}
 use Rattle.mari_progress.specs.Totals.{HasHead}
@@ -32,12 +33,12 @@ use Rattle.mari_capacity.specs.Values.{IsValueText}
 use Rattle.mari_capacity.specs.Streams.EndsInvalid.{AtPart}
 use Rattle.mari_capacity.specs.Streams.EndsFailed.{Midway}
 use Rattle.mari_capacity.proofs.FirstFaults.{blocks_in-parts}
-use Rattle.mari_capacity.proofs.HeldParts.{no-fault-of-nothing, nothing-held, parts-stay}
+use Rattle.mari_capacity.proofs.HeldParts.{no-fault-of-nothing, nothing-held}
 
 -- ---- a text that goes on
 
 states-stay : (books : Books) (n : ℕ) (text more : List ℕ) (parts : List Part) (lines : List ℕ) → StatesPage books n text parts lines → StatesPage books n (text ++ more) parts lines
-states-stay books n text more parts lines t = record { holds = parts-stay text more parts t.holds; states = t.states }
+states-stay books n text more parts lines t = record { holds = parts_stay text more parts t.holds; states = t.states }
 
 -- the text that a reader stands for holds the parts that were taken
 pub read-states : (books : Books) (n : ℕ) (text : List ℕ) (parts : List Part) (s : ValueStream) → TookParts books n text parts s → StatesPage books n text parts s.lines.items
@@ -53,7 +54,7 @@ stops-on books n text left page lines why e few h = subst (λ (p : List ℕ). St
     own : (w : ValueStop) → StopsInText books n text lines w → StopsOnPage books n (text ++ left) lines w
     own (At (Invalid run number)) s =
         let front = given-front text left few in
-        let there : HasPart (take most_given (text ++ left)) s.parts s.part = subst (λ (t : List ℕ). HasPart t s.parts s.part) front.1 (parts-stay text front.0 (s.parts ++ s.part ∷ []) s.there) in
+        let there : HasPart (take most_given (text ++ left)) s.parts s.part = subst (λ (t : List ℕ). HasPart t s.parts s.part) front.1 (parts_stay text front.0 (s.parts ++ s.part ∷ []) s.there) in
         AtPart s.parts s.part there s.fault s.states
     own (At (OfText f)) s = record {
       reported = fault-reported text left f few s.here;

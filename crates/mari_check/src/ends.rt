@@ -2,7 +2,7 @@
 //!
 //! These and `spread.rt` do what `bounds.rt` and `spread.rt` of `mari_prices` do, in some 50 lines that look alike: a
 //! fault in the code that finds the published prices must not be one of the check too. Both are proved from the
-//! definitions of `mari_market`, and ask its functions what an order or a border says of a price.
+//! definitions of `mari_market`. These ask its functions what an order or a border says of a price.
 
 ghost use Rattle.std.specs.Prelude.{◌≡◌, ◌<◌, ◌≤◌, ℕ, List, length, IfOk, IsTrue, ◌↔◌};
 ghost use Rattle.std.specs.List.{All};

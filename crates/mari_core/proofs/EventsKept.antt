@@ -19,16 +19,10 @@ use Rattle.mari_core.specs.Machine.{Machine, seeing, offering, seen_by, by_actor
 use Rattle.mari_core.specs.Replay.{after_all, first_refusal, refused_or, AreProper}
 use Rattle.mari_core.proofs.Seeds.{crowded_is_larger}
 use Rattle.mari_core.proofs.Entries.{take_passes, return_passes, entry_kept}
-use Rattle.mari_core.proofs.Settling.{may_close, may_branch}
+use Rattle.mari_core.proofs.Settling.{gt_by_test, le_by_test, may_close, may_branch}
 use Rattle.mari_core.proofs.Machines.{may_settle_by, look_kept, offer_kept, settling_cut, entry_step_kept, actor_at, seen_is_cutoff}
 
 -- ---- entries
-
-fits : (a b : ℕ) → nat_le a b ≡ true → a ≤ b
-fits a b e = grind (arith, nat_tests)
-
-crowds : (a b : ℕ) → nat_le a b ≡ false → b < a
-crowds a b e = grind (arith, nat_tests)
 
 -- each entry of a list keeps the facts of a growth
 pub entries_kept : (g : Grown) (es : List Entry) → IsGrowth g → AreAllowed g es → IsGrowth (grown_by g es)
@@ -42,8 +36,8 @@ pub settle_allowed : (g : Grown) (k x cutoff : ℕ) (finding : Finding) → IsGr
 settle_allowed g k x cutoff finding grows above h taken = by_leaf (closing_leaf cutoff finding) refl
   where
     by_test : (b : Bool) → nat_le (length g.nodes + length (children_at g x)) g.budget ≡ b → MayBranch g k x cutoff → IsAllowed g (if b then Branch k x cutoff else Full k x cutoff)
-    by_test true e may = (may, fits (length g.nodes + length (children_at g x)) g.budget e)
-    by_test false e may = (may, crowds (length g.nodes + length (children_at g x)) g.budget e)
+    by_test true e may = (may, le_by_test (length g.nodes + length (children_at g x)) g.budget e)
+    by_test false e may = (may, gt_by_test (length g.nodes + length (children_at g x)) g.budget e)
 
     by_leaf : (o : Option Leaf) → closing_leaf cutoff finding ≡ o → IsAllowed g (settling_by g k x cutoff o)
     by_leaf (Some leaf) e = may_close g k x cutoff finding leaf grows above h taken e

@@ -21,7 +21,7 @@ use Rattle.mari_core.specs.Growth.{Grown, IsGrowth, IsCutoff, MayClose, MayBranc
 use Rattle.mari_core.proofs.Changes.{IsAt, node_at, word_of_node}
 use Rattle.mari_core.proofs.Entries.{feasible_word}
 
-le_by_test : (a b : ℕ) → nat_le a b ≡ true → a ≤ b
+pub le_by_test : (a b : ℕ) → nat_le a b ≡ true → a ≤ b
 le_by_test a b e = grind (arith, nat_tests)
 
 pub gt_by_test : (a b : ℕ) → nat_le a b ≡ false → b < a

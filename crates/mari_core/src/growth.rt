@@ -29,8 +29,8 @@ use std::marker::Model;
 ///
 /// Whoever works on it takes a node that waits, finds out about it, and settles it at a cutoff that it knows: the node
 /// closes, or its children are made. Nothing else is known of the cutoffs but that they are at least the closed
-/// welfare. The rows of the whole budget are reserved at the start, so that only to start, `part` and `finish` take
-/// memory.
+/// welfare. The rows of the whole budget are reserved at the start, so that only `start`,
+/// `preorder`, `part` and `finish` take memory.
 #[derive(Drop)]
 pub struct Growth<'m> {
     market: &'m Market,

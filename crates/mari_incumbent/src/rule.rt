@@ -16,7 +16,7 @@ pub struct View {
     pub parts: u64,
 }
 
-/// The key is the first number and the parts of all seats.
+/// What holds of the words and the views at any time. Its key is the first number and the parts of all seats.
 pub struct Law;
 
 impl TableRule<(), View, (u64, u64)> for Law {

@@ -7,13 +7,13 @@ use Rattle.std.proofs.Math.Seq.{get_or-append_seam}
 use Rattle.std.proofs.lemmas.List.{get_or-set_other, get_or-set_same, get_or_append_left, get_or_default, length-append, length-set}
 use Rattle.std.proofs.lemmas.List.Elements.{All-contains_itself, All-filter, All-head, All-tail}
 use Rattle.std.proofs.lemmas.List.Folds.{Any-from_list_any, list_any-from_Any}
-use Rattle.std.proofs.lemmas.Option.{none-some, option_and_then_some, same_Some, slice_get-get_or, slice_get_within}
+use Rattle.std.proofs.lemmas.Option.{none-some, option_and_then_some, same_Some, slice_get_within}
 use Rattle.std.specs.Option.{option_and_then}
 use Rattle.mari_market.specs.declared.market.GateInfo.{GateInfo}
 use Rattle.mari_market.specs.declared.market.Market.{Market}
 use Rattle.mari_market.specs.declared.market.Order.{Order}
 use Rattle.mari_market.specs.Activation.{is_gate}
-use Rattle.mari_market.specs.Gates.{group_of, parent_of}
+use Rattle.mari_market.specs.Gates.{group_of}
 use Rattle.mari_market.specs.Market.{IsValid}
 use Rattle.mari_islands.specs.Islands.{AreBound, AreFirstZones, HasGate, has_first}
 use Rattle.mari_islands.specs.Islands.AreBound.{same_gate, same_group}
@@ -72,13 +72,6 @@ module _ (m : Market) (n : ℕ) (homes : List ℕ) (h : AreHomesOf m n homes) wh
 -- what stands in for what is known of a gate that isn't there
 abbrev pub no_info : GateInfo
 no_info = record { group = None; parent = None }
-
--- what is known of a gate that is there
-pub group_is : (gates : List GateInfo) (g : ℕ) (d : GateInfo) → g < length gates → group_of gates g ≡ (get_or gates g d).group
-group_is gates g d l = ap (option_and_then (λ (info : GateInfo). info.group)) (slice_get-get_or gates g d l)
-
-pub parent_is : (gates : List GateInfo) (g : ℕ) (d : GateInfo) → g < length gates → parent_of gates g ≡ (get_or gates g d).parent
-parent_is gates g d l = ap (option_and_then (λ (info : GateInfo). info.parent)) (slice_get-get_or gates g d l)
 
 -- so for the groups of the first `n` gates: `mates` has a zone for each of these gates, and `groups` keeps one for each
 -- group

@@ -62,7 +62,7 @@ fn activation_in(
     })
 }
 
-/// Whether some prices are consistent with a feasible activation, as `contradiction` of `mari_node` tests for a node.
+/// Whether some prices are consistent with a feasible activation: where `contradiction` of `mari_prices` finds no chain.
 fn has_prices(alloc: Global, market: &Market, activation: &Activation) -> Result<bool, Memory>
     requires valid { IsValid market.now }
     requires feasible { IsFeasible market.now activation.now }

@@ -3,8 +3,8 @@
 use mari_market::Cut;
 use mari_units::{Cents, Items, Name, Quarters};
 
-/// The most bytes of a line: no line of a text has more. The longest list the quantities of `MOST_ORDERS` orders, each of
-/// at most five digits and a space.
+/// The most bytes of a line: no line of a text has more. The longest is that of the
+/// quantities of `MOST_ORDERS` orders, each of at most five digits and a space.
 pub const MOST_LINE: usize = 32_768;
 
 /// The greatest amount of money in a line, either way, in quarter-cents: that of a provider in `MOST_RUNS` runs, each of at
@@ -98,7 +98,7 @@ pub enum Line {
     Border(BorderLine),
     /// A bid and what it runs.
     Bid(BidLine),
-    /// A demand by its place in the run, from 1, and how many MW it takes.
+    /// A demand by its place in the run, from 1, and how many MW of it are met.
     Demand(u32, u32),
     /// How many items the certificate tree has.
     Tree(u32),

@@ -5,7 +5,7 @@ use Rattle.std.specs.List.{All, find, list_any}
 use Rattle.std.specs.Str.{bytes_eq}
 use Rattle.std.proofs.lemmas.Bool.{eqb-true, ltb-true, and_parts, or_parts, not-false}
 use Rattle.std.proofs.lemmas.Bool.Decides.{eqb_tells, nat_tests}
-use Rattle.std.proofs.lemmas.List.Elements.{All-filter, All-head, All-map, All-nil, All-push, All-tail}
+use Rattle.std.proofs.lemmas.List.Elements.{All-filter, All-map, All-nil, All-push}
 use Rattle.std.proofs.lemmas.List.FromFn.{length-map-range_with_len}
 use Rattle.std.proofs.lemmas.Option.{same_Some, slice_get_within}
 use Rattle.mari_rows.specs.Books.{GivesBook, book_in, first_failing}
@@ -22,17 +22,8 @@ use Rattle.mari_links.specs.declared.lines.LinkKind.{LinkKind}
 use Rattle.mari_links.specs.declared.lines.LinkKind.TheVariants.{Group, Child, Needs, Bars, Technical}
 use Rattle.mari_links.proofs.EntryLemmas.{itself, or-yes, with_child, with_member, with_timed}
 use Rattle.mari_links.proofs.GateLemmas.{count-append, entry-there, gate-there, gated-alike}
-use Rattle.mari_rows.proofs.FindLemmas.{find-some}
+use Rattle.mari_rows.proofs.FindLemmas.{find-some, found-has}
 use Rattle.mari_links.proofs.SaidLemmas.{said-child, said-member, said-timed}
-
--- an item that is found passes its test, and has what each item has
-found-has : {X : Type 0} (test : X → Bool) (P : X → Type 0) (xs : List X) (x : X) → find test xs ≡ Some x → All P xs → (test x ≡ true) × P x
-found-has test P [] x found all = cc found
-found-has test P (y ∷ ys) x found all = by (test y) refl found (λ f. found-has test P ys x f (All-tail P y ys all))
-  where
-    by : (b : Bool) → test y ≡ b → (if b then Some y else find test ys) ≡ Some x → (find test ys ≡ Some x → (test x ≡ true) × P x) → (test x ≡ true) × P x
-    by true e f more = let same : y ≡ x = cc f in (rw (sym same) e, rw (sym same) (All-head P y ys all))
-    by false e f more = more f
 
 -- and some item passes what it passes
 found-any : {X : Type 0} (test other : X → Bool) (xs : List X) (x : X) → find test xs ≡ Some x → other x ≡ true → list_any other xs ≡ true

@@ -30,7 +30,7 @@ use std::marker::{Model, PhantomData};
 /// The tree of a search that workers share, its journal, and a seat of its own.
 ///
 /// Each node has a key: the bound that was found at its parent. Rows for the whole budget and the journal are
-/// reserved: only `start`, `reclaim`, `finish` and `part` take memory.
+/// reserved: only `start`, `reclaim`, `finish`, `part` and `keys` take memory.
 #[derive(Drop)]
 pub struct Pool<'m, N: SearchName> {
     tree: Growth<'m>,

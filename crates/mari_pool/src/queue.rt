@@ -18,7 +18,7 @@ const FIRST_KEY: u64 = u64::MAX;
 /// The nodes of a search that wait, and a key for each node that there is.
 ///
 /// Nodes are numbered from 0 as they are made. The one with the greatest key comes first, and of equal keys the one
-/// with the lowest number. Room for all nodes is reserved at the start, and no other call takes memory.
+/// with the lowest number. Room for all nodes is reserved at the start; after it only `keys_of` takes memory.
 #[derive(Drop)]
 pub struct Queue {
     keys: Vec<u64>,

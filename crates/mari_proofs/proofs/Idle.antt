@@ -16,6 +16,7 @@ use Rattle.mari_market.specs.Bounds.GateState.{Open, Closed, Free}
 use Rattle.mari_market.specs.Prefix.{below_parent, bounds_of_word, decided, is_closed, is_taken, opens_in, state_of, state_within, undecided}
 use Rattle.mari_market.specs.Relaxation.{IsClosedWelfare, IsRelaxedWelfare, IsWithinBounds, all_closed}
 use Rattle.mari_market.specs.Sums.{sum_along}
+use Rattle.mari_market.proofs.Prefixes.{opened_get}
 use Rattle.mari_market.proofs.Ties.{closed_opens}
 
 -- nothing runs and nothing flows
@@ -74,17 +75,12 @@ decided-open None implied never closed e = never e
 decided-open (Some true) implied never closed e = closed refl
 decided-open (Some false) implied never closed e = absurd (cc e)
 
-opened : (word : List Bool) (g : ℕ) → slice_get word g ≡ Some true → opens_in word g ≡ true
-opened [] g e = absurd (cc e)
-opened (b ∷ bs) zero e = cc e
-opened (b ∷ bs) (suc g) e = opened bs g e
-
 -- no gate is open at a word that opens none
 none-open : (gates : List GateInfo) (word : List Bool) → ((g : ℕ) → opens_in word g ≡ false) → (n g : ℕ) → state_within n gates word g ≡ Open → ⊥
 none-open gates word closed zero g e = absurd (cc e)
 none-open gates word closed (suc n) g e =
     decided-open (slice_get word g) (undecided gates word (state_within n gates word) g) (never-implied-open (parent_of gates g) (state_within n gates word) (is_taken (group_of gates g) gates word))
-    (λ f. absurd (cc (closed g, opened word g f))) e
+    (λ f. absurd (cc (closed g, opened_get word g f))) e
 
 none-needed : (state : ℕ → GateState) → ((g : ℕ) → state g ≡ Open → ⊥) → (o : Order) → IsWithin (span_in state o) 0
 none-needed state closed o = by o.gate

@@ -33,7 +33,7 @@ pub struct Listing {
     pub borders: Items<BorderLine>,
     /// The lines of bids so far.
     pub bids: Items<BidLine>,
-    /// What each demand so far takes, in MW.
+    /// How much of each demand so far is met, in MW.
     pub demands: Items<u32>,
 }
 

@@ -17,7 +17,7 @@ pub struct FullBlock {
     pub borders: Items<BorderLine>,
     /// A line for each bid of the market.
     pub bids: Items<BidLine>,
-    /// What each demand takes, in MW.
+    /// How much of each demand is met, in MW.
     pub demands: Items<u32>,
     /// The certificate tree, in preorder.
     pub tree: Items<TreeItem>,

@@ -4,7 +4,8 @@ use Rattle.std.specs.Ordering.{nat_cmp}
 use Rattle.mari_market.specs.declared.market.GateInfo.{GateInfo}
 use Rattle.mari_market.specs.Gates.{group_of}
 use Rattle.mari_islands.specs.Uniting.{KeepsMates}
-use Rattle.mari_islands.proofs.Homes.{AreMatesOf, group_is, mates_done, mates_more, no_info}
+use Rattle.mari_gates.proofs.Decisions.{group_at}
+use Rattle.mari_islands.proofs.Homes.{AreMatesOf, mates_done, mates_more, no_info}
 use Rattle.mari_islands.proofs.firsts.mates_of.Goals as goal
 
 pub loop-gate-preserved : goal.loop-gate-preserved
@@ -13,7 +14,7 @@ loop-gate-preserved c =
     let homes = c.args.homes.now in
     let n = c.loop-gate.gate in
     let l : n < length m.gates = omega (arith, c.loop-gate-test.true, c.requires.one_each) in
-    let group : (get_or c.as_slice-gates.result.now n no_info).group ≡ group_of m.gates n = ap (λ (xs : List GateInfo). (get_or xs n no_info).group) c.as_slice-gates.ensures ∙ sym (group_is m.gates n no_info l) in
+    let group : (get_or c.as_slice-gates.result.now n no_info).group ≡ group_of m.gates n = ap (λ (xs : List GateInfo). (get_or xs n no_info).group) c.as_slice-gates.ensures ∙ sym (group_at m.gates n no_info l) in
     let old : ℕ → Option ℕ = get nat_cmp c.loop-gate.groups in
     let new : ℕ → Option ℕ = get nat_cmp c.mate_of.new.groups in
     let keeps : KeepsMates old new (group_of m.gates n) (slice_index homes n) c.in_ok-mate.mate = subst (λ (g : Option ℕ). KeepsMates old new g (slice_index homes n) c.in_ok-mate.mate) group c.in_ok-mate.ensures in

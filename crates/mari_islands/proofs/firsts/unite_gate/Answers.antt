@@ -3,7 +3,8 @@ use Rattle.std.proofs.lemmas.Option.{same_Some}
 use Rattle.mari_market.specs.declared.market.GateInfo.{GateInfo}
 use Rattle.mari_market.specs.Gates.{parent_of}
 use Rattle.mari_islands.specs.Uniting.{AreUnited}
-use Rattle.mari_islands.proofs.Homes.{no_info, parent_is}
+use Rattle.mari_gates.proofs.Decisions.{parent_at}
+use Rattle.mari_islands.proofs.Homes.{no_info}
 use Rattle.mari_islands.proofs.Uniting.{home_there, mate_joined, mate_there, parent_joined, parent_there}
 use Rattle.mari_islands.proofs.firsts.unite_gate.Goals as goal
 
@@ -17,7 +18,7 @@ pub unite_joined-requires-clause-joined : goal.unite_joined-requires-clause-join
 unite_joined-requires-clause-joined c = mate_joined c.args.market.now c.args.homes.now c.args.mates.now c.requires.homes c.requires.mates c.args.gate c.requires.there
 
 named_parent : (gates lent : List GateInfo) (g h : ℕ) → lent ≡ gates → g < length gates → (get_or lent g no_info).parent ≡ Some h → parent_of gates g ≡ Some h
-named_parent gates lent g h same l e = parent_is gates g no_info l ∙ ap (λ (xs : List GateInfo). (get_or xs g no_info).parent) (sym same) ∙ e
+named_parent gates lent g h same l e = parent_at gates g no_info l ∙ ap (λ (xs : List GateInfo). (get_or xs g no_info).parent) (sym same) ∙ e
 
 pub bounds-homes-parent : goal.bounds-homes-parent
 bounds-homes-parent c =

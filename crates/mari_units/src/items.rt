@@ -6,8 +6,8 @@ use std::marker::Model;
 
 /// A list, which contracts see as the list of its items.
 ///
-/// Every public struct of the project keeps its lists in this type, so that a clause reads `market.orders` as a list.
-/// None of its calls takes memory.
+/// A public struct whose fields a contract names keeps its lists in this type, so that a clause reads `market.orders` as
+/// a list. Of its calls only `clone` takes memory.
 #[derive(Clone, Debug, Drop)]
 pub struct Items<T> {
     items: Vec<T>,

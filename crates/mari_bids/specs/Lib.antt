@@ -1,3 +1,4 @@
 pub mod BidChecks
 pub mod Bids
+pub mod Columns
 pub mod SoFar

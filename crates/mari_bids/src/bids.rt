@@ -1,5 +1,5 @@
 //! The bids of a day.
-ghost use Rattle.std.specs.Prelude.{◌≡◌, ◌≤◌, ◌+◌, true, false, List, map, length, IfOk, OnOk, []};
+ghost use Rattle.std.specs.Prelude.{◌≡◌, ◌≤◌, ◌+◌, ℕ, true, false, List, map, length, IfOk, OnOk, []};
 ghost use Rattle.mari_units.specs.Names.{is_name};
 ghost use Rattle.mari_rows.specs.Books.{book_in, first_failing, GivesBook};
 ghost use Rattle.mari_rows.specs.Checks.{IsRead};
@@ -7,13 +7,14 @@ ghost use Rattle.mari_rows.specs.Names.{is_among};
 ghost use Rattle.mari_rows.specs.declared.rows.Row.{Row as Line};
 ghost use Rattle.mari_zones.specs.declared.zones.ZoneBook.{ZoneBook};
 ghost use Rattle.mari_bids.specs.BidChecks.{bid_check_name, bid_check_number};
+ghost use Rattle.mari_bids.specs.Columns.{AreColumnsOf};
 ghost use Rattle.mari_bids.specs.Bids.{bid_at, bid_checks, bid_grammar, has_bad_field as has_bad_field_in, id_of, IsBidBook, is_both as is_both_in, is_up as is_up_in, provider_of};
 
 use mari_rows::{
-    BookFault, BookSoFar, FileCheck, LineFault, NameIndex, Row, cents_of, count_one, is_first_of,
-    is_whole, number_of, read_book, writes_price,
+    BookFault, BookSoFar, FileCheck, LineFault, NameIndex, Row, count_one, is_first_of, is_written,
+    read_book, read_number, read_price,
 };
-use mari_units::{Cents, Items, MOST_BID_MW, MOST_BIDS, MOST_PAGE, is_name_text};
+use mari_units::{Cents, Items, MOST_BID_MW, MOST_BIDS, MOST_PAGE, NumberFault, is_name_text};
 use mari_zones::ZoneBook;
 use std::alloc::{AllocError, Global};
 
@@ -132,18 +133,44 @@ fn is_both(line: &Row) -> Option<bool>
     is_first_of(line.field(8), b"both", b"scheduled")
 }
 
+/// What a line's numbers and words say, each read once.
+#[derive(Clone, Copy, Drop)]
+struct Columns {
+    quarter: Result<u32, NumberFault>,
+    up: Option<bool>,
+    price: Result<Cents, NumberFault>,
+    least: Result<u32, NumberFault>,
+    greatest: Result<u32, NumberFault>,
+    both: Option<bool>,
+}
+
+/// What the numbers and words of a line say on a day of `quarters` quarters.
+fn columns_of(line: &Row, quarters: u32) -> Columns
+    ensures { AreColumnsOf quarters line.now result }
+{
+    Columns {
+        quarter: read_number(line.field(3), 1, quarters),
+        up: is_up(line),
+        price: read_price(line.field(5)),
+        least: read_number(line.field(6), 0, MOST_BID_MW),
+        greatest: read_number(line.field(7), 1, MOST_BID_MW),
+        both: is_both(line),
+    }
+}
+
 /// Whether a field is no name, no number, no price or no word of its column.
-fn has_bad_field(line: &Row) -> bool
+fn has_bad_field(line: &Row, columns: &Columns) -> bool
+    requires { (quarters : ℕ) × AreColumnsOf quarters line.now columns.now }
     ensures { result ≡ has_bad_field_in line.now }
 {
     !(is_name_text(line.field(0))
         && is_name_text(line.field(1))
-        && is_whole(line.field(3))
-        && is_whole(line.field(6))
-        && is_whole(line.field(7))
-        && writes_price(line.field(5))
-        && is_up(line).is_some()
-        && is_both(line).is_some())
+        && is_written(&columns.quarter)
+        && is_written(&columns.least)
+        && is_written(&columns.greatest)
+        && is_written(&columns.price)
+        && columns.up.is_some()
+        && columns.both.is_some())
 }
 
 /// The bid of a line after others with these names, but for the place of its provider, or the first check that fails.
@@ -155,7 +182,8 @@ fn read_bid(zones: &ZoneBook, quarters: u32, ids: &NameIndex, line: &Row) -> Res
     ensures new { OnOk result (is_among ids.now (id_of line.now) ≡ false) }
     ensures provider { OnOk result (is_name (provider_of line.now) ≡ true) }
 {
-    if has_bad_field(line) {
+    let columns = columns_of(line, quarters);
+    if has_bad_field(line, &columns) {
         return Err(BidCheck::BadField);
     }
     if ids.find(line.field(0)).is_some() {
@@ -164,16 +192,16 @@ fn read_bid(zones: &ZoneBook, quarters: u32, ids: &NameIndex, line: &Row) -> Res
     let Some(zone) = zones.zones.find(line.field(2)) else {
         return Err(BidCheck::UnknownZone);
     };
-    let Some(quarter) = number_of(line.field(3), 1, quarters) else {
+    let Ok(quarter) = columns.quarter else {
         return Err(BidCheck::Quarter);
     };
-    let Some(price) = cents_of(line.field(5)) else {
+    let Ok(price) = columns.price else {
         return Err(BidCheck::Range);
     };
-    let Some(greatest) = number_of(line.field(7), 1, MOST_BID_MW) else {
+    let Ok(greatest) = columns.greatest else {
         return Err(BidCheck::Range);
     };
-    let Some(least) = number_of(line.field(6), 0, MOST_BID_MW) else {
+    let Ok(least) = columns.least else {
         return Err(BidCheck::Range);
     };
     if least > greatest {
@@ -183,11 +211,11 @@ fn read_bid(zones: &ZoneBook, quarters: u32, ids: &NameIndex, line: &Row) -> Res
         provider: 0,
         zone,
         quarter,
-        up: is_up(line).unwrap_or(false),
+        up: columns.up.unwrap_or(false),
         price,
         least,
         greatest,
-        both: is_both(line).unwrap_or(false),
+        both: columns.both.unwrap_or(false),
     })
 }
 

@@ -18,7 +18,9 @@ pub use books::{BookSoFar, read_book};
 pub use checks::{FileCheck, LineFault, RowCheck};
 pub use counts::count_one;
 pub use faults::{AddFault, BookFault, RowFault};
-pub use fields::{cents_of, is_first_of, is_whole, number_of, writes_price};
+pub use fields::{
+    cents_of, is_first_of, is_whole, is_written, number_of, read_number, read_price, writes_price,
+};
 pub use names::NameIndex;
 pub use record_fields::Fields;
 pub use rows::{Row, RowReader, Rows, has_header, read_rows, rows_of};

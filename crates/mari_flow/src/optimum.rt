@@ -17,7 +17,9 @@ ghost use Rattle.mari_network.specs.Solving.{NoneWithin, OfCut, IsFoundOptimum};
 use crate::run::run;
 use crate::start::{first_amounts, with_stand_ins};
 use mari_market::{Market, Prefix};
-use mari_network::{Optimum, Slot, SolveFault, Solved, answer, network_of, order_slots, places_of};
+use mari_network::{
+    Optimum, Slot, SolveFault, Solved, answer, network_of, order_slots, places_of, worth_of,
+};
 use std::alloc::Global;
 
 /// The relaxed optimum of a market whose orders may run within these slots, or a cut.
@@ -33,7 +35,8 @@ fn solve_slots(alloc: Global, market: &Market, reals: &[Slot]) -> Result<Optimum
     let mut amounts = first_amounts(alloc, reals)?;
     let mut flows = vec![in alloc; 0i64; network.borders.len()]?;
     let prices = run(alloc, &network, &mut amounts, &mut flows)?;
-    answer(alloc, market, &network, amounts, flows, &prices)
+    let worth = worth_of(network.slots, &amounts);
+    answer(alloc, market, &network, amounts, flows, worth, &prices)
 }
 
 /// The relaxed optimum of a prefix as the network has it, or a cut.

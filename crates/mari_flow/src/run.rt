@@ -22,7 +22,9 @@ pub fn run(
     loop {
         let margins = margins_of(alloc, network, amounts)?;
         match find_chain(alloc, network, amounts, flows, &margins)? {
-            Found::Improving(chain) => improve(network, amounts, flows, &chain),
+            Found::Improving(chain) => {
+                improve(network, amounts, flows, &chain);
+            }
             Found::Tight(prices) => return Ok(prices),
         }
     }

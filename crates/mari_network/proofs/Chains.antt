@@ -6,7 +6,7 @@ use Rattle.mari_market.specs.declared.market.Border.{Border}
 use Rattle.mari_market.specs.Sums.{sum_along, int_at}
 use Rattle.mari_market.specs.Activation.{IsWithinLimits, carried_out}
 use Rattle.mari_market.proofs.Sums.{sum_along-set, AllZip-set, AllZip-at}
-use Rattle.mari_market.proofs.Ints.{mul-add_z, mul-neg_z, pos_mul_lt}
+use Rattle.mari_market.proofs.Ints.{mul-add_z, mul-neg_z, pos_mul_lt, sub-mul_z}
 use Rattle.mari_market.proofs.Duality.{pushed, if_sum}
 use Rattle.mari_network.specs.declared.slots.Slot.{Slot}
 use Rattle.mari_network.specs.declared.chain.Hop.{Hop}
@@ -102,7 +102,11 @@ dearer_rises a b (pos zero) h l = absurd (omega (arith, ints))
 dearer_rises a b (pos (suc n)) h l = omega (arith, ints, pos_mul_lt n a b h)
 dearer_rises a b (negsuc n) h l = absurd (omega (arith, ints))
 
--- what a move from a cheaper slot to a dearer one does to the worth
+-- what a move from one slot to another does to the worth
+pub move_worth : (a b d old mid new : ℤ) → mid ≡ old -ℤ (b *ℤ neg_ℤ d) → new ≡ mid -ℤ (a *ℤ d) → new ≡ old +ℤ ((b -ℤ a) *ℤ d)
+move_worth a b d old mid new e f = omega (arith, ints, sub-mul_z b a d, mul-neg_z b d, e, f)
+
+-- from a cheaper slot to a dearer one it rises
 pub move_rises : (a b d old mid new : ℤ) → a <ℤ b → pos 1 ≤ℤ d → mid ≡ old -ℤ (b *ℤ neg_ℤ d) → new ≡ mid -ℤ (a *ℤ d) → old <ℤ new
 move_rises a b d old mid new h l e f = omega (arith, ints, dearer_rises a b d h l, mul-neg_z b d, e, f)
 

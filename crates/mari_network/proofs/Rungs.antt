@@ -100,7 +100,7 @@ is_less a b h = grind (arith, ints)
 pub less : (a b : ℤ) → lt_z a b ≡ true → a <ℤ b
 less a b h = grind (arith, ints)
 
--- the rungs that cost at most so much, and those that cost less, are the first
+-- the rungs that cost at most a price, and those that cost less, are the first
 pub parted_to : (ladder : List Rung) (top : ℤ) → IsRising ladder → IsPartitionedBy (λ (r : Rung). not (lt_z top r.price)) ladder
 parted_to ladder top up i j d le l h = is_not top ((get_or ladder i d).price) (omega (arith, ints, up i j d le l, not_true top ((get_or ladder j d).price) h))
 

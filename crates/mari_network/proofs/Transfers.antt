@@ -1,10 +1,9 @@
 -- What is tight for the slots is tight for the orders.
-use Rattle.std.proofs.Common.{◌≡◌, ◌==◌, if◌then◌else◌, ℕ, ◌<◌, ◌*◌, ℤ, pos, neg_ℤ, ◌*ℤ◌, ◌≤ℤ◌, ◌<ℤ◌, List, [], ◌∷◌, length, arith, refl, sym, ap, ◌∙◌, subst, take, get_or, ◌++◌, ◌+◌, zero, suc, map}
+use Rattle.std.proofs.Common.{◌≡◌, ◌==◌, if◌then◌else◌, ℕ, ◌<◌, ℤ, pos, neg_ℤ, ◌*ℤ◌, ◌≤ℤ◌, ◌<ℤ◌, List, [], ◌∷◌, length, arith, refl, sym, ap, ◌∙◌, subst, take, get_or, ◌++◌, ◌+◌, zero, suc, map}
 use Rattle.std.proofs.lemmas.Int.{ints, clamps}
 use Rattle.std.specs.List.{All, AllZip}
 use Rattle.std.proofs.lemmas.List.Elements.{All-head, All-tail}
 use Rattle.mari_units.specs.declared.Cents.{Cents}
-use Rattle.mari_units.specs.declared.limits.TheConstants.{MOST_MW}
 use Rattle.mari_market.specs.declared.market.Side.{Side}
 use Rattle.mari_market.specs.declared.market.Side.TheVariants.{Inject, Withdraw}
 use Rattle.mari_market.specs.declared.market.Order.{Order}
@@ -22,10 +21,10 @@ use Rattle.mari_market.specs.Relaxation.{IsWithinBounds, IsRelaxed}
 use Rattle.mari_market.specs.Cut.{least_put, most_put}
 use Rattle.std.proofs.lemmas.List.{length-map, get_or-map}
 use Rattle.mari_market.proofs.Duality.{weak_duality}
-use Rattle.mari_market.proofs.Ints.{between, mul-neg_z, neg-mul_z}
+use Rattle.mari_market.proofs.Ints.{mul-neg_z}
 use Rattle.mari_market.proofs.Tight.{tight_is_equal}
 use Rattle.mari_network.specs.Slots.{slot_into, IsWithinSlot, IsTightSlot}
-use Rattle.mari_network.specs.Orders.{amount_gain, slots_of, ArePuts, capped, capped_cents, CanPut}
+use Rattle.mari_network.specs.Orders.{amount_gain, slots_of, ArePuts, capped, capped_cents}
 
 trade_within : (side : Side) (s : Span) (q : ℕ) → least_put side s ≤ℤ put_in side q → put_in side q ≤ℤ most_put side s → IsWithin s q
 trade_within Inject s q l h = record { least = omega (arith, ints, l, h); most = omega (arith, ints, l, h) }
@@ -131,23 +130,6 @@ puts_gain [] [] (q ∷ qs) r = absurd r
 puts_gain [] (x ∷ xs) qs r = absurd r
 puts_gain (o ∷ os) [] qs r = absurd r
 puts_gain (o ∷ os) (x ∷ xs) [] r = absurd r
-
-can_near : (side : Side) (x : ℤ) → CanPut side x → (neg_ℤ (pos MOST_MW) ≤ℤ x) × (x ≤ℤ pos MOST_MW)
-can_near Inject x can = (omega (arith, ints, can.0), can.1)
-can_near Withdraw x can = (can.0, omega (arith, ints, can.1))
-
-near_product : (c x : ℤ) → IsPrice c → (neg_ℤ (pos MOST_MW) ≤ℤ x) × (x ≤ℤ pos MOST_MW) → (c *ℤ x) ≤ℤ pos (9999900 * 99999)
-near_product c x price near = omega (arith, ints, clamps, price.low, price.high, between c (neg_ℤ (pos MOST_MW)) x (pos MOST_MW) near.0 near.1, mul-neg_z c (pos MOST_MW))
-
--- what an order adds is at most a greatest price and quantity together
-pub small_gain : (o : Order) (x : ℤ) → IsPrice o.price.0 → CanPut o.side x
-    → (neg_ℤ (pos (9999900 * 99999)) ≤ℤ amount_gain o x) × (amount_gain o x ≤ℤ pos (9999900 * 99999))
-small_gain o x price can =
-    let near = can_near o.side x can in
-    let back : IsPrice (neg_ℤ o.price.0) = record { low = omega (arith, ints, price.high); high = omega (arith, ints, price.low) } in (
-      omega (arith, ints, near_product o.price.0 x price near),
-      omega (arith, ints, near_product (neg_ℤ o.price.0) x back near, neg-mul_z o.price.0 x),
-    )
 
 -- prices within the cap
 pub capped_prices : (prices : List ℤ) → All (λ (c : Cents). IsPrice c.0) (map capped_cents prices)

@@ -7,9 +7,11 @@ use Rattle.mari_network.specs.declared.network.Network.{Network as NetworkRecord
 use Rattle.mari_network.specs.Slots.{zone_of, price_of, CanLess, CanMore}
 use Rattle.mari_network.specs.Network.{border_at}
 
+-- what is read past the end of a list of hops
 abbrev pub no_hop : Hop
 no_hop = record { zone = 0; border = 0; forth = false; before = 0 }
 
+-- the hop at a place
 abbrev pub hop_at : List Hop → ℕ → Hop
 hop_at hops k = slice_index_or hops k no_hop
 
@@ -27,7 +29,7 @@ head_of false b = b.from
 abbrev pub hop_of : List Border → ℕ → Bool → ℕ → Hop
 hop_of bs border forth before = record { zone = tail_of forth (border_at bs border); border = border; forth = forth; before = before }
 
--- how much more the border can carry that way
+-- how much more the border can carry that way, in MW
 abbrev pub room_of : Bool → Border → ℤ → ℤ
 room_of true b f = pos b.limit -ℤ f
 room_of false b f = f +ℤ pos b.back
@@ -37,6 +39,7 @@ abbrev pub more_flow : Bool → ℤ → ℤ
 more_flow true d = d
 more_flow false d = neg_ℤ d
 
+-- how much more the border of a hop can carry its way, in MW
 abbrev pub hop_room : List Border → List ℤ → Hop → ℤ
 hop_room bs fs h = room_of h.forth (border_at bs h.border) (slice_index_or fs h.border (pos 0))
 

@@ -8,12 +8,15 @@ use Rattle.mari_network.specs.declared.network.Rung.{Rung}
 use Rattle.mari_network.specs.Network.{rung_at}
 use Rattle.mari_network.specs.Spread.{is_marked}
 
+-- the margin of a zone in which no slot may put in less or more
 abbrev pub no_margin : Margin
 no_margin = record { dearest = None; cheapest = None }
 
+-- the place of a zone's dearest slot that may put in less
 abbrev pub dearest_at : List Margin → ℕ → Option ℕ
 dearest_at margins z = (slice_index_or margins z no_margin).dearest
 
+-- the place of a zone's cheapest slot that may put in more
 abbrev pub cheapest_at : List Margin → ℕ → Option ℕ
 cheapest_at margins z = (slice_index_or margins z no_margin).cheapest
 

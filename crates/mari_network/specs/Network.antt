@@ -10,9 +10,11 @@ use Rattle.mari_network.specs.declared.network.Places.{Places}
 use Rattle.mari_network.specs.declared.network.Rung.{Rung}
 use Rattle.mari_network.specs.Slots.{price_of, zone_of, IsSmallSlot, IsRunning}
 
+-- what is read past the end of a list of borders: limits of 0 MW
 abbrev pub no_border : Border
 no_border = record { from = 0; to = 0; limit = 0; back = 0 }
 
+-- the border at a place
 abbrev pub border_at : List Border → ℕ → Border
 border_at bs i = slice_index_or bs i no_border
 
@@ -25,9 +27,11 @@ pub record AreMeeting (bs : List Border) (z : ℕ) (places : List ℕ) : Type 0 
   pub there : All (λ i. i < length bs) places
   pub all : (i : ℕ) → i < length bs → Meets (border_at bs i) z → Contains places i
 
+-- what is read past the end of a ladder
 abbrev pub no_rung : Rung
 no_rung = record { price = pos 0; place = 0 }
 
+-- the rung at a place of a ladder
 abbrev pub rung_at : List Rung → ℕ → Rung
 rung_at rungs j = slice_index_or rungs j no_rung
 

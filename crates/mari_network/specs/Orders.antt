@@ -18,13 +18,15 @@ use Rattle.mari_units.specs.declared.numbers.TheConstants.{CAP}
 use Rattle.mari_units.specs.declared.limits.TheConstants.{MOST_MW}
 use Rattle.mari_units.specs.Prices.{IsPrice}
 
+-- what is read past the end of a list of orders
 abbrev pub no_order : Order
 no_order = record { zone = 0; side = Inject; price = record { 0 = pos 0 }; least = 0; greatest = 0; gate = None }
 
--- what an order may put in within its span
+-- what an order may put in within its span, in MW, and its price, in cents per MWh
 abbrev pub slot_of : Span → Order → Slot
 slot_of s o = record { zone = o.zone; price = o.price.0; low = least_put o.side s; high = most_put o.side s }
 
+-- the slots of orders, each within its span
 abbrev pub slots_of : (Order → Span) → List Order → List Slot
 slots_of spans orders = map (λ o. slot_of (spans o) o) orders
 
@@ -38,6 +40,7 @@ abbrev pub stand_in_if : Bool → ℕ → ℤ → Slot
 stand_in_if true z d = record { zone = z; price = neg_ℤ BEYOND; low = d; high = pos 0 }
 stand_in_if false z d = record { zone = z; price = BEYOND; low = pos 0; high = d }
 
+-- what stands in for a zone that is short of d MW, or has too much where d is below 0
 abbrev pub stand_in_of : ℕ → ℤ → Slot
 stand_in_of z d = stand_in_if (lt_z d (pos 0)) z d
 
@@ -50,14 +53,15 @@ ArePuts [] (x ∷ xs) qs = ⊥
 ArePuts (o ∷ os) [] qs = ⊥
 ArePuts (o ∷ os) (x ∷ xs) [] = ⊥
 
--- what an amount of an order adds to the welfare
+-- what an amount of an order, in MW, adds to the welfare, in quarter-cents
 abbrev pub amount_gain : Order → ℤ → ℤ
 amount_gain o x = neg_ℤ (o.price.0 *ℤ x)
 
--- the nearest price within the cap
+-- the nearest price within the cap, in cents per MWh
 abbrev pub capped : ℤ → ℤ
 capped p = int_max (neg_ℤ CAP) (int_min CAP p)
 
+-- the same as a price that is stated
 abbrev pub capped_cents : ℤ → Cents
 capped_cents p = record { 0 = capped p }
 

@@ -7,19 +7,23 @@ use Rattle.mari_market.specs.Activation.{IsWithinLimits, carried_out}
 use Rattle.mari_network.specs.declared.slots.Slot.{Slot}
 use Rattle.mari_network.specs.declared.slots.TheConstants.{BEYOND}
 
--- how far from 0 the bounds of a slot are at most
+-- how far from 0 the bounds of a slot are at most, in MW
 abbrev pub most_room : ℕ
 most_room = 2 ^ 40
 
+-- what is read past the end of a list of slots
 abbrev pub no_slot : Slot
 no_slot = record { zone = 0; price = pos 0; low = pos 0; high = pos 0 }
 
+-- the slot at a place
 abbrev pub slot_at : List Slot → ℕ → Slot
 slot_at slots i = slice_index_or slots i no_slot
 
+-- the zone of the slot at a place
 abbrev pub zone_of : List Slot → ℕ → ℕ
 zone_of slots k = (slot_at slots k).zone
 
+-- the price of the slot at a place, in cents per MWh
 abbrev pub price_of : List Slot → ℕ → ℤ
 price_of slots k = (slot_at slots k).price
 
@@ -31,10 +35,11 @@ at_zone z y d = if y == z then d else pos 0
 abbrev pub slot_into : ℕ → Slot → ℤ → ℤ
 slot_into z s x = at_zone z s.zone x
 
--- what an amount of a slot adds to the welfare
+-- what an amount of a slot, in MW, adds to the welfare, in quarter-cents
 abbrev pub slot_gain : Slot → ℤ → ℤ
 slot_gain s x = neg_ℤ (s.price *ℤ x)
 
+-- the slot may put in that many MW
 pub record IsWithinSlot (s : Slot) (x : ℤ) : Type 0 where
   pub least : s.low ≤ℤ x
   pub most : x ≤ℤ s.high

@@ -6,6 +6,7 @@ use Rattle.mari_network.specs.declared.chain.Hop.{Hop}
 use Rattle.mari_network.specs.Network.{border_at}
 use Rattle.mari_network.specs.Chain.{hop_at, tail_of, head_of, room_of, IsTrace, HasRoom}
 
+-- whether a zone is marked
 abbrev pub is_marked : List Bool → ℕ → Bool
 is_marked marked z = slice_index_or marked z false
 
@@ -13,6 +14,7 @@ is_marked marked z = slice_index_or marked z false
 abbrev pub ClosedOver : List Bool → Border → ℤ → Type 0
 ClosedOver marked b f = (forth : Bool) → pos 0 <ℤ room_of forth b f → is_marked marked (head_of forth b) ≡ true → is_marked marked (tail_of forth b) ≡ true
 
+-- so it is over each border: energy comes into marked zones from marked ones alone
 abbrev pub AreClosed : List Border → List ℤ → List Bool → Type 0
 AreClosed bs fs marked = AllZip (ClosedOver marked) bs fs
 

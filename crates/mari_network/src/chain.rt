@@ -1,17 +1,18 @@
 //! Moving energy along chains of borders.
 
-ghost use Rattle.std.specs.Prelude.{◌≡◌, true, false, ℕ, ℤ, pos, ◌+ℤ◌, ◌-ℤ◌, ◌≤ℤ◌, ◌<ℤ◌, ◌<◌, length, slice_set, slice_index_or};
+ghost use Rattle.std.specs.Prelude.{◌≡◌, true, false, ℕ, ℤ, pos, ◌+ℤ◌, ◌-ℤ◌, ◌*ℤ◌, ◌≤ℤ◌, ◌<ℤ◌, ◌<◌, length, slice_set, slice_index_or};
 ghost use Rattle.std.specs.List.{AllZip};
 ghost use Rattle.mari_market.specs.Sums.{sum_along, int_at};
 ghost use Rattle.mari_market.specs.Activation.{IsWithinLimits, carried_out};
-ghost use Rattle.mari_network.specs.Slots.{slot_at, at_zone, slot_gain};
+ghost use Rattle.mari_network.specs.Slots.{slot_at, at_zone, slot_gain, IsSmallSlot};
 ghost use Rattle.mari_network.specs.Network.{border_at, IsNetwork, Runs};
 ghost use Rattle.mari_network.specs.Margins.{IsMoved};
 ghost use Rattle.mari_network.specs.Chain.{hop_at, hop_room, room_of, head_of, tail_of, more_flow, HasRoom, IsTrace, IsImproving};
 
 use crate::network::Network;
-use crate::slots::{move_amount, room_above, room_below};
-use mari_market::Border;
+use crate::slots::{Slot, move_amount, room_above, room_below};
+use mari_market::{Border, worth};
+use mari_units::Cents;
 
 /// A border over which energy can move from a zone to that of an earlier hop.
 #[derive(Clone, Copy, Drop)]
@@ -186,17 +187,34 @@ fn most_along(network: &Network, amounts: &[i64], flows: &[i64], chain: &Chain) 
     )
 }
 
-/// Moves as much as can be from a chain's source to its sink.
-pub fn improve(network: &Network, amounts: &mut [i64], flows: &mut [i64], chain: &Chain)
+/// What it is worth to move an amount from a cheaper slot to a dearer one, in quarter-cents.
+fn worth_of_move(source: Slot, sink: Slot, more: i64) -> i128
+    requires source { IsSmallSlot source }
+    requires sink { IsSmallSlot sink }
+    ensures { result ≡ (sink.price -ℤ source.price) *ℤ more }
+{
+    worth(Cents(sink.price - source.price), more)
+}
+
+/// Moves as much as can be from a chain's source to its sink. It gives back by how much that raises what the amounts
+/// are worth together, in quarter-cents.
+pub fn improve(network: &Network, amounts: &mut [i64], flows: &mut [i64], chain: &Chain) -> i128
+    // What the caller knows of what runs, and of the chain.
     requires network { IsNetwork network.now }
     requires runs { Runs network.now amounts.old flows.old }
     requires chain { IsImproving network.now amounts.old flows.old chain.now }
+
+    // What runs then, with the amounts of two slots moved.
     ensures runs { Runs network.now amounts.new flows.new }
     ensures moved { IsMoved network.now.slots.now amounts.old amounts.new chain.now.sink chain.now.source }
+
+    // By how much it is better.
+    ensures worth { sum_along slot_gain network.now.slots.now amounts.new ≡ sum_along slot_gain network.now.slots.now amounts.old +ℤ result }
     ensures rises { sum_along slot_gain network.now.slots.now amounts.old <ℤ sum_along slot_gain network.now.slots.now amounts.new }
 {
     let more = most_along(network, amounts, flows, chain);
     push_chain(network.borders, flows, &chain.hops, chain.at, more);
     move_amount(network.slots, amounts, chain.sink, -more);
     move_amount(network.slots, amounts, chain.source, more);
+    worth_of_move(network.slots[chain.source], network.slots[chain.sink], more)
 }

@@ -1,16 +1,16 @@
-//! From amounts back to quantities, welfare, potentials and cuts.
+//! From amounts back to quantities, and from prices to potentials and cuts.
 
-ghost use Rattle.std.specs.Prelude.{◌≡◌, ◌≢◌, ℕ, pos, ◌<◌, ◌≤◌, ◌*◌, length, IfOk, MatchOption, map, take};
+ghost use Rattle.std.specs.Prelude.{◌≡◌, ◌≢◌, ℕ, pos, ◌<◌, ◌≤◌, ◌≤ℤ◌, ◌*◌, length, IfOk, MatchOption, map, take};
 ghost use Rattle.std.specs.Int.{int_max};
-ghost use Rattle.std.specs.List.{All, AllZip};
-ghost use Rattle.mari_market.specs.Sums.{sum_along, int_at};
+ghost use Rattle.std.specs.List.{AllZip};
+ghost use Rattle.mari_market.specs.Sums.{int_at};
 ghost use Rattle.mari_market.specs.Activation.{put_in};
 ghost use Rattle.mari_market.specs.Price.{IsPrice};
 ghost use Rattle.mari_market.specs.Cut.{is_in, IsRising};
-ghost use Rattle.mari_network.specs.Orders.{amount_gain, capped_cents, is_inside, CanPut, ArePuts};
+ghost use Rattle.mari_network.specs.Orders.{capped_cents, is_inside, CanPut, ArePuts};
 
 use crate::slots::BEYOND;
-use mari_market::{CutSide, MOST_ORDERS, Order, Side};
+use mari_market::{CutSide, MOST_ORDERS, MOST_WORTH, Order, Side};
 use mari_units::{CAP, Cents, MOST_MW, MOST_ZONES};
 use std::alloc::{AllocError, Global};
 
@@ -95,32 +95,9 @@ pub fn quantities(alloc: Global, orders: &[Order], amounts: &[i64]) -> Result<Ve
     Ok(all)
 }
 
-/// What an order that puts in `amount` MW adds to the welfare, in quarter-cents.
-fn gain_of(order: &Order, amount: i64) -> i64
-    requires price { IsPrice order.now.price.0 }
-    requires can { CanPut order.now.side amount }
-    ensures { result ≡ amount_gain order.now amount }
-{
-    -(order.price.0 * amount)
-}
-
-/// What orders that put in these amounts add to the welfare together, in quarter-cents.
-pub fn welfare_at(orders: &[Order], amounts: &[i64]) -> i64
-    requires few { length orders.now ≤ MOST_ORDERS }
-    requires prices { All (λ o. IsPrice o.price.0) orders.now }
-    requires lengths { length orders.now ≤ length amounts.now }
-    requires fits { AllZip (λ o x. CanPut o.side x) orders.now (take (length orders.now) amounts.now) }
-    ensures { result ≡ sum_along amount_gain orders.now (take (length orders.now) amounts.now) }
-{
-    let mut welfare = 0i64;
-    for (i, order) in orders.iter().enumerate() {
-        welfare += gain_of(order, amounts[i]);
-    }
-    welfare
-}
-
 /// A welfare as it is stated: 0 where it is negative.
-pub fn stated(welfare: i64) -> u64
+pub fn stated(welfare: i128) -> u64
+    requires { welfare ≤ℤ pos (MOST_ORDERS * MOST_WORTH) }
     ensures { pos result ≡ int_max (pos 0) welfare }
 {
     welfare.max(0) as u64

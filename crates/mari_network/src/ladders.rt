@@ -41,7 +41,7 @@ fn is_dearer(slots: &[Slot], best: Option<usize>, price: i64) -> bool
     }
 }
 
-/// The dearest of a ladder's first rungs that may put in less; of two that cost the same, that of the lesser place.
+/// The dearest of a ladder's first rungs that may put in less. No clause says which it is of two that cost the same.
 fn dearest_rung(slots: &[Slot], amounts: &[i64], ladder: &[Rung], end: usize) -> Option<usize>
     requires lengths { length amounts.now ≡ length slots.now }
     requires there { All (λ r. r.place < length slots.now) ladder.now }
@@ -65,7 +65,7 @@ fn dearest_rung(slots: &[Slot], amounts: &[i64], ladder: &[Rung], end: usize) ->
     best
 }
 
-/// The cheapest of a ladder's last rungs that may put in more; of two that cost the same, that of the lesser place.
+/// The cheapest of a ladder's last rungs that may put in more. No clause says which it is of two that cost the same.
 fn cheapest_rung(slots: &[Slot], amounts: &[i64], ladder: &[Rung], start: usize) -> Option<usize>
     requires lengths { length amounts.now ≡ length slots.now }
     requires there { All (λ r. r.place < length slots.now) ladder.now }

@@ -23,4 +23,4 @@ pub use network::{Network, Places, Rung, network_of, places_of};
 pub use optimum::{Optimum, SolveFault, Solved, answer};
 pub use renewal::{margins_of, renew};
 pub use search::{Found, find_chain};
-pub use slots::{BEYOND, Slot, order_slots, slot_from, stand_in};
+pub use slots::{BEYOND, Slot, gain_of, order_slots, slot_from, stand_in, worth_of};

@@ -16,7 +16,7 @@ pub struct Margin {
     pub cheapest: Option<usize>,
 }
 
-/// The dearer of two slots, the first where they cost the same.
+/// The dearer of two slots. Where they cost the same it is the first; no clause says so.
 fn dearer(slots: &[Slot], best: Option<usize>, slot: usize) -> Option<usize>
     requires best { (i : ℕ) → best ≡ Some i → i < length slots.now }
     requires slot { slot < length slots.now }
@@ -32,7 +32,7 @@ fn dearer(slots: &[Slot], best: Option<usize>, slot: usize) -> Option<usize>
     Some(slot)
 }
 
-/// The cheaper of two slots, the first where they cost the same.
+/// The cheaper of two slots. Where they cost the same it is the first; no clause says so.
 fn cheaper(slots: &[Slot], best: Option<usize>, slot: usize) -> Option<usize>
     requires best { (i : ℕ) → best ≡ Some i → i < length slots.now }
     requires slot { slot < length slots.now }
@@ -48,7 +48,7 @@ fn cheaper(slots: &[Slot], best: Option<usize>, slot: usize) -> Option<usize>
     Some(slot)
 }
 
-/// The dearer of two slots, that of the lesser place where they cost the same.
+/// The dearer of two slots. Where they cost the same it is that of the lesser place; no clause says so.
 pub fn dearer_in_order(slots: &[Slot], best: Option<usize>, slot: usize) -> Option<usize>
     requires best { (i : ℕ) → best ≡ Some i → i < length slots.now }
     requires slot { slot < length slots.now }
@@ -64,7 +64,7 @@ pub fn dearer_in_order(slots: &[Slot], best: Option<usize>, slot: usize) -> Opti
     dearer(slots, best, slot)
 }
 
-/// The cheaper of two slots, that of the lesser place where they cost the same.
+/// The cheaper of two slots. Where they cost the same it is that of the lesser place; no clause says so.
 pub fn cheaper_in_order(slots: &[Slot], best: Option<usize>, slot: usize) -> Option<usize>
     requires best { (i : ℕ) → best ≡ Some i → i < length slots.now }
     requires slot { slot < length slots.now }
@@ -80,7 +80,8 @@ pub fn cheaper_in_order(slots: &[Slot], best: Option<usize>, slot: usize) -> Opt
     cheaper(slots, best, slot)
 }
 
-/// The dearer of a slot, if it may put in less, and another, that of the lesser place where they cost the same.
+/// The dearer of a slot, if it may put in less, and another. Where they cost the same it is that of the lesser place;
+/// no clause says so.
 pub fn dearest_with_in_order(
     slots: &[Slot],
     amounts: &[i64],
@@ -98,7 +99,8 @@ pub fn dearest_with_in_order(
     dearer_in_order(slots, best, slot)
 }
 
-/// The cheaper of a slot, if it may put in more, and another, that of the lesser place where they cost the same.
+/// The cheaper of a slot, if it may put in more, and another. Where they cost the same it is that of the lesser place;
+/// no clause says so.
 pub fn cheapest_with_in_order(
     slots: &[Slot],
     amounts: &[i64],
@@ -116,7 +118,8 @@ pub fn cheapest_with_in_order(
     cheaper_in_order(slots, best, slot)
 }
 
-/// Adds a slot to the marginal slots of its zone: of two that cost the same, the one of the lesser place is marginal.
+/// Adds a slot to the marginal slots of its zone. Of two that cost the same the one of the lesser place is marginal; no
+/// clause says so.
 pub fn add_to_margin(slots: &[Slot], amounts: &[i64], margins: &mut [Margin], slot: usize)
     // A slot of a zone whose entry names slots.
     requires lengths { length amounts.now ≡ length slots.now }

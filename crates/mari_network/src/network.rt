@@ -48,7 +48,7 @@ pub struct Places {
     pub meeting: Vec<Vec<usize>>,
 }
 
-/// An empty list for each zone, with room for so many items.
+/// An empty list for each zone, with room for `room` items.
 fn empty_lists<T: Drop>(alloc: Global, zones: usize, room: usize) -> Result<Vec<Vec<T>>, AllocError>
     ensures long { IfOk result (λ v. length v.items ≡ zones) }
     ensures none { IfOk result (λ v. (z : ℕ) (d : _) → z < zones → (slice_index_or v.items z d).items ≡ []) }
@@ -123,7 +123,7 @@ fn rungs_by_zone(
     Ok(rungs)
 }
 
-/// Sorts rungs by their price, the cheapest first; of two that cost the same, that of the lesser place stays first.
+/// Sorts rungs by their price, the cheapest first. Two that cost the same stay in their order; no clause says so.
 fn sort_rungs(rungs: &mut Vec<Rung>) -> Result<(), AllocError>
     ensures same { IsPermutation rungs.old.items rungs.new.items }
     ensures rising { OnOk result (IsRising rungs.new.items) }

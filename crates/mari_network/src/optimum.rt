@@ -1,8 +1,7 @@
 //! The relaxed optimum, or a cut, read from where no improving chain is left.
 
-ghost use Rattle.std.specs.Prelude.{◌≡◌, List, ◌<◌, ◌≤◌, ◌<ℤ◌, ◌≤ℤ◌, ℕ, pos, length, map, take, IfOk};
+ghost use Rattle.std.specs.Prelude.{◌≡◌, List, ◌<◌, ◌≤◌, ◌*◌, ◌<ℤ◌, ◌≤ℤ◌, ℕ, pos, length, map, IfOk};
 ghost use Rattle.std.specs.Int.{int_max};
-ghost use Rattle.std.specs.List.{AllZip};
 ghost use Rattle.mari_market.specs.declared.market.Order.{Order};
 ghost use Rattle.mari_market.specs.Bounds.{Span};
 ghost use Rattle.mari_market.specs.Cut.{is_in, IsRising};
@@ -10,14 +9,15 @@ ghost use Rattle.mari_market.specs.Market.{IsValid};
 ghost use Rattle.mari_network.specs.declared.optimum.SolveFault.TheVariants.{Memory as NoMemory};
 ghost use Rattle.mari_market.specs.Sums.{int_at, sum_along};
 ghost use Rattle.mari_network.specs.Network.{IsNetwork, Runs};
-ghost use Rattle.mari_network.specs.Orders.{amount_gain, capped_cents, is_inside, CanPut};
+ghost use Rattle.mari_network.specs.Orders.{capped_cents, is_inside};
+ghost use Rattle.mari_network.specs.Slots.{slot_gain};
 ghost use Rattle.mari_network.specs.declared.slots.Slot.{Slot};
 ghost use Rattle.mari_network.specs.Searching.{AreTightPrices};
 ghost use Rattle.mari_network.specs.Solving.{FitsOrders, IsWritten, IsFoundOptimum, IsNetworkOf, AreSlotsOf};
 
-use crate::finish::{cap_all, cut_zones, first_short, quantities, stated, welfare_at};
+use crate::finish::{cap_all, cut_zones, first_short, quantities, stated};
 use crate::network::Network;
-use mari_market::{Activation, Cut, CutSide, Market, Prices};
+use mari_market::{Activation, Cut, CutSide, MOST_ORDERS, MOST_WORTH, Market, Prices};
 use mari_units::{Items, MOST_ZONES, Memory};
 use std::alloc::{AllocError, Global};
 
@@ -121,18 +121,15 @@ fn side_of(amount: i64) -> CutSide
     }
 }
 
-/// What runs as an optimum, with prices as potentials.
+/// What runs as an optimum, with what it is worth as its welfare, and with prices as potentials.
 fn optimum_of(
     alloc: Global,
-    market: &Market,
     amounts: Vec<i64>,
     flows: Vec<i64>,
+    worth: i128,
     prices: &[i64],
 ) -> Result<Optimum, AllocError>
-    // The orders of the market stand first.
-    requires market { IsValid market.now }
-    requires long { length market.now.orders ≤ length amounts.items }
-    requires fits { AllZip (λ o x. CanPut o.side x) market.now.orders (take (length market.now.orders) amounts.items) }
+    requires { worth ≤ℤ pos (MOST_ORDERS * MOST_WORTH) }
 
     // What runs.
     ensures amounts { IfOk result (λ o. o.amounts ≡ amounts) }
@@ -140,9 +137,8 @@ fn optimum_of(
 
     // The potentials, within the cap, and the welfare as it is stated.
     ensures potentials { IfOk result (λ o. o.potentials.cents ≡ map capped_cents prices.now) }
-    ensures stated { IfOk result (λ o. pos o.welfare ≡ int_max (pos 0) (sum_along amount_gain market.now.orders (take (length market.now.orders) amounts.items))) }
+    ensures stated { IfOk result (λ o. pos o.welfare ≡ int_max (pos 0) worth) }
 {
-    let welfare = stated(welfare_at(market.orders.as_slice(), &amounts));
     let cents = cap_all(alloc, prices)?;
     Ok(Optimum {
         amounts,
@@ -150,7 +146,7 @@ fn optimum_of(
         potentials: Prices {
             cents: Items::of(cents),
         },
-        welfare,
+        welfare: stated(worth),
     })
 }
 
@@ -175,6 +171,7 @@ pub fn answer(
     network: &Network,
     amounts: Vec<i64>,
     flows: Vec<i64>,
+    worth: i128,
     prices: &[i64],
 ) -> Result<Optimum, SolveFault>
     // The network is the market's.
@@ -182,8 +179,9 @@ pub fn answer(
     requires network { IsNetwork network.now }
     requires same { IsNetworkOf market.now network.now }
 
-    // What runs in it, where no chain is left.
+    // What runs in it, where no chain is left, and what that is worth.
     requires runs { Runs network.now amounts.items flows.items }
+    requires worth { worth ≡ sum_along slot_gain network.now.slots.now amounts.items }
     requires tight { AreTightPrices network.now amounts.items flows.items prices.now }
     requires long { length market.now.orders ≤ length amounts.items }
 
@@ -193,7 +191,7 @@ pub fn answer(
     // What runs is said by the network, whose amounts, flows and prices these are.
     let _network = network;
     match first_short(&amounts, market.orders.as_slice().len()) {
-        None => Ok(optimum_of(alloc, market, amounts, flows, prices)?),
+        None => Ok(optimum_of(alloc, amounts, flows, worth, prices)?),
         Some(short) => {
             let cut = cut_from(alloc, side_of(amounts[short]), prices)?;
             Err(SolveFault::Cut(cut))

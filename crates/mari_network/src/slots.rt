@@ -1,7 +1,7 @@
 //! Orders as amounts of energy put in.
 
 ghost use Rattle.std.specs.Prelude.{◌≡◌, ℕ, ℤ, ◌+ℤ◌, ◌-ℤ◌, ◌*ℤ◌, ◌<◌, length, slice_set, IfOk};
-ghost use Rattle.std.specs.List.{AllZip};
+ghost use Rattle.std.specs.List.{All, AllZip};
 ghost use Rattle.mari_market.specs.Sums.{sum_along, int_at};
 ghost use Rattle.mari_network.specs.Slots.{slot_at, at_zone, slot_into, slot_gain, IsWithinSlot, IsSmallSlot};
 ghost use Rattle.mari_network.specs.Orders.{slot_of, slots_of, stand_in_of, AreOrderSlots};
@@ -11,8 +11,8 @@ ghost use Rattle.mari_market.specs.Prefix.{bounds_at, IsFeasiblePrefix};
 ghost use Rattle.mari_market.specs.declared.market.Order.{Order};
 
 use mari_gates::states_at;
-use mari_market::{Market, Order, Prefix, Side};
-use mari_units::MOST_ZONES;
+use mari_market::{Market, Order, Prefix, Side, worth};
+use mari_units::{Cents, MOST_ZONES};
 use std::alloc::{AllocError, Global};
 
 /// A price above that of every order, in cents per MWh: the greatest is `CAP`, 9,999,900.
@@ -49,6 +49,27 @@ pub fn move_amount(slots: &[Slot], amounts: &mut [i64], at: usize, more: i64)
 {
     let now = amounts[at];
     amounts[at] = now + more;
+}
+
+/// What an amount of a slot adds to the welfare, in quarter-cents.
+pub fn gain_of(slot: Slot, amount: i64) -> i128
+    ensures { result ≡ slot_gain slot amount }
+{
+    -worth(Cents(slot.price), amount)
+}
+
+/// What amounts of slots add to the welfare together, in quarter-cents.
+pub fn worth_of(slots: &[Slot], amounts: &[i64]) -> i128
+    requires lengths { length amounts.now ≡ length slots.now }
+    requires small { All IsSmallSlot slots.now }
+    requires within { AllZip IsWithinSlot slots.now amounts.now }
+    ensures { result ≡ sum_along slot_gain slots.now amounts.now }
+{
+    let mut total = 0;
+    for (i, slot) in slots.iter().enumerate() {
+        total += gain_of(*slot, amounts[i]);
+    }
+    total
 }
 
 /// How much less a slot may put in.

@@ -1,24 +1,27 @@
 -- One order's slot changed, with its amount, and what stands in for its zone: two places of each list.
-use Rattle.std.proofs.Common.{◌≡◌, ◌==◌, ◌≢◌, ◌&&◌, if◌then◌else◌, Bool, true, false, eqb, ℕ, zero, suc, ◌+◌, ◌<◌, ℤ, pos, ◌+ℤ◌, ◌-ℤ◌, List, [], ◌∷◌, length, set, get_or, arith, refl, sym, ap, ◌∙◌, subst, inl, inr, get_or-set_other}
+use Rattle.std.proofs.Common.{◌≡◌, ◌==◌, ◌≢◌, ◌&&◌, if◌then◌else◌, Bool, true, false, eqb, ℕ, zero, suc, ◌+◌, ◌*◌, ◌<◌, ℤ, pos, ◌+ℤ◌, ◌-ℤ◌, neg_ℤ, ◌≤ℤ◌, FitsSigned, List, [], ◌∷◌, length, set, get_or, arith, refl, sym, ap, ◌∙◌, subst, inl, inr, get_or-set_other}
 use Rattle.std.proofs.lemmas.Int.{ints}
 use Rattle.std.proofs.lemmas.Bool.{cases_eq, eqb-true, false≢true}
 use Rattle.std.proofs.lemmas.Bool.Decides.{Decides-int_eq}
 use Rattle.std.proofs.lemmas.List.{get_or-set_same, length-set}
 use Rattle.std.proofs.lemmas.List.Elements.{All-set}
 use Rattle.std.specs.List.{AllZip}
+use Rattle.std.specs.Int.{w128}
 use Rattle.std.specs.Ordering.{int_eq}
+use Rattle.mari_market.specs.Market.{IsValid}
 use Rattle.mari_market.specs.declared.market.Market.{Market}
 use Rattle.mari_market.specs.Sums.{sum_along, int_at}
 use Rattle.mari_market.proofs.Sums.{AllZip-at}
 use Rattle.mari_network.specs.declared.slots.Slot.{Slot}
 use Rattle.mari_network.specs.Fits.{IsNetworkSlot}
 use Rattle.mari_network.specs.Orders.{stand_in_of}
-use Rattle.mari_network.specs.Slots.{no_slot, slot_at, slot_into, zone_of, at_zone, IsWithinSlot}
+use Rattle.mari_network.specs.Slots.{no_slot, slot_at, slot_gain, slot_into, zone_of, at_zone, IsWithinSlot}
 use Rattle.mari_network.proofs.Fits.{slot_small}
 use Rattle.mari_network.proofs.Lists.{zip_long}
 use Rattle.mari_network.proofs.StandIns.{stands_in}
+use Rattle.mari_network.proofs.Worths.{small_gain, worth_fits}
 use Rattle.mari_paths.proofs.Shortages.{near_more, near_wider}
-use Rattle.mari_paths.specs.Starts.{order_at, AreFilled, FitsOrder, IsNear, StandInsNear}
+use Rattle.mari_paths.specs.Starts.{gain_at, joint_gain, order_at, AreFilled, FitsOrder, IsNear, StandInsNear}
 
 -- ---- two places of a list
 
@@ -79,6 +82,28 @@ into_stays z slots xs p q s t v w less long before there zone stand same e f =
     ∙ sum_set_both (slot_into z) (set slots p s) (set xs p v) q t no_slot w (pos 0) (omega (arith, length-set slots p s)) (omega (arith, length-set xs p v))
     ∙ ap (λ (y : ℕ). mid +ℤ at_zone z y w) same)
 
+-- ---- the worth
+
+worth_sums : (old mid new a b b_mid c d c_new d_new : ℤ) → mid +ℤ a ≡ old +ℤ c → new +ℤ b_mid ≡ mid +ℤ d → b_mid ≡ b → c_new ≡ c → d_new ≡ d → new +ℤ (a +ℤ b) ≡ old +ℤ (c_new +ℤ d_new)
+worth_sums old mid new a b b_mid c d c_new d_new e f g h i = omega (arith, ints, e, f, g, h, i)
+
+pub worth_moves : (slots : List Slot) (xs : List ℤ) (p q : ℕ) (s t : Slot) (v w : ℤ) → length xs ≡ length slots → p < q → q < length slots
+    → sum_along slot_gain (set_two slots p q s t) (set_two xs p q v w) +ℤ (gain_at slots xs p +ℤ gain_at slots xs q)
+    ≡ sum_along slot_gain slots xs +ℤ (gain_at (set_two slots p q s t) (set_two xs p q v w) p +ℤ gain_at (set_two slots p q s t) (set_two xs p q v w) q)
+worth_moves slots xs p q s t v w long before there =
+    let apart : q ≢ p = omega arith in
+    let first = sum_set_both slot_gain slots xs p s no_slot v (pos 0) (omega arith) (omega arith) in
+    let second = sum_set_both slot_gain (set slots p s) (set xs p v) q t no_slot w (pos 0) (omega (arith, length-set slots p s)) (omega (arith, length-set xs p v)) in
+    let slot_q : slot_at (set slots p s) q ≡ slot_at slots q = get_or-set_other slots p q s no_slot apart in
+    let x_q : int_at (set xs p v) q ≡ int_at xs q = get_or-set_other xs p q v (pos 0) apart in
+    let stood : gain_at (set slots p s) (set xs p v) q ≡ gain_at slots xs q = ap (λ (r : Slot). slot_gain r (int_at (set xs p v) q)) slot_q ∙ ap (slot_gain (slot_at slots q)) x_q in
+    let new_p : gain_at (set_two slots p q s t) (set_two xs p q v w) p ≡ slot_gain s v =
+    ap (λ (r : Slot). slot_gain r (int_at (set_two xs p q v w) p)) (two_first slots p q s t no_slot (omega arith) before) ∙ ap (slot_gain s) (two_first xs p q v w (pos 0) (omega arith) before) in
+    let new_q : gain_at (set_two slots p q s t) (set_two xs p q v w) q ≡ slot_gain t w =
+    ap (λ (r : Slot). slot_gain r (int_at (set_two xs p q v w) q)) (two_second slots p q s t no_slot there) ∙ ap (slot_gain t) (two_second xs p q v w (pos 0) (omega arith)) in
+    worth_sums (sum_along slot_gain slots xs) (sum_along slot_gain (set slots p s) (set xs p v)) (sum_along slot_gain (set_two slots p q s t) (set_two xs p q v w))
+    (gain_at slots xs p) (gain_at slots xs q) _ _ _ _ _ first second stood new_p new_q
+
 -- ---- what runs
 
 -- the place of what stands in for a slot's zone
@@ -131,6 +156,14 @@ module _ (m : Market) (slots : List Slot) (xs : List ℤ) (p : ℕ) (s : Slot) (
 
   pub into_after : (z : ℕ) → sum_along (slot_into z) (slots_after m slots p s w) (amounts_after m xs p s v w) ≡ sum_along (slot_into z) slots xs
   into_after z = into_stays z slots xs p (stand_at m s) s (stand_in_of s.zone w) v w less long before there c.zone stand_zone (stands_in s.zone w).zone c.lost c.stood_in
+
+  pub worth_after : sum_along slot_gain (slots_after m slots p s w) (amounts_after m xs p s v w) +ℤ joint_gain m slots xs p ≡ sum_along slot_gain slots xs +ℤ joint_gain m (slots_after m slots p s w) (amounts_after m xs p s v w) p
+  worth_after =
+      let place : length m.orders + zone_of slots p ≡ stand_at m s = ap (λ (z : ℕ). length m.orders + z) (sym c.zone) in
+      let place_new : length m.orders + zone_of (slots_after m slots p s w) p ≡ stand_at m s = ap (λ (t : Slot). length m.orders + t.zone) here_after in
+      ap (λ (k : ℕ). sum_along slot_gain (slots_after m slots p s w) (amounts_after m xs p s v w) +ℤ (gain_at slots xs p +ℤ gain_at slots xs k)) place
+      ∙ worth_moves slots xs p (stand_at m s) s (stand_in_of s.zone w) v w long before there
+      ∙ ap (λ (k : ℕ). sum_along slot_gain slots xs +ℤ (gain_at (slots_after m slots p s w) (amounts_after m xs p s v w) p +ℤ gain_at (slots_after m slots p s w) (amounts_after m xs p s v w) k)) (sym place_new)
 
   stand_ins_after : (z : ℕ) → z < m.zones → slot_at (slots_after m slots p s w) (length m.orders + z) ≡ stand_in_of z (int_at (amounts_after m xs p s v w) (length m.orders + z))
   stand_ins_after z l = elim (cases_eq z s.zone) [
@@ -207,11 +240,32 @@ change_is m slots xs mid p s less a near l fits zone within e =
       near = record { low = omega (arith, ints, stood, small.low, before.low); high = omega (arith, ints, stood, small.high, before.high) };
     }
 
+-- ---- the gains are small
+
+pub small_at : (m : Market) (slots : List Slot) (xs : List ℤ) (k : ℕ) → AreFilled m slots xs → k < length slots
+    → (neg_ℤ (pos (20000000 * 1099511627776)) ≤ℤ gain_at slots xs k) × (gain_at slots xs k ≤ℤ pos (20000000 * 1099511627776))
+small_at m slots xs k a l = small_gain (slot_at slots k) (int_at xs k) (a.network k no_slot l).small (AllZip-at IsWithinSlot slots xs k no_slot (pos 0) l a.within)
+
+pub stand_there : (m : Market) (slots : List Slot) (xs : List ℤ) (k : ℕ) → AreFilled m slots xs → k < length m.orders → length m.orders + zone_of slots k < length slots
+stand_there m slots xs k a l = omega (arith, a.long, (a.orders k l).fine.zone)
+
+pub small_joint : (m : Market) (slots : List Slot) (xs : List ℤ) (k : ℕ) → AreFilled m slots xs → k < length m.orders
+    → (neg_ℤ (pos (40000000 * 1099511627776)) ≤ℤ joint_gain m slots xs k) × (joint_gain m slots xs k ≤ℤ pos (40000000 * 1099511627776))
+small_joint m slots xs k a l =
+    let first = small_at m slots xs k a (omega (arith, a.long, l)) in
+    let second = small_at m slots xs (length m.orders + zone_of slots k) a (stand_there m slots xs k a l) in
+    (omega (arith, ints, first.0, second.0), omega (arith, ints, first.1, second.1))
+
+-- what all is worth then fits
+pub filled_worth : (m : Market) (slots : List Slot) (xs : List ℤ) → IsValid m → AreFilled m slots xs → FitsSigned w128 (sum_along slot_gain slots xs)
+filled_worth m slots xs v a = worth_fits slots xs (λ k d l. (a.network k d l).small) a.within (omega (arith, a.long, v.few_orders, v.zones.1))
+
 -- what runs after a change
 pub record IsChanged (m : Market) (p : ℕ) (s : Slot) (slots new : List Slot) (xs ys : List ℤ) : Type 0 where
   pub filled : AreFilled m new ys
   pub near : (most : ℕ) → StandInsNear most m xs → StandInsNear (most + 200000) m ys
   pub into : (z : ℕ) → sum_along (slot_into z) new ys ≡ sum_along (slot_into z) slots xs
+  pub worth : sum_along slot_gain new ys +ℤ joint_gain m slots xs p ≡ sum_along slot_gain slots xs +ℤ joint_gain m new ys p
   pub here : slot_at new p ≡ s
   pub others : (k : ℕ) → k < length m.orders → k ≢ p → slot_at new k ≡ slot_at slots k
   pub zones : (k : ℕ) → zone_of new k ≡ zone_of slots k
@@ -226,6 +280,7 @@ changed m slots new xs ys p s v w less a c small e f =
       filled = filled_after m slots xs p s v w less a c;
       near = λ most near. near_after m slots xs p s v w less a c most small near;
       into = into_after m slots xs p s v w less a c;
+      worth = worth_after m slots xs p s v w less a c;
       here = here_after m slots xs p s v w less a c;
       others = others_after m slots xs p s v w less a c;
       zones = zones_after m slots xs p s v w less a c;

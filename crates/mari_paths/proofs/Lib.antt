@@ -3,3 +3,4 @@ pub mod Changed
 pub mod Merits
 pub mod Shortages
 pub mod Starts
+pub mod Steps

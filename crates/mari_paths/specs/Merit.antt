@@ -5,6 +5,7 @@ use Rattle.mari_market.specs.Sums.{int_sum}
 use Rattle.mari_network.specs.declared.slots.Slot.{Slot}
 use Rattle.mari_network.specs.declared.slots.TheConstants.{BEYOND}
 
+-- what a slot puts in, in MW: its greatest where it runs, and else its least
 abbrev pub run_if : Bool → Slot → ℤ
 run_if true s = s.high
 run_if false s = s.low

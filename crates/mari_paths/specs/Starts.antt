@@ -1,5 +1,5 @@
 -- What stands in for what a start leaves out of balance.
-use Rattle.std.specs.Prelude.{◌≡◌, ℕ, ◌+◌, ◌<◌, ◌≤◌, ℤ, pos, ◌-ℤ◌, neg_ℤ, ◌≤ℤ◌, List, [], ◌∷◌, length, slice_index_or}
+use Rattle.std.specs.Prelude.{◌≡◌, ℕ, ◌+◌, ◌<◌, ◌≤◌, ℤ, pos, ◌+ℤ◌, ◌-ℤ◌, neg_ℤ, ◌≤ℤ◌, List, [], ◌∷◌, length, slice_index_or}
 use Rattle.std.specs.List.{All, AllZip}
 use Rattle.mari_market.specs.declared.market.Border.{Border}
 use Rattle.mari_market.specs.declared.market.Market.{Market}
@@ -9,7 +9,7 @@ use Rattle.mari_market.specs.Activation.{carried_out}
 use Rattle.mari_network.specs.declared.slots.Slot.{Slot}
 use Rattle.mari_network.specs.Fits.{IsNetworkSlot}
 use Rattle.mari_network.specs.Orders.{no_order, stand_in_of, CanPut, IsOrderSlot}
-use Rattle.mari_network.specs.Slots.{slot_at, slot_into, IsWithinSlot}
+use Rattle.mari_network.specs.Slots.{slot_at, slot_gain, slot_into, zone_of, IsWithinSlot}
 use Rattle.mari_units.specs.declared.limits.TheConstants.{MOST_FLOW}
 
 -- bounds of what a start puts in and moves, in MW, so that sums fit: above an order's quantity and a border's flow,
@@ -57,8 +57,17 @@ pub record AreShort (zones : ℕ) (slots : List Slot) (bs : List Border) (xs fs 
   pub long : length short ≡ zones
   pub each : (z : ℕ) → z < zones → int_at short z ≡ sum_along (carried_out z) bs fs -ℤ sum_along (slot_into z) slots xs
 
+-- the order at a place
 abbrev pub order_at : Market → ℕ → Order
 order_at m k = slice_index_or m.orders k no_order
+
+-- what the amount at a place adds to the welfare, in quarter-cents
+abbrev pub gain_at : List Slot → List ℤ → ℕ → ℤ
+gain_at slots xs k = slot_gain (slot_at slots k) (int_at xs k)
+
+-- what an order's amount and that of what stands in for its zone add together, in quarter-cents
+abbrev pub joint_gain : Market → List Slot → List ℤ → ℕ → ℤ
+joint_gain m slots xs k = gain_at slots xs k +ℤ gain_at slots xs (length m.orders + zone_of slots k)
 
 -- a slot between two amounts that an order of this side can put in
 pub record FitsOrder (zones : ℕ) (o : Order) (s : Slot) : Type 0 where

@@ -5,10 +5,11 @@ use Rattle.mari_market.specs.declared.market.Market.{Market}
 use Rattle.mari_market.specs.declared.market.Order.{Order}
 use Rattle.mari_market.specs.Activation.{IsWithinLimits}
 use Rattle.mari_market.specs.Bounds.{Span, Free, span_of}
+use Rattle.mari_market.specs.Sums.{sum_along}
 use Rattle.mari_network.specs.Margins.{AreMarginsOfThese}
 use Rattle.mari_network.specs.Network.{ArePlaces}
 use Rattle.mari_network.specs.Orders.{slot_of}
-use Rattle.mari_network.specs.Slots.{price_of, slot_at, zone_of}
+use Rattle.mari_network.specs.Slots.{price_of, slot_at, slot_gain, zone_of}
 use Rattle.mari_paths.specs.declared.warm.WarmStart.{WarmStart}
 use Rattle.mari_paths.specs.Starts.{most_short, order_at, AreEven, AreFilled, StandInsNear}
 
@@ -27,13 +28,14 @@ pub record AreGated (m : Market) (places : List ℕ) : Type 0 where
   pub only : All (λ k. is_some (order_at m k).gate ≡ true) places
   pub all : (k : ℕ) → k < length m.orders → is_some (order_at m k).gate ≡ true → Contains places k
 
--- what runs in a network of the market, in balance, with the slots that orders without a gate have at every prefix and
--- their margins
+-- what runs in a network of the market, in balance, and what it is worth; with the slots that orders without a gate have
+-- at every prefix, and their margins
 pub record IsWarmStart (m : Market) (w : WarmStart) : Type 0 where
   pub filled : AreFilled m w.slots.items w.amounts.items
   pub limits : AllZip IsWithinLimits m.borders w.flows.items
   pub even : AreEven m w.slots.items w.amounts.items w.flows.items
   pub near : StandInsNear most_short m w.amounts.items
+  pub worth : w.worth ≡ sum_along slot_gain w.slots.items w.amounts.items
   pub places : ArePlaces m.zones w.slots.items m.borders w.places
   pub on_ladders : w.places.on_ladders ≡ length m.orders
   pub margins : AreMarginsOfThese (IsPlain m) w.slots.items w.amounts.items m.zones w.plain.items

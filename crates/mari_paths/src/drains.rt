@@ -105,26 +105,30 @@ fn go_on(
     }
 }
 
-/// Moves energy along a chain, and brings the margins of its ends' zones up to date.
+/// Moves energy along a chain, and brings up to date what the amounts are worth together, in quarter-cents, and the
+/// margins of the zones of its ends.
 fn push_along(
     network: &Network,
     amounts: &mut [i64],
     flows: &mut [i64],
+    worth: &mut i128,
     margins: &mut [Margin],
     chain: &Chain,
 )
-    // What the caller knows of what runs, and of the chain.
+    // What the caller knows of what runs and what it is worth, and of the chain.
     requires network { IsNetwork network.now }
     requires runs { Runs network.now amounts.old flows.old }
+    requires worth { worth.old ≡ sum_along slot_gain network.now.slots.now amounts.old }
     requires margins { AreMargins network.now.slots.now amounts.old (length network.now.meeting.now) (length network.now.slots.now) margins.old }
     requires chain { IsImproving network.now amounts.old flows.old chain.now }
 
     // The same of what runs then, and that it is better.
     ensures runs { Runs network.now amounts.new flows.new }
+    ensures worth { worth.new ≡ sum_along slot_gain network.now.slots.now amounts.new }
     ensures margins { AreMargins network.now.slots.now amounts.new (length network.now.meeting.now) (length network.now.slots.now) margins.new }
     ensures rises { sum_along slot_gain network.now.slots.now amounts.old <ℤ sum_along slot_gain network.now.slots.now amounts.new }
 {
-    improve(network, amounts, flows, chain);
+    *worth += improve(network, amounts, flows, chain);
     let Chain { sink, source, .. } = chain;
     let to = network.slots[*sink].zone as usize;
     let from = network.slots[*source].zone as usize;
@@ -140,23 +144,26 @@ pub fn drain(
     network: &Network,
     amounts: &mut [i64],
     flows: &mut [i64],
+    worth: &mut i128,
     margins: &mut [Margin],
     chain: &mut Chain,
 )
-    // What the caller knows of what runs, and of the first chain.
+    // What the caller knows of what runs and what it is worth, and of the first chain.
     requires network { IsNetwork network.now }
     requires runs { Runs network.now amounts.old flows.old }
+    requires worth { worth.old ≡ sum_along slot_gain network.now.slots.now amounts.old }
     requires margins { AreMargins network.now.slots.now amounts.old (length network.now.meeting.now) (length network.now.slots.now) margins.old }
     requires chain { IsImproving network.now amounts.old flows.old chain.old }
 
     // The same of what runs then, and that it is better.
     ensures runs { Runs network.now amounts.new flows.new }
+    ensures worth { worth.new ≡ sum_along slot_gain network.now.slots.now amounts.new }
     ensures margins { AreMargins network.now.slots.now amounts.new (length network.now.meeting.now) (length network.now.slots.now) margins.new }
     ensures rises { sum_along slot_gain network.now.slots.now amounts.old <ℤ sum_along slot_gain network.now.slots.now amounts.new }
 {
     let price = network.slots[chain.sink].price;
-    push_along(network, amounts, flows, margins, chain);
+    push_along(network, amounts, flows, worth, margins, chain);
     while go_on(network, amounts, flows, margins, chain, price) {
-        push_along(network, amounts, flows, margins, chain);
+        push_along(network, amounts, flows, worth, margins, chain);
     }
 }

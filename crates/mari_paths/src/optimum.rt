@@ -6,6 +6,7 @@ ghost use Rattle.std.specs.List.{All, AllZip};
 ghost use Rattle.mari_market.specs.declared.market.Order.{Order};
 ghost use Rattle.mari_market.specs.Activation.{welfare_of};
 ghost use Rattle.mari_market.specs.Bounds.{Span};
+ghost use Rattle.mari_market.specs.Sums.{sum_along};
 ghost use Rattle.mari_market.specs.Cut.{IsCut};
 ghost use Rattle.mari_market.specs.Dual.{IsTight, dual_value_of};
 ghost use Rattle.mari_market.specs.Market.{IsValid};
@@ -17,7 +18,7 @@ ghost use Rattle.mari_network.specs.Fits.{IsNetworkSlot};
 ghost use Rattle.mari_network.specs.Orders.{slots_of, CanPut, AreOrderSlots};
 ghost use Rattle.mari_network.specs.Margins.{AreMargins};
 ghost use Rattle.mari_network.specs.Network.{AreInOrder, IsNetwork, Runs};
-ghost use Rattle.mari_network.specs.Slots.{IsRunning};
+ghost use Rattle.mari_network.specs.Slots.{slot_gain, IsRunning};
 ghost use Rattle.mari_network.specs.Solving.{NoneWithin, OfCut, IsFoundOptimum, IsNetworkOf, AreSlotsOf};
 
 use crate::run::run;
@@ -25,7 +26,7 @@ use crate::start::start_from;
 use mari_market::{Activation, Market, Prefix};
 use mari_network::{
     Margin, Network, Optimum, Slot, SolveFault, Solved, answer, margins_of, network_of,
-    order_slots, places_of,
+    order_slots, places_of, worth_of,
 };
 use std::alloc::Global;
 
@@ -36,6 +37,7 @@ pub fn solve_network(
     network: &Network,
     mut amounts: Vec<i64>,
     mut flows: Vec<i64>,
+    mut worth: i128,
     margins: &mut [Margin],
 ) -> Result<Optimum, SolveFault>
     // The network is the market's.
@@ -43,16 +45,24 @@ pub fn solve_network(
     requires network { IsNetwork network.now }
     requires same { IsNetworkOf market.now network.now }
 
-    // What runs in it, with its margins.
+    // What runs in it and what it is worth, in quarter-cents, with its margins.
     requires runs { Runs network.now amounts.items flows.items }
+    requires worth { worth ≡ sum_along slot_gain network.now.slots.now amounts.items }
     requires margins { AreMargins network.now.slots.now amounts.items (length network.now.meeting.now) (length network.now.slots.now) margins.old }
     requires long { length market.now.orders ≤ length amounts.items }
 
     // The answer, by whatever bounds the slots were made.
     ensures { (spans : Order → Span) (more : List Slot) → AreSlotsOf spans market.now more network.now.slots.now → IsFoundOptimum spans market.now result }
 {
-    let prices = run(alloc, network, &mut amounts, &mut flows, margins)?;
-    answer(alloc, market, network, amounts, flows, &prices)
+    let prices = run(
+        alloc,
+        network,
+        &mut amounts,
+        &mut flows,
+        &mut worth,
+        margins,
+    )?;
+    answer(alloc, market, network, amounts, flows, worth, &prices)
 }
 
 /// The relaxed optimum of a market whose orders may run within these slots, from amounts and flows that balance with
@@ -75,12 +85,13 @@ fn solve_slots(
     let orders = market.orders.as_slice().len();
     let places = places_of(alloc, market, slots, orders)?;
     let network = network_of(market, slots, &places);
+    let worth = worth_of(network.slots, &amounts);
     let mut margins = margins_of(alloc, &network, &amounts)?;
-    solve_network(alloc, market, &network, amounts, flows, &mut margins)
+    solve_network(alloc, market, &network, amounts, flows, worth, &mut margins)
 }
 
 /// The relaxed optimum of a market whose orders may run within these slots, from an activation to start with; or a
-/// cut.
+/// cut. The slots are real ones: those that stand in aren't among them.
 fn solve_reals(
     alloc: Global,
     market: &Market,
@@ -119,11 +130,12 @@ pub fn optimum_from(
 /// prefix's bounds, where orders of undecided gates may run anything up to their greatest, of the greatest welfare,
 /// with potentials of which it is the dual value; or a cut, where no activation lies within the bounds.
 ///
-/// The start's quantities and flows are moved to the nearest within the bounds and limits; in place of a start of other
-/// lengths, or none, the orders run what they would at one price for the whole market. What that leaves too much or
-/// too little in a zone is taken away or given at a price that no order reaches, and energy is then moved from cheaper
-/// to dearer orders along borders with room until no zone's prices contradict each other. From a start near the
-/// optimum few moves are needed, and time is that of a few passes over the orders.
+/// The start's quantities and flows are moved within the bounds and limits, to the nearest there; no clause says that
+/// it is the nearest. In place of a start of other lengths, or none, the orders run what they would at one price for
+/// the whole market. What that leaves too much or too little in a zone is taken away or given at a price that no order
+/// reaches, and energy is then moved from cheaper to dearer orders along borders with room until no zone's prices
+/// contradict each other. From a start near the optimum few moves are needed, and time is that of a few passes over the
+/// orders.
 pub fn solve_from(
     alloc: Global,
     market: &Market,

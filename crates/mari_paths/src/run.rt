@@ -1,9 +1,11 @@
 //! Improving until no chain is left.
 
-ghost use Rattle.std.specs.Prelude.{length, IfOk};
+ghost use Rattle.std.specs.Prelude.{◌≡◌, length, IfOk};
+ghost use Rattle.mari_market.specs.Sums.{sum_along};
 ghost use Rattle.mari_network.specs.Margins.{AreMargins};
 ghost use Rattle.mari_network.specs.Network.{IsNetwork, Runs};
 ghost use Rattle.mari_network.specs.Searching.{AreTightPrices};
+ghost use Rattle.mari_network.specs.Slots.{slot_gain};
 
 use crate::drains::drain;
 use mari_network::{Found, Margin, Network, find_chain};
@@ -15,17 +17,25 @@ pub fn run(
     network: &Network,
     amounts: &mut [i64],
     flows: &mut [i64],
+    worth: &mut i128,
     margins: &mut [Margin],
 ) -> Result<Vec<i64>, AllocError>
+    // What runs and what it is worth, in quarter-cents, with its margins.
     requires network { IsNetwork network.now }
     requires runs { Runs network.now amounts.old flows.old }
+    requires worth { worth.old ≡ sum_along slot_gain network.now.slots.now amounts.old }
     requires margins { AreMargins network.now.slots.now amounts.old (length network.now.meeting.now) (length network.now.slots.now) margins.old }
+
+    // The same of what runs then, for which the prices are tight.
     ensures runs { Runs network.now amounts.new flows.new }
+    ensures worth { worth.new ≡ sum_along slot_gain network.now.slots.now amounts.new }
     ensures tight { IfOk result (λ prices. AreTightPrices network.now amounts.new flows.new prices.items) }
 {
     loop {
         match find_chain(alloc, network, amounts, flows, margins)? {
-            Found::Improving(mut chain) => drain(network, amounts, flows, margins, &mut chain),
+            Found::Improving(mut chain) => {
+                drain(network, amounts, flows, worth, margins, &mut chain);
+            }
             Found::Tight(prices) => return Ok(prices),
         }
     }

@@ -1,7 +1,8 @@
 //! What a solve starts from: the quantities and flows of an activation, set right, or what runs at one price; and what
 //! stands in for what they leave out of balance.
 //!
-//! That they are the nearest which the bounds allow is no part of a contract: no promise rests on it.
+//! The clauses say that what runs lies within the slots and limits. That it is the nearest there no clause says, and no
+//! promise rests on it. The slots of orders are the real ones, as against those that stand in.
 
 ghost use Rattle.std.specs.Prelude.{◌≡◌, ◌<◌, ◌≤◌, ℕ, pos, neg_ℤ, ◌+ℤ◌, ◌-ℤ◌, ◌++◌, length, slice_set, take, IfOk, OnOk};
 ghost use Rattle.std.specs.List.{All, AllZip};

@@ -20,7 +20,7 @@ use crate::start::start_from;
 use mari_gates::empty_prefix;
 use mari_market::{Activation, Market, Prefix};
 use mari_network::{
-    Margin, Optimum, Places, Slot, SolveFault, Solved, network_of, order_slots, places_of,
+    Margin, Optimum, Places, Slot, SolveFault, Solved, network_of, order_slots, places_of, worth_of,
 };
 use std::alloc::{AllocError, Global};
 
@@ -35,6 +35,8 @@ pub struct WarmStart {
     slots: Vec<Slot>,
     amounts: Vec<i64>,
     flows: Vec<i64>,
+    /// What the amounts are worth together, in quarter-cents.
+    worth: i128,
     places: Places,
     /// The margin of each zone among the orders without a gate.
     plain: Vec<Margin>,
@@ -56,8 +58,8 @@ pub fn gated_places(alloc: Global, market: &Market) -> Result<Vec<usize>, AllocE
 }
 
 impl WarmStart {
-    /// What an activation runs in the market's network. In place of one that doesn't fit the market, or of none, it is
-    /// what runs at one price for the whole market.
+    /// What runs in the market's network, in balance with what stands in. It is near to an activation, if one is given
+    /// that fits the market, and else to what runs at one price for the whole market; no clause says so.
     pub fn of(
         alloc: Global,
         market: &Market,
@@ -69,14 +71,17 @@ impl WarmStart {
         let reals = order_slots(alloc, market, &empty_prefix())?;
         let begun = start_from(alloc, market, reals, start)?;
         let slots = begun.slots.as_slice();
+        let amounts = begun.amounts.as_slice();
         let orders = market.orders.as_slice().len();
+        let worth = worth_of(slots, amounts);
         let places = places_of(alloc, market, slots, orders)?;
-        let plain = plain_margins(alloc, market, slots, begun.amounts.as_slice())?;
+        let plain = plain_margins(alloc, market, slots, amounts)?;
         let gated = gated_places(alloc, market)?;
         Ok(WarmStart {
             slots: begun.slots,
             amounts: begun.amounts,
             flows: begun.flows,
+            worth,
             places,
             plain,
             gated,
@@ -98,6 +103,7 @@ impl WarmStart {
         let mut slots = Vec::from_slice(alloc, self.slots.as_slice())?;
         let mut amounts = Vec::from_slice(alloc, self.amounts.as_slice())?;
         let flows = Vec::from_slice(alloc, self.flows.as_slice())?;
+        let mut worth = self.worth;
         let mut margins = Vec::from_slice(alloc, self.plain.as_slice())?;
         let gated = self.gated.as_slice();
         set_bounds(
@@ -106,10 +112,11 @@ impl WarmStart {
             gated,
             &mut slots,
             &mut amounts,
+            &mut worth,
             &mut margins,
         );
         let network = network_of(market, &slots, &self.places);
-        solve_network(alloc, market, &network, amounts, flows, &mut margins)
+        solve_network(alloc, market, &network, amounts, flows, worth, &mut margins)
     }
 
     /// The relaxed optimum of a prefix from what runs in this, as the network has it.

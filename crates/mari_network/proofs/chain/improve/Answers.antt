@@ -1,9 +1,9 @@
-use Rattle.std.proofs.Common.{◌≡◌, ◌≢◌, ℕ, ◌+ℤ◌, ℤ, pos, ◌-ℤ◌, ◌≤ℤ◌, neg_ℤ, to_z, of_z, to_z-of_z, sym, ap, ◌∙◌, rules, FitsSigned, w64, arith, List, get_or-set_other, get_or-set_same}
+use Rattle.std.proofs.Common.{◌≡◌, ◌≢◌, ℕ, ◌+ℤ◌, ℤ, pos, ◌-ℤ◌, ◌*ℤ◌, ◌≤ℤ◌, neg_ℤ, to_z, of_z, to_z-of_z, sym, ap, ◌∙◌, rules, FitsSigned, w64, arith, List, get_or-set_other, get_or-set_same}
 use Rattle.std.proofs.lemmas.Int.{ints}
 use Rattle.mari_market.specs.Sums.{int_at}
 use Rattle.mari_network.specs.Slots.{no_slot, slot_at, IsWithinSlot}
 use Rattle.mari_network.specs.Chain.{hop_at}
-use Rattle.mari_network.proofs.Chains.{move_rises, move_balances, other_slot}
+use Rattle.mari_network.proofs.Chains.{move_balances, move_rises, move_worth, other_slot}
 use Rattle.mari_network.proofs.chain.improve.Goals as goal
 use Rattle.mari_market.proofs.Sums.{AllZip-at}
 
@@ -65,6 +65,16 @@ returns-clause-moved c =
       more = omega (arith, ints, risen, first source apart, some);
       least = at_source.least;
     }
+
+pub returns-clause-worth : goal.returns-clause-worth
+returns-clause-worth c =
+    let source = slot_at c.args.network.now.slots.now c.args.chain.now.source in
+    let sink = slot_at c.args.network.now.slots.now c.args.chain.now.sink in
+    let r : FitsSigned w64 c.most_along-more.result = search rules in
+    let some : pos 1 ≤ℤ c.most_along-more.result = c.most_along-more.ensures.some in
+    let less : to_z w64 (of_z w64 (pos 0 -ℤ to_z w64 (of_z w64 c.most_along-more.result))) ≡ neg_ℤ c.most_along-more.result = omega (arith, ints) in
+    let gain : c.worth_of_move.result ≡ (sink.price -ℤ source.price) *ℤ c.most_along-more.result = rw (to_z-of_z r) at c.worth_of_move.ensures in
+    omega (arith, ints, gain, move_worth source.price sink.price c.most_along-more.result _ _ _ (rw less at c.move_amount.ensures.worth) (rw (to_z-of_z r) at c.move_amount-2.ensures.worth))
 
 pub returns-clause-rises : goal.returns-clause-rises
 returns-clause-rises c =

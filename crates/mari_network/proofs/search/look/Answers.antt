@@ -6,8 +6,8 @@ use Rattle.mari_market.specs.declared.market.Border.{Border}
 use Rattle.mari_network.specs.declared.chain.Hop.{Hop}
 use Rattle.mari_market.specs.Sums.{int_at}
 use Rattle.mari_network.specs.Network.{border_at, AreMeeting}
-use Rattle.mari_network.specs.Chain.{no_hop, hop_at, hop_of, room_of, head_of, tail_of}
-use Rattle.mari_network.specs.Spread.{MarkedInto, Keeps, is_marked}
+use Rattle.mari_network.specs.Chain.{no_hop, hop_at, hop_of, room_of, head_of}
+use Rattle.mari_network.specs.Spread.{MarkedInto, is_marked}
 use Rattle.mari_network.proofs.Spread.{all_into, one_way}
 use Rattle.mari_network.proofs.search.look.Goals as goal
 

@@ -1,10 +1,13 @@
-use Rattle.std.proofs.Common.{◌+◌, List, length, sym, ap, ◌∙◌, arith, rules, to_z-of_z, FitsSigned, w64}
+use Rattle.std.proofs.Common.{◌+◌, ℤ, List, length, sym, ap, ◌∙◌, subst, arith, rules, to_z, of_z, to_z-of_z, FitsSigned, w64}
+use Rattle.std.specs.Int.{w128}
+use Rattle.std.proofs.lemmas.Int.{ints}
 use Rattle.mari_market.specs.declared.market.Order.{Order}
-use Rattle.mari_market.specs.Sums.{int_at}
-use Rattle.mari_network.specs.Slots.{slot_at, IsWithinSlot}
+use Rattle.mari_market.specs.Sums.{int_at, sum_along}
+use Rattle.mari_network.specs.Slots.{slot_at, slot_gain, IsWithinSlot}
 use Rattle.mari_network.proofs.Lists.{zip_long}
 use Rattle.mari_paths.proofs.Shortages.{near_wider}
-use Rattle.mari_paths.proofs.Changed.{change_made, same_slot, small_loss, small_order, stood_before, IsChanged}
+use Rattle.mari_paths.proofs.Steps.{change_step}
+use Rattle.mari_paths.proofs.Changed.{change_made, filled_worth, same_slot, small_joint, small_loss, small_order, stood_before, IsChanged}
 use Rattle.mari_paths.proofs.changes.change_slot.Goals as goal
 
 pub returns-then-eq-clause-near : goal.returns-then-eq-clause-near
@@ -33,19 +36,59 @@ stand_for-requires-clause-before c =
     stood_before c.args.market.now c.args.amounts.now c.put_slot-less.new.amounts c.args.place (length c.as_slice.result.now + c.args.slot.zone) 2000000000 c.args.slot _
     c.requires.place c.requires.slot.fine.zone c.requires.near (ap (λ (os : List Order). length os + c.args.slot.zone) c.as_slice.ensures) c.put_slot-less.ensures.amounts
 
-pub returns : goal.returns
-returns c =
-    let slot = c.args.slot in
+pub gain_with_stand_in-requires-clause-filled : goal.gain_with_stand_in-requires-clause-filled
+gain_with_stand_in-requires-clause-filled c =
     let fits : FitsSigned w64 c.put_slot-less.result = search rules in
     let all : IsChanged c.args.market.now c.args.place c.args.slot c.args.slots.now c.stand_for.new.slots c.args.amounts.now c.stand_for.new.amounts =
     change_made c.args.market.now c.args.slots.now c.put_slot-less.new.slots c.stand_for.new.slots c.args.amounts.now c.put_slot-less.new.amounts c.stand_for.new.amounts c.args.place
-    (length c.as_slice.result.now + c.args.slot.zone) slot c.put_slot-less.result c.requires.filled c.requires.near c.requires.place c.requires.slot c.requires.zone c.put_slot-less.ensures.within
+    (length c.as_slice.result.now + c.args.slot.zone) c.args.slot c.put_slot-less.result c.requires.filled c.requires.near c.requires.place c.requires.slot c.requires.zone c.put_slot-less.ensures.within
     (ap (λ (os : List Order). length os + c.args.slot.zone) c.as_slice.ensures) c.put_slot-less.ensures.slots c.put_slot-less.ensures.amounts
     (rw (to_z-of_z fits) at c.stand_for.ensures.slots) (rw (to_z-of_z fits) at c.stand_for.ensures.amounts) in
+    all.filled
+
+pub overflow_sub-worth : goal.overflow_sub-worth
+overflow_sub-worth c =
+    let fits : FitsSigned w64 c.put_slot-less.result = search rules in
+    let all : IsChanged c.args.market.now c.args.place c.args.slot c.args.slots.now c.stand_for.new.slots c.args.amounts.now c.stand_for.new.amounts =
+    change_made c.args.market.now c.args.slots.now c.put_slot-less.new.slots c.stand_for.new.slots c.args.amounts.now c.put_slot-less.new.amounts c.stand_for.new.amounts c.args.place
+    (length c.as_slice.result.now + c.args.slot.zone) c.args.slot c.put_slot-less.result c.requires.filled c.requires.near c.requires.place c.requires.slot c.requires.zone c.put_slot-less.ensures.within
+    (ap (λ (os : List Order). length os + c.args.slot.zone) c.as_slice.ensures) c.put_slot-less.ensures.slots c.put_slot-less.ensures.amounts
+    (rw (to_z-of_z fits) at c.stand_for.ensures.slots) (rw (to_z-of_z fits) at c.stand_for.ensures.amounts) in
+    let before = small_joint c.args.market.now c.args.slots.now c.args.amounts.now c.args.place c.requires.filled c.requires.place in
+    let after = small_joint c.args.market.now c.stand_for.new.slots c.stand_for.new.amounts c.args.place all.filled c.requires.place in
+    omega (arith, ints, c.gain_with_stand_in-before.ensures, c.gain_with_stand_in.ensures, before.0, before.1, after.0, after.1)
+
+pub overflow_add-worth : goal.overflow_add-worth
+overflow_add-worth c =
+    let fits : FitsSigned w64 c.put_slot-less.result = search rules in
+    let all : IsChanged c.args.market.now c.args.place c.args.slot c.args.slots.now c.stand_for.new.slots c.args.amounts.now c.stand_for.new.amounts =
+    change_made c.args.market.now c.args.slots.now c.put_slot-less.new.slots c.stand_for.new.slots c.args.amounts.now c.put_slot-less.new.amounts c.stand_for.new.amounts c.args.place
+    (length c.as_slice.result.now + c.args.slot.zone) c.args.slot c.put_slot-less.result c.requires.filled c.requires.near c.requires.place c.requires.slot c.requires.zone c.put_slot-less.ensures.within
+    (ap (λ (os : List Order). length os + c.args.slot.zone) c.as_slice.ensures) c.put_slot-less.ensures.slots c.put_slot-less.ensures.amounts
+    (rw (to_z-of_z fits) at c.stand_for.ensures.slots) (rw (to_z-of_z fits) at c.stand_for.ensures.amounts) in
+    let before = small_joint c.args.market.now c.args.slots.now c.args.amounts.now c.args.place c.requires.filled c.requires.place in
+    let after = small_joint c.args.market.now c.stand_for.new.slots c.stand_for.new.amounts c.args.place all.filled c.requires.place in
+    let worth : FitsSigned w128 (sum_along slot_gain c.stand_for.new.slots c.stand_for.new.amounts) = filled_worth c.args.market.now c.stand_for.new.slots c.stand_for.new.amounts c.requires.market all.filled in
+    let old : FitsSigned w128 (sum_along slot_gain c.args.slots.now c.args.amounts.now) = filled_worth c.args.market.now c.args.slots.now c.args.amounts.now c.requires.market c.requires.filled in
+    subst (λ (x : ℤ). FitsSigned w128 x) (sym (change_step c.args.worth.now _ _ _ _ _ _ old c.requires.worth c.gain_with_stand_in-before.ensures c.gain_with_stand_in.ensures all.worth before after)) worth
+
+pub returns : goal.returns
+returns c =
+    let fits : FitsSigned w64 c.put_slot-less.result = search rules in
+    let all : IsChanged c.args.market.now c.args.place c.args.slot c.args.slots.now c.stand_for.new.slots c.args.amounts.now c.stand_for.new.amounts =
+    change_made c.args.market.now c.args.slots.now c.put_slot-less.new.slots c.stand_for.new.slots c.args.amounts.now c.put_slot-less.new.amounts c.stand_for.new.amounts c.args.place
+    (length c.as_slice.result.now + c.args.slot.zone) c.args.slot c.put_slot-less.result c.requires.filled c.requires.near c.requires.place c.requires.slot c.requires.zone c.put_slot-less.ensures.within
+    (ap (λ (os : List Order). length os + c.args.slot.zone) c.as_slice.ensures) c.put_slot-less.ensures.slots c.put_slot-less.ensures.amounts
+    (rw (to_z-of_z fits) at c.stand_for.ensures.slots) (rw (to_z-of_z fits) at c.stand_for.ensures.amounts) in
+    let before = small_joint c.args.market.now c.args.slots.now c.args.amounts.now c.args.place c.requires.filled c.requires.place in
+    let after = small_joint c.args.market.now c.stand_for.new.slots c.stand_for.new.amounts c.args.place all.filled c.requires.place in
+    let worth : FitsSigned w128 (sum_along slot_gain c.stand_for.new.slots c.stand_for.new.amounts) = filled_worth c.args.market.now c.stand_for.new.slots c.stand_for.new.amounts c.requires.market all.filled in
+    let old : FitsSigned w128 (sum_along slot_gain c.args.slots.now c.args.amounts.now) = filled_worth c.args.market.now c.args.slots.now c.args.amounts.now c.requires.market c.requires.filled in
     record {
       filled = all.filled;
       near = all.near;
       into = all.into;
+      worth = ap (λ (x : ℤ). to_z w128 (of_z w128 x)) (change_step c.args.worth.now _ _ _ _ _ _ old c.requires.worth c.gain_with_stand_in-before.ensures c.gain_with_stand_in.ensures all.worth before after) ∙ to_z-of_z worth;
       here = all.here;
       others = all.others;
       zones = all.zones;

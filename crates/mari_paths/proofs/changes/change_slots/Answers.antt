@@ -34,6 +34,7 @@ pub loop-place-init : goal.loop-place-init
 loop-place-init c = record {
   filled = c.requires.filled;
   near = c.requires.near;
+  worth = c.requires.worth;
   into = λ z. refl;
   zones = λ k. refl;
   rest = λ k l. elim (c.requires.rest k l) [
@@ -58,6 +59,7 @@ loop-place-preserved c =
       filled = all.filled;
       near = λ z l. near_wider (700000000 + 200000 * c.loop-place.place-index + 200000) (700000000 + 200000 * (c.loop-place.place-index + 1)) (int_at c.change_slot.new.amounts (length c.args.market.now.orders + z))
           (all.near (700000000 + 200000 * c.loop-place.place-index) c.loop-place.invariant.near z l) (omega arith);
+      worth = all.worth;
       into = λ z. all.into z ∙ c.loop-place.invariant.into z;
       zones = λ k. all.zones k ∙ c.loop-place.invariant.zones k;
       rest = λ k l. elim (cases_eq k p) [

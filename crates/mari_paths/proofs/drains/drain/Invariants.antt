@@ -1,4 +1,4 @@
-use Rattle.std.proofs.Common.{length, ◌<ℤ◌}
+use Rattle.std.proofs.Common.{◌≡◌, length, ◌<ℤ◌}
 use Rattle.mari_market.specs.Sums.{sum_along}
 use Rattle.mari_network.specs.Slots.{slot_gain}
 use Rattle.mari_network.specs.Margins.{AreMargins}
@@ -10,6 +10,7 @@ use Rattle.mari_paths.proofs.drains.drain.Given as goal
 abbrev pub invariant-loop-amounts : goal.invariant-loop-amounts
 invariant-loop-amounts l = record {
   runs : Runs l.network l.amounts l.flows;
+  worth : l.worth ≡ sum_along slot_gain l.network.slots.now l.amounts;
   margins : AreMargins l.network.slots.now l.amounts (length l.network.meeting.now) (length l.network.slots.now) l.margins;
   hops : AreHops (length l.network.meeting.now) l.network.borders.now l.chain.hops.items;
   rises : sum_along slot_gain l.network.slots.now l.fn.amounts <ℤ sum_along slot_gain l.network.slots.now l.amounts;

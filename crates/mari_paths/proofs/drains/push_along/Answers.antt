@@ -1,9 +1,13 @@
-use Rattle.std.proofs.Common.{◌≡◌, ◌≢◌, ◌<◌, ℕ, length, get_or, sym, ap, ◌∙◌, subst, rules, inl, inr}
+use Rattle.std.proofs.Common.{◌≡◌, ◌≢◌, ◌<◌, ◌^◌, ℕ, ℤ, length, get_or, sym, ap, ◌∙◌, subst, rules, inl, inr, to_z, of_z, to_z-of_z, FitsSigned}
+use Rattle.std.specs.Int.{w128}
 use Rattle.std.proofs.lemmas.Bool.{cases_eq}
 use Rattle.mari_network.specs.declared.margins.Margin.{Margin}
-use Rattle.mari_network.specs.Slots.{zone_of}
+use Rattle.mari_market.specs.Sums.{sum_along}
+use Rattle.mari_network.specs.Slots.{no_slot, slot_gain, zone_of}
 use Rattle.mari_network.specs.Margins.{no_margin, IsMarginOf}
 use Rattle.mari_network.proofs.Marginal.{margins_from, margins_at, margin_stays}
+use Rattle.mari_network.proofs.Worths.{worth_fits}
+use Rattle.mari_paths.proofs.Steps.{rise_step}
 use Rattle.mari_paths.proofs.drains.push_along.Goals as goal
 
 pub returns-then-from-to-clause-margins : goal.returns-then-from-to-clause-margins
@@ -46,3 +50,36 @@ returns-else-from-to-clause-margins c =
           (λ k e. c.improve.ensures.moved.others k (λ s. first (sym e ∙ ap (zone_of slots) s)) (λ s. first (sym e ∙ ap (zone_of slots) s ∙ same)))
           (right z l))
     ])
+
+pub overflow_add-worth : goal.overflow_add-worth
+overflow_add-worth c =
+    let few : length c.args.network.now.slots.now < 2 ^ 60 = search rules in
+    let rise : FitsSigned w128 c.improve.result = search rules in
+    let old = worth_fits c.args.network.now.slots.now c.args.amounts.now c.requires.network.small c.requires.runs.amounts few in
+    let new = worth_fits c.args.network.now.slots.now c.improve.new.amounts c.requires.network.small c.improve.ensures.runs.amounts few in
+    subst (λ (x : ℤ). FitsSigned w128 x) (sym (rise_step c.args.worth.now (sum_along slot_gain c.args.network.now.slots.now c.args.amounts.now) c.improve.result (sum_along slot_gain c.args.network.now.slots.now c.improve.new.amounts) old rise c.requires.worth c.improve.ensures.worth)) new
+
+pub renew-requires-then-from-to-clause-cheapest : goal.renew-requires-then-from-to-clause-cheapest
+renew-requires-then-from-to-clause-cheapest c = λ i e.
+    let slots = c.args.network.now.slots.now in
+    let to = zone_of slots c.args.chain.now.sink in
+    let from = zone_of slots c.args.chain.now.source in
+    let apart : from ≢ to = search rules in
+    let there : from < length c.args.network.now.meeting.now = c.requires.network.zones c.args.chain.now.source no_slot c.requires.chain.more.0 in
+    ((c.requires.margins.cheapest from there).one i (ap (λ (m : Margin). m.cheapest) (sym (c.renew.ensures.others from apart)) ∙ e)).0.0
+
+pub returns-then-from-to-clause-worth : goal.returns-then-from-to-clause-worth
+returns-then-from-to-clause-worth c =
+    let few : length c.args.network.now.slots.now < 2 ^ 60 = search rules in
+    let rise : FitsSigned w128 c.improve.result = search rules in
+    let old = worth_fits c.args.network.now.slots.now c.args.amounts.now c.requires.network.small c.requires.runs.amounts few in
+    let new = worth_fits c.args.network.now.slots.now c.improve.new.amounts c.requires.network.small c.improve.ensures.runs.amounts few in
+    ap (λ (x : ℤ). to_z w128 (of_z w128 x)) (rise_step c.args.worth.now (sum_along slot_gain c.args.network.now.slots.now c.args.amounts.now) c.improve.result (sum_along slot_gain c.args.network.now.slots.now c.improve.new.amounts) old rise c.requires.worth c.improve.ensures.worth) ∙ to_z-of_z new
+
+pub returns-else-from-to-clause-worth : goal.returns-else-from-to-clause-worth
+returns-else-from-to-clause-worth c =
+    let few : length c.args.network.now.slots.now < 2 ^ 60 = search rules in
+    let rise : FitsSigned w128 c.improve.result = search rules in
+    let old = worth_fits c.args.network.now.slots.now c.args.amounts.now c.requires.network.small c.requires.runs.amounts few in
+    let new = worth_fits c.args.network.now.slots.now c.improve.new.amounts c.requires.network.small c.improve.ensures.runs.amounts few in
+    ap (λ (x : ℤ). to_z w128 (of_z w128 x)) (rise_step c.args.worth.now (sum_along slot_gain c.args.network.now.slots.now c.args.amounts.now) c.improve.result (sum_along slot_gain c.args.network.now.slots.now c.improve.new.amounts) old rise c.requires.worth c.improve.ensures.worth) ∙ to_z-of_z new

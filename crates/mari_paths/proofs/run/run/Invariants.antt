@@ -1,4 +1,6 @@
-use Rattle.std.proofs.Common.{length}
+use Rattle.std.proofs.Common.{◌≡◌, length}
+use Rattle.mari_market.specs.Sums.{sum_along}
+use Rattle.mari_network.specs.Slots.{slot_gain}
 use Rattle.mari_network.specs.Margins.{AreMargins}
 use Rattle.mari_network.specs.Network.{Runs}
 use Rattle.mari_network.proofs.Worths.{room_left}
@@ -7,6 +9,7 @@ use Rattle.mari_paths.proofs.run.run.Given as goal
 abbrev pub invariant-loop-chain : goal.invariant-loop-chain
 invariant-loop-chain l = record {
   runs : Runs l.network l.amounts l.flows;
+  worth : l.worth ≡ sum_along slot_gain l.network.slots.now l.amounts;
   margins : AreMargins l.network.slots.now l.amounts (length l.network.meeting.now) (length l.network.slots.now) l.margins;
 }
 

@@ -1,4 +1,8 @@
-use Rattle.std.proofs.Common.{◌≡◌, ◌∙◌, length, drop}
+use Rattle.std.proofs.Common.{◌≡◌, ◌∙◌, ℤ, length, drop, sym, subst, to_z-of_z, FitsSigned}
+use Rattle.std.specs.Int.{w128}
+use Rattle.mari_market.specs.Sums.{sum_along}
+use Rattle.mari_network.specs.Slots.{slot_gain}
+use Rattle.mari_paths.proofs.Changed.{filled_worth}
 use Rattle.std.proofs.lemmas.List.{with_items_is}
 use Rattle.mari_market.specs.Prefix.{bounds_at}
 use Rattle.mari_paths.specs.Starts.{AreEven}
@@ -26,6 +30,15 @@ pub solve_network-requires-clause-long : goal.solve_network-requires-clause-long
 solve_network-requires-clause-long c =
     let amounts = with_items_is c.in_ok-amounts.amounts c.set_bounds.new.amounts (c.set_bounds.auto.amounts ∙ c.deref_mut-2.ensures.len) in
     rw amounts (filled_long c.args.market.now c.set_bounds.new.slots c.set_bounds.new.amounts c.set_bounds.ensures.filled)
+
+pub solve_network-requires-clause-worth : goal.solve_network-requires-clause-worth
+solve_network-requires-clause-worth c =
+    let slots : c.network_of-network.result.slots.now ≡ c.set_bounds.new.slots =
+    c.network_of-network.ensures.slots ∙ c.deref.ensures.value ∙ with_items_is c.in_ok-slots.slots c.set_bounds.new.slots (c.set_bounds.auto.slots ∙ c.deref_mut.ensures.len) in
+    let amounts = with_items_is c.in_ok-amounts.amounts c.set_bounds.new.amounts (c.set_bounds.auto.amounts ∙ c.deref_mut-2.ensures.len) in
+    let worth : c.set_bounds.new.worth ≡ sum_along slot_gain c.set_bounds.new.slots c.set_bounds.new.amounts = c.set_bounds.ensures.worth in
+    let fits : FitsSigned w128 c.set_bounds.new.worth = subst (λ (x : ℤ). FitsSigned w128 x) (sym worth) (filled_worth c.args.market.now c.set_bounds.new.slots c.set_bounds.new.amounts c.requires.market c.set_bounds.ensures.filled) in
+    rw (to_z-of_z fits, slots, amounts) worth
 
 pub returns : goal.returns
 returns c =

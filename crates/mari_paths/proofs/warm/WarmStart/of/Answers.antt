@@ -1,11 +1,13 @@
-use Rattle.std.proofs.Common.{◌≡◌, ◌<◌, ℕ, List, length, take, sym, ap, ◌∙◌, subst}
+use Rattle.std.proofs.Common.{◌≡◌, ◌<◌, ℕ, List, length, take, sym, ap, ◌∙◌, subst, rules, to_z-of_z, FitsSigned}
+use Rattle.std.specs.Int.{w128}
 use Rattle.mari_market.specs.Bounds.{Span}
 use Rattle.mari_market.specs.declared.market.Order.{Order}
 use Rattle.mari_market.specs.Prefix.{bounds_at}
 use Rattle.mari_network.specs.declared.slots.Slot.{Slot}
 use Rattle.mari_network.specs.Network.{ArePlaces}
 use Rattle.mari_network.specs.Orders.{slot_of, slots_of}
-use Rattle.mari_network.specs.Slots.{slot_at}
+use Rattle.mari_network.specs.Slots.{slot_at, IsWithinSlot}
+use Rattle.mari_network.proofs.Lists.{zip_long}
 use Rattle.mari_paths.specs.Starts.{order_at}
 use Rattle.mari_paths.proofs.Bounded.{plain_bounds, slot_is}
 use Rattle.mari_paths.proofs.Starts.{filled_in_order}
@@ -16,9 +18,14 @@ places_of-requires-clause-stand_ins c =
     rw (ap (λ (os : List Order). length os) c.as_slice-orders.ensures, c.as_slice-slots.ensures.value)
     (filled_in_order c.args.market.now c.in_ok-begun.begun.slots.items c.in_ok-begun.begun.amounts.items c.in_ok-begun.ensures.filled)
 
+pub worth_of-worth-requires-clause-lengths : goal.worth_of-worth-requires-clause-lengths
+worth_of-worth-requires-clause-lengths c =
+    rw (c.as_slice-slots.ensures.value, c.as_slice-amounts.ensures.value) (sym (zip_long IsWithinSlot c.in_ok-begun.begun.slots.items c.in_ok-begun.begun.amounts.items c.in_ok-begun.ensures.filled.within))
+
 pub returns : goal.returns
 returns c =
     let m = c.args.market.now in
+    let fits : FitsSigned w128 c.worth_of-worth.result = search rules in
     let slots = c.in_ok-begun.begun.slots.items in
     let made : take (length c.args.market.now.orders) c.in_ok-begun.begun.slots.items ≡ slots_of (bounds_at c.args.market.now c.empty_prefix.result) c.args.market.now.orders = c.in_ok-begun.ensures.reals ∙ c.in_ok-reals.ensures.slots in
     let is : (k : ℕ) → k < length c.args.market.now.orders → slot_at c.in_ok-begun.begun.slots.items k ≡ slot_of (bounds_at c.args.market.now c.empty_prefix.result (order_at c.args.market.now k)) (order_at c.args.market.now k) =
@@ -28,9 +35,10 @@ returns c =
       limits = c.in_ok-begun.ensures.limits;
       even = c.in_ok-begun.ensures.even;
       near = c.in_ok-begun.ensures.near;
+      worth = to_z-of_z fits ∙ (rw (c.as_slice-slots.ensures.value, c.as_slice-amounts.ensures.value) at c.worth_of-worth.ensures);
       places = subst (λ (ss : List Slot). ArePlaces m.zones ss m.borders c.in_ok-places.places) c.as_slice-slots.ensures.value c.in_ok-places.ensures.places;
       on_ladders = c.in_ok-places.ensures.on_ladders ∙ ap (λ (os : List Order). length os) c.as_slice-orders.ensures;
-      margins = rw (sym c.as_slice-slots.ensures.value, sym c.as_slice.ensures.value) c.in_ok-plain.ensures;
+      margins = rw (sym c.as_slice-slots.ensures.value, sym c.as_slice-amounts.ensures.value) c.in_ok-plain.ensures;
       zones = λ k l. ap (λ (s : Slot). s.zone) (is k l);
       prices = λ k l. ap (λ (s : Slot). s.price) (is k l);
       gated = c.in_ok-gated.ensures;

@@ -1,7 +1,7 @@
 //! Whether some prices are consistent with an optimum whose activation is feasible.
 //!
 //! The optimum's own potentials mostly are: they are tight, so only an order of a gate that is open could lose at them.
-//! Where one does, the test of prices decides.
+//! Where one does, `contradiction` decides.
 
 ghost use Rattle.std.specs.Prelude.{◌↔◌, ◌<◌, Bool, IfOk, IsTrue, List, MatchOption, length};
 ghost use Rattle.std.specs.List.{All};
@@ -16,28 +16,11 @@ ghost use Rattle.mari_node.specs.Nodes.{IsRelaxedOptimum, IsSolvedAs};
 ghost use Rattle.mari_node.specs.Paid.{IsPaid, IsPaidAt};
 ghost use Rattle.mari_paths.specs.Warm.{AreGated};
 
-use mari_market::{Activation, Market, Order};
+use mari_market::{Market, Order};
 use mari_paths::{Optimum, Solved};
-use mari_prices::{PriceFault, price_test};
+use mari_prices::contradiction;
 use mari_units::{Cents, Items, Memory};
 use std::alloc::Global;
-
-/// The chain that shows that no prices are consistent with a feasible activation, where none are.
-fn contradiction(
-    alloc: Global,
-    market: &Market,
-    activation: &Activation,
-) -> Result<Option<Items<u32>>, Memory>
-    requires valid { IsValid market.now }
-    requires feasible { IsFeasible market.now activation.now }
-    ensures { IfOk result (λ chain. MatchOption chain (IsAdmissible market.now activation.now) (IsContradictoryChain market.now activation.now)) }
-{
-    match price_test(alloc, market, activation) {
-        Ok(_intervals) => Ok(None),
-        Err(PriceFault::Conflict(chain)) => Ok(Some(chain)),
-        Err(PriceFault::Memory) => Err(Memory),
-    }
-}
 
 /// Whether an order that puts in this amount doesn't lose at this price: it isn't paid less for what it gives, and
 /// doesn't pay more for what it takes.

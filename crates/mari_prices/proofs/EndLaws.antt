@@ -1,5 +1,5 @@
 -- What the ends of intervals say of consistent prices.
-use Rattle.std.proofs.Common.{◌≡◌, ◌⊎◌, ℕ, ◌+◌, ◌<◌, ◌≤◌, ℤ, pos, neg_ℤ, ◌≤ℤ◌, List, [], ◌∷◌, Option, Some, None, length, arith, refl, sym, ap, ◌∙◌, subst, inl, inr}
+use Rattle.std.proofs.Common.{◌≡◌, ◌⊎◌, ℕ, ◌+◌, ◌<◌, ◌≤◌, ℤ, pos, neg_ℤ, ◌≤ℤ◌, List, [], ◌∷◌, Option, Some, None, length, zero, suc, arith, refl, sym, ap, ◌∙◌, subst, inl, inr}
 use Rattle.std.specs.List.{All}
 use Rattle.std.proofs.lemmas.Int.{ints}
 use Rattle.std.proofs.lemmas.List.Elements.{All-weaker, All-nil, All-cons, All-from_get_or}
@@ -7,11 +7,11 @@ use Rattle.mari_units.specs.declared.Cents.{Cents}
 use Rattle.mari_market.specs.declared.market.Order.{Order}
 use Rattle.mari_market.specs.declared.market.Market.{Market}
 use Rattle.mari_market.specs.declared.activation.Activation.{Activation}
-use Rattle.mari_market.specs.Conflict.{IsChain, last_of, Contradicts, IsContradiction}
+use Rattle.mari_market.specs.Conflict.{IsChain, last_of, Contradicts, IsContradiction, IsContradictoryChain}
 use Rattle.mari_market.specs.Consistent.{IsUpperBound}
 use Rattle.mari_market.specs.Interval.{AreLeastPrices, AreGreatestPrices}
 use Rattle.mari_market.specs.Market.{IsValid, IsValidOrder}
-use Rattle.mari_market.specs.Optimal.{IsFeasible, IsConsistent}
+use Rattle.mari_market.specs.Optimal.{IsAdmissible, IsFeasible, IsConsistent}
 use Rattle.mari_units.specs.declared.numbers.TheConstants.{CAP}
 use Rattle.mari_market.specs.Price.{IsPrice, price_at}
 use Rattle.mari_prices.specs.declared.bounds.End.{End}
@@ -22,7 +22,9 @@ use Rattle.mari_market.specs.Along.{LeadsTo}
 use Rattle.mari_prices.specs.Ends.{along_of, IsEnd, ArePriced, ArePricesOf, AreTrails, AreUncontradicted, IsContradicted, Follows, IsTrailTo}
 use Rattle.mari_market.specs.Sums.{int_at}
 use Rattle.mari_prices.specs.Spread.{entry_at, IsByItself, IsAfter, IsSpreading}
+use Rattle.mari_market.proofs.Conflicts.{chain_refutes, price_in_cap}
 use Rattle.mari_market.proofs.Agree.{KeepsAll, keeps_consistent, consistent_keeps}
+use Rattle.mari_prices.specs.Tightest.{AreTightest}
 use Rattle.mari_prices.proofs.Extremes.{entry_within, spread_least}
 use Rattle.mari_prices.proofs.Spreads.{lower_spreads, lower_from, upper_spreads, upper_from, bound_price, leads_within}
 use Rattle.mari_market.proofs.Leading.{falling_spreads, falling_from}
@@ -32,23 +34,23 @@ prices_of_orders m v = All-weaker (IsValidOrder m.zones (length m.gates)) (λ (o
 
 -- ---- values are prices
 
-own_price : (end : End) (m : Market) (a : Activation) (bounds : List ℤ) (xs : List (Option SettledZone)) (z : ℕ) → IsValid m → IsEnd end m a bounds xs → z < m.zones → IsPrice (int_at bounds z)
-own_price end m a bounds xs z v e l = bound_price end m.orders a.mw z (int_at bounds z) (prices_of_orders m v) (e.tightest z l).bound
+own_price : (end : End) (m : Market) (a : Activation) (bounds : List ℤ) (z : ℕ) → IsValid m → AreTightest end m.orders a.mw m.zones bounds → z < m.zones → IsPrice (int_at bounds z)
+own_price end m a bounds z v t l = bound_price end m.orders a.mw z (int_at bounds z) (prices_of_orders m v) (t.tightest z l).bound
 
 pub priced : (end : End) (m : Market) (a : Activation) (bounds : List ℤ) (xs : List (Option SettledZone)) → IsValid m → IsEnd end m a bounds xs → ArePriced xs
 priced end m a bounds xs v e = record {
   settled = e.spread.settled;
   priced = λ z s k.
       let there : z < m.zones = omega (arith, entry_within xs z s k, e.one_each) in
-      let own = own_price end m a bounds xs z v e there in
+      let own = own_price end m a bounds z v e.own there in
       record {
         low = omega (arith, ints, own.low, e.spread.spreading.above z s k);
-        high = spread_least (LeadsTo (along_of end) m.borders a.flow) (int_at bounds) (λ _. CAP) xs e.spread.spreading (λ y h. (own_price end m a bounds xs y v e (omega (arith, h, e.one_each))).high) (λ x y h. omega (arith, ints)) z s k;
+        high = spread_least (LeadsTo (along_of end) m.borders a.flow) (int_at bounds) (λ _. CAP) xs e.spread.spreading (λ y h. (own_price end m a bounds y v e.own (omega (arith, h, e.one_each))).high) (λ x y h. omega (arith, ints)) z s k;
       };
 }
 
-pub bounds_priced : (end : End) (m : Market) (a : Activation) (bounds : List ℤ) (xs : List (Option SettledZone)) → IsValid m → IsEnd end m a bounds xs → All IsPrice bounds
-bounds_priced end m a bounds xs v e = All-from_get_or IsPrice bounds (pos 0) (λ i h. own_price end m a bounds xs i v e (omega (arith, h, e.bounds_each)))
+pub bounds_priced : (end : End) (m : Market) (a : Activation) (bounds : List ℤ) → IsValid m → AreTightest end m.orders a.mw m.zones bounds → All IsPrice bounds
+bounds_priced end m a bounds v t = All-from_get_or IsPrice bounds (pos 0) (λ i h. own_price end m a bounds i v t (omega (arith, h, t.one_each)))
 
 -- ---- values are extreme
 
@@ -56,7 +58,7 @@ pub least_value : (m : Market) (a : Activation) (bounds : List ℤ) (xs : List (
     → IsValid m → IsFeasible m a → IsEnd Least m a bounds xs → KeepsAll m a ps → (z : ℕ) (s : SettledZone)
     → entry_at xs z ≡ Some s → s.value ≤ℤ price_at ps z
 least_value m a bounds xs ps v f e k z s h = spread_least (LeadsTo Rising m.borders a.flow) (int_at bounds) (price_at ps) xs e.spread.spreading
-    (λ y l. let there : y < m.zones = omega (arith, l, e.one_each) in k.lower y (int_at bounds y) there (lower_from m a y (int_at bounds y) v f (e.tightest y there).bound))
+    (λ y l. let there : y < m.zones = omega (arith, l, e.one_each) in k.lower y (int_at bounds y) there (lower_from m a y (int_at bounds y) v f (e.own.tightest y there).bound))
     (λ x y l. let w = leads_within Rising m a x y v l in k.rises x y w.0 w.1 l) z s h
 
 pub greatest_value : (m : Market) (a : Activation) (bounds : List ℤ) (xs : List (Option SettledZone)) (ps : List Cents)
@@ -65,7 +67,7 @@ pub greatest_value : (m : Market) (a : Activation) (bounds : List ℤ) (xs : Lis
 greatest_value m a bounds xs ps v f e k z s h = spread_least (LeadsTo Falling m.borders a.flow) (int_at bounds) (λ y. neg_ℤ (price_at ps y)) xs e.spread.spreading
     (λ y l.
     let there : y < m.zones = omega (arith, l, e.one_each) in
-    let at : price_at ps y ≤ℤ neg_ℤ (int_at bounds y) = k.upper y (neg_ℤ (int_at bounds y)) there (upper_from m a y (int_at bounds y) v f (e.tightest y there).bound) in
+    let at : price_at ps y ≤ℤ neg_ℤ (int_at bounds y) = k.upper y (neg_ℤ (int_at bounds y)) there (upper_from m a y (int_at bounds y) v f (e.own.tightest y there).bound) in
     omega (arith, ints))
     (λ x y l.
     let r = falling_from m a y x l in
@@ -75,17 +77,17 @@ greatest_value m a bounds xs ps v f e k z s h = spread_least (LeadsTo Falling m.
 
 -- ---- where nothing contradicts, both ends are consistent
 
-pub least_keeps : (m : Market) (a : Activation) (bounds uppers : List ℤ) (xs ys : List (Option SettledZone)) (ps : List Cents)
-    → IsValid m → IsFeasible m a → IsEnd Least m a bounds xs → IsEnd Greatest m a uppers ys
+pub least_keeps : (m : Market) (a : Activation) (bounds uppers : List ℤ) (xs : List (Option SettledZone)) (ps : List Cents)
+    → IsValid m → IsFeasible m a → IsEnd Least m a bounds xs → AreTightest Greatest m.orders a.mw m.zones uppers
     → AreUncontradicted (length xs) xs uppers → ArePricesOf Least xs ps → KeepsAll m a ps
-least_keeps m a bounds uppers xs ys ps v f e g fit p =
+least_keeps m a bounds uppers xs ps v f e g fit p =
     let entry : (z : ℕ) → z < m.zones → (s : SettledZone) × (entry_at xs z ≡ Some s) = λ z l. e.spread.settled z (omega (arith, l, e.one_each)) in
     record {
       one_each = omega (arith, p.one_each, e.one_each);
       lower = λ z c l b.
           let s = entry z l in
           let at : price_at ps z ≡ s.0.value = p.each z s.0 s.1 in
-          omega (arith, ints, (e.tightest z l).tightest c (lower_spreads m a z c v f b), e.spread.spreading.above z s.0 s.1);
+          omega (arith, ints, (e.own.tightest z l).tightest c (lower_spreads m a z c v f b), e.spread.spreading.above z s.0 s.1);
       upper = λ z c l b.
           let s = entry z l in
           let at : price_at ps z ≡ s.0.value = p.each z s.0 s.1 in
@@ -97,6 +99,32 @@ least_keeps m a bounds uppers xs ys ps v f e g fit p =
           let to : price_at ps z ≡ t.0.value = p.each z t.0 t.1 in
           omega (arith, ints, e.spread.spreading.rises y z s.0 t.0 s.1 t.1 h);
     }
+
+-- the prices that the values of the least end stand for
+abbrev listed : List (Option SettledZone) → List Cents
+listed [] = []
+listed (None ∷ xs) = record { 0 = pos 0 } ∷ listed xs
+listed (Some s ∷ xs) = record { 0 = s.value } ∷ listed xs
+
+listed_each : (xs : List (Option SettledZone)) → length (listed xs) ≡ length xs
+listed_each [] = refl
+listed_each (None ∷ xs) = ap suc (listed_each xs)
+listed_each (Some s ∷ xs) = ap suc (listed_each xs)
+
+listed_at : (xs : List (Option SettledZone)) (z : ℕ) (s : SettledZone) → entry_at xs z ≡ Some s → price_at (listed xs) z ≡ s.value
+listed_at [] z s e = absurd (cc)
+listed_at (None ∷ xs) zero s e = absurd (cc)
+listed_at (Some t ∷ xs) zero s e = let one : t ≡ s = cc in ap (λ (x : SettledZone). x.value) one
+listed_at (None ∷ xs) (suc z) s e = listed_at xs z s e
+listed_at (Some t ∷ xs) (suc z) s e = listed_at xs z s e
+
+-- where nothing contradicts, some prices are consistent
+pub uncontradicted : (m : Market) (a : Activation) (bounds uppers : List ℤ) (xs : List (Option SettledZone))
+    → IsValid m → IsFeasible m a → IsEnd Least m a bounds xs → AreTightest Greatest m.orders a.mw m.zones uppers
+    → AreUncontradicted (length xs) xs uppers → IsAdmissible m a
+uncontradicted m a bounds uppers xs v f e g fit =
+    let keeps = least_keeps m a bounds uppers xs (listed xs) v f e g fit (record { one_each = listed_each xs; each = listed_at xs }) in
+    record { feasible = f; consistent = (listed xs, keeps_consistent m a (listed xs) v f keeps) }
 
 pub greatest_keeps : (m : Market) (a : Activation) (uppers : List ℤ) (ys : List (Option SettledZone)) (ps qs : List Cents)
     → IsValid m → IsFeasible m a → IsEnd Greatest m a uppers ys → KeepsAll m a ps → ArePricesOf Greatest ys qs
@@ -112,7 +140,7 @@ greatest_keeps m a uppers ys ps qs v f g low p =
       upper = λ z c l b.
           let s = entry z l in
           let at : price_at qs z ≡ neg_ℤ s.0.value = p.each z s.0 s.1 in
-          omega (arith, ints, (g.tightest z l).tightest (neg_ℤ c) (upper_spreads m a z c v f b), g.spread.spreading.above z s.0 s.1);
+          omega (arith, ints, (g.own.tightest z l).tightest (neg_ℤ c) (upper_spreads m a z c v f b), g.spread.spreading.above z s.0 s.1);
       rises = λ y z l k h.
           let s = entry y l in
           let t = entry z k in
@@ -151,14 +179,8 @@ are_greatest m a uppers ys ps v f g k p = record {
 
 -- ---- where one contradicts, no prices are consistent, and the chain shows it
 
-pub contradicted_none : (m : Market) (a : Activation) (bounds uppers : List ℤ) (xs ys : List (Option SettledZone)) (z : ℕ) (ps : List Cents)
-    → IsValid m → IsFeasible m a → IsEnd Least m a bounds xs → IsEnd Greatest m a uppers ys
-    → IsContradicted xs uppers z → IsConsistent m a ps → ⊥
-contradicted_none m a bounds uppers xs ys z ps v f e g h c =
-    let k = consistent_keeps m a ps c in
-    let there : z < m.zones = omega (arith, entry_within xs z h.entry h.settled, e.one_each) in
-    let at : price_at ps z ≤ℤ neg_ℤ (int_at uppers z) = k.upper z (neg_ℤ (int_at uppers z)) there (upper_from m a z (int_at uppers z) v f (g.tightest z there).bound) in
-    omega (arith, ints, h.above, least_value m a bounds xs ps v f e k z h.entry h.settled)
+pub none_consistent : (m : Market) (a : Activation) (chain : List ℕ) (ps : List Cents) → IsContradictoryChain m a chain → IsConsistent m a ps → ⊥
+none_consistent m a chain ps bad h = chain_refutes m a ps chain (price_in_cap m ps h.prices) h.orders h.borders bad.chain
 
 pub trails : (lead : ℕ → ℕ → Type 0) (own : ℕ → ℤ) (xs : List (Option SettledZone)) → IsSpreading lead own xs → ((z : ℕ) → z < length xs → (s : SettledZone) × (entry_at xs z ≡ Some s)) → AreTrails xs
 trails lead own xs h all = record {
@@ -207,19 +229,14 @@ carries m a bounds xs z (y ∷ ys) s e f k =
       value = λ t l. more.value t l ∙ after.1 s k;
     }
 
-pub record ShowsContradiction (m : Market) (a : Activation) (chain : List ℕ) : Type 0 where
-  pub contradiction : IsContradiction m a chain
-  pub short : length chain ≤ m.zones
-  pub zones : All (λ (z : ℕ). z < m.zones) chain
-
 first_value : (lead : ℕ → ℕ → Type 0) (own : ℕ → ℤ) (xs : List (Option SettledZone)) (z : ℕ) (s : SettledZone) → s.previous ≡ None → IsByItself own z s ⊎ IsAfter lead xs z s → s.value ≡ own z
 first_value lead own xs z s e (inl f) = f.value
 first_value lead own xs z s e (inr a) = let k = a.previous in absurd (cc)
 
-pub trail_contradicts : (m : Market) (a : Activation) (bounds uppers : List ℤ) (xs ys : List (Option SettledZone)) (last : ℕ) (chain : List ℕ)
-    → IsValid m → IsFeasible m a → IsEnd Least m a bounds xs → IsEnd Greatest m a uppers ys
-    → IsContradicted xs uppers last → IsTrailTo xs last chain → ShowsContradiction m a chain
-trail_contradicts m a bounds uppers xs ys last chain v f e g h t =
+pub trail_contradicts : (m : Market) (a : Activation) (bounds uppers : List ℤ) (xs : List (Option SettledZone)) (last : ℕ) (chain : List ℕ)
+    → IsValid m → IsFeasible m a → IsEnd Least m a bounds xs → AreTightest Greatest m.orders a.mw m.zones uppers
+    → IsContradicted xs uppers last → IsTrailTo xs last chain → IsContradictoryChain m a chain
+trail_contradicts m a bounds uppers xs last chain v f e g h t =
     let all = carries m a bounds xs t.first t.trail.rest t.entry e t.trail.follows t.settled in
     let first_there : t.first < m.zones = omega (arith, entry_within xs t.first t.entry t.settled, e.one_each) in
     let last_there : last < m.zones = omega (arith, entry_within xs last h.entry h.settled, e.one_each) in
@@ -230,12 +247,12 @@ trail_contradicts m a bounds uppers xs ys last chain v f e g h t =
     let contradicts : Contradicts m a t.first (last_of t.first t.trail.rest) = record {
       low = int_at bounds t.first;
       high = neg_ℤ (int_at uppers last);
-      lower = lower_from m a t.first (int_at bounds t.first) v f (e.tightest t.first first_there).bound;
+      lower = lower_from m a t.first (int_at bounds t.first) v f (e.own.tightest t.first first_there).bound;
       upper = upper;
       above = omega (arith, ints, h.above, value, own);
     } in
     record {
-      contradiction = subst (IsContradiction m a) (sym t.trail.items) (all.chain, contradicts);
+      chain = subst (IsContradiction m a) (sym t.trail.items) (all.chain, contradicts);
       short = omega (arith, t.short, e.one_each);
       zones = subst (All (λ (z : ℕ). z < m.zones)) (sym t.trail.items) (All-weaker (λ (z : ℕ). z < length xs) (λ (z : ℕ). z < m.zones) (λ z l. omega (arith, l, e.one_each)) (t.first ∷ t.trail.rest) all.there);
     }

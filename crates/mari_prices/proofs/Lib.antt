@@ -2,6 +2,7 @@ pub mod Steps
 pub mod Lists
 pub mod Tight
 pub mod Spreads
+pub mod Borders
 pub mod Extremes
 pub mod EndLaws
 pub mod Numbers

@@ -23,7 +23,7 @@ entry_cases xs z w e s h k = elim (cases_eq w z) [
 ]
 
 -- a zone that is free then was free before
-free_before : (xs : List (Option SettledZone)) (z u : ℕ) (e : SettledZone) → z < length xs → IsFree (set xs z (Some e)) u → IsFree xs u
+pub free_before : (xs : List (Option SettledZone)) (z u : ℕ) (e : SettledZone) → z < length xs → IsFree (set xs z (Some e)) u → IsFree xs u
 free_before xs z u e h f = elim (cases_eq u z) [
   | inl same ↦
       let new : get_or (set xs z (Some e)) z None ≡ Some e = get_or-set_same xs z (Some e) None h in

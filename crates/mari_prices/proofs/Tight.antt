@@ -6,12 +6,12 @@ use Rattle.std.proofs.lemmas.Bool.{cases_eq}
 use Rattle.mari_market.specs.declared.market.Order.{Order}
 use Rattle.mari_market.specs.Sums.{AnyZip, int_at}
 use Rattle.mari_prices.specs.declared.bounds.End.{End}
-use Rattle.mari_prices.specs.Tightest.{SetsAt, SetsAtEnd, IsBoundBy, IsTightest, IsRaised, signed}
+use Rattle.mari_prices.specs.Tightest.{AreTightest, SetsAt, SetsAtEnd, IsBoundBy, IsTightest, IsRaised, signed}
 use Rattle.mari_market.specs.Consistent.{own_standing}
 use Rattle.mari_market.proofs.Sums.{AnyZip_cases, AnyZip_kept, AnyZip_new}
 
 -- one more order
-pub tightest_more : (end : End) (os : List Order) (qs : List ℕ) (i z : ℕ) (d : Order) (old new : ℤ) → i < length os
+tightest_more : (end : End) (os : List Order) (qs : List ℕ) (i z : ℕ) (d : Order) (old new : ℤ) → i < length os
     → i < length qs → IsTightest end (take i os) (take i qs) z old
     → IsRaised end (get_or os i d) (get_or qs i 0) z old new
     → IsTightest end (take (i + 1) os) (take (i + 1) qs) z new
@@ -48,6 +48,16 @@ raised_at end o q values new h r z = elim (cases_eq z o.zone) [
   | inr other ↦ subst (λ (v : ℤ). IsRaised end o q z (int_at values z) v) (sym (get_or-set_other values o.zone z new (pos 0) other)) (elsewhere end o q z (int_at values z) other)
 ]
 
+-- one more order raises all bounds at an end
+pub raised_more : (end : End) (os : List Order) (qs : List ℕ) (i n : ℕ) (d : Order) (values raised : List ℤ) → i < length os
+    → i < length qs → AreTightest end (take i os) (take i qs) n values → length raised ≡ length values
+    → ((z : ℕ) → IsRaised end (get_or os i d) (get_or qs i 0) z (int_at values z) (int_at raised z))
+    → AreTightest end (take (i + 1) os) (take (i + 1) qs) n raised
+raised_more end os qs i n d values raised h l t same r = record {
+  one_each = omega (arith, t.one_each);
+  tightest = λ z b. tightest_more end os qs i z d (int_at values z) (int_at raised z) h l (t.tightest z b) (r z);
+}
+
 -- the greater of the old bound and the order's
 pub raise_to : (end : End) (o : Order) (q : ℕ) (old own new : ℤ) → own ≡ signed end o.price.0
     → SetsAtEnd end (own_standing o.gate q) o.side o.greatest q → new ≡ int_max old own
@@ -59,6 +69,3 @@ raise_to end o q old own new e sets k = record {
       (λ l. let at : new ≡ own = omega (arith, ints, clamps) in inr (record { zone = refl; price = sym e ∙ sym at; sets = sets }))
       (λ l. inl (omega (arith, ints, clamps)));
 }
-
-pub raised_read : (end : End) (o : Order) (q z : ℕ) (old new old' new' : ℤ) → old ≡ old' → new ≡ new' → IsRaised end o q z old new → IsRaised end o q z old' new'
-raised_read end o q z old new old' new' e k r = subst (λ (v : ℤ). IsRaised end o q z old' v) k (subst (λ (v : ℤ). IsRaised end o q z v new) e r)

@@ -12,7 +12,7 @@ use Rattle.mari_prices.specs.declared.bounds.End.TheVariants.{Least, Greatest}
 use Rattle.mari_prices.specs.declared.spread.SettledZone.{SettledZone}
 use Rattle.mari_market.specs.Sums.{int_at}
 use Rattle.mari_prices.specs.Spread.{entry_at, AllSettled, SpreadsAlong}
-use Rattle.mari_prices.specs.Tightest.{IsTightest, signed}
+use Rattle.mari_prices.specs.Tightest.{AreTightest, signed}
 
 -- how an end's bounds spread
 abbrev pub along_of : End → Along
@@ -21,9 +21,8 @@ along_of Greatest = Falling
 
 -- the tightest bounds at an end, and what they become as they spread
 pub record IsEnd (end : End) (m : Market) (a : Activation) (bounds : List ℤ) (xs : List (Option SettledZone)) : Type 0 where
-  pub bounds_each : length bounds ≡ m.zones
+  pub own : AreTightest end m.orders a.mw m.zones bounds
   pub one_each : length xs ≡ m.zones
-  pub tightest : (z : ℕ) → z < m.zones → IsTightest end m.orders a.mw z (int_at bounds z)
   pub spread : SpreadsAlong (along_of end) m.borders a.flow bounds xs
 
 -- every zone is settled, with a price or one with its sign turned

@@ -1,5 +1,6 @@
 -- Values that spread from zone to zone: each zone gets the greatest value of the zones that lead to it.
-use Rattle.std.specs.Prelude.{◌≡◌, ◌⊎◌, ◌+◌, ℕ, ◌<◌, ◌≤◌, ℤ, ◌≤ℤ◌, List, [], ◌∷◌, Option, Some, None, length, slice_index_or}
+use Rattle.std.specs.Prelude.{◌≡◌, ◌⊎◌, ◌+◌, ℕ, ◌<◌, ◌≤◌, ℤ, ◌≤ℤ◌, List, [], ◌∷◌, Option, Some, None, length, take, slice_index, slice_index_or}
+use Rattle.std.specs.List.{All, AllZip}
 use Rattle.mari_units.specs.declared.limits.TheConstants.{MOST_ZONES}
 use Rattle.mari_market.specs.declared.market.Border.{Border}
 use Rattle.mari_market.specs.declared.along.Along.{Along}
@@ -119,3 +120,16 @@ AreShort xs = (z : ℕ) (s : SettledZone) → entry_at xs z ≡ Some s → s.dep
 -- none of the first zones is free
 abbrev pub NoneFreeBefore : ℕ → List (Option SettledZone) → Type 0
 NoneFreeBefore n xs = (u : ℕ) → u < n → IsFree xs u → ⊥
+
+-- none of the first borders leads from a settled zone to a free one
+abbrev pub NoneOverBefore : Along → List Border → List ℤ → List (Option SettledZone) → ℕ → Type 0
+NoneOverBefore along bs fs xs n = AllZip (NoneOver along xs) (take n bs) (take n fs)
+
+-- the zone is no end of the border
+pub record IsApart (z : ℕ) (b : Border) : Type 0 where
+  pub from : b.from ≡ z → ⊥
+  pub to : b.to ≡ z → ⊥
+
+-- each zone's first border: the zone is no end of the borders before it
+abbrev pub AreFirstBorders : List Border → ℕ → List ℕ → Type 0
+AreFirstBorders bs zones firsts = (z : ℕ) → z < zones → All (IsApart z) (take (slice_index firsts z) bs)

@@ -1,11 +1,11 @@
 -- The tightest bound of each zone's price, at the lower end of its interval or, with signs turned, at the upper end.
-use Rattle.std.specs.Prelude.{◌≡◌, ◌⊎◌, ℕ, ℤ, neg_ℤ, ◌≤ℤ◌, List}
+use Rattle.std.specs.Prelude.{◌≡◌, ◌⊎◌, ℕ, ◌<◌, ℤ, neg_ℤ, ◌≤ℤ◌, List, length}
 use Rattle.mari_market.specs.declared.market.Side.{Side}
 use Rattle.mari_market.specs.declared.market.Order.{Order}
 use Rattle.mari_market.specs.declared.price_rules.Standing.{Standing}
 use Rattle.mari_market.specs.Consistent.{SetsLower, SetsUpper, own_standing}
 use Rattle.mari_units.specs.declared.numbers.TheConstants.{CAP}
-use Rattle.mari_market.specs.Sums.{AnyZip}
+use Rattle.mari_market.specs.Sums.{AnyZip, int_at}
 use Rattle.mari_prices.specs.declared.bounds.End.{End}
 use Rattle.mari_prices.specs.declared.bounds.End.TheVariants.{Least, Greatest}
 
@@ -32,6 +32,11 @@ IsBoundBy end os qs z c = (c ≡ neg_ℤ CAP) ⊎ AnyZip (SetsAt end z c) os qs
 pub record IsTightest (end : End) (os : List Order) (qs : List ℕ) (z : ℕ) (c : ℤ) : Type 0 where
   pub bound : IsBoundBy end os qs z c
   pub tightest : (d : ℤ) → IsBoundBy end os qs z d → d ≤ℤ c
+
+-- each zone's tightest bound at an end
+pub record AreTightest (end : End) (os : List Order) (qs : List ℕ) (zones : ℕ) (bounds : List ℤ) : Type 0 where
+  pub one_each : length bounds ≡ zones
+  pub tightest : (z : ℕ) → z < zones → IsTightest end os qs z (int_at bounds z)
 
 -- the zone's bound before and after one order
 pub record IsRaised (end : End) (o : Order) (q z : ℕ) (old new : ℤ) : Type 0 where

@@ -4,10 +4,10 @@ ghost use Rattle.std.specs.Prelude.{◌≡◌, ◌<◌, ℕ, length, IfOk, IsTru
 ghost use Rattle.std.specs.List.{All};
 ghost use Rattle.mari_market.specs.Price.{IsPrice};
 ghost use Rattle.mari_market.specs.Sums.{int_at};
-ghost use Rattle.mari_prices.specs.Tightest.{IsRaised, IsTightest, SetsAtEnd, signed};
+ghost use Rattle.mari_prices.specs.Tightest.{AreTightest, IsRaised, SetsAtEnd, signed};
 ghost use Rattle.mari_market.specs.Consistent.{own_standing};
 
-use mari_market::Order;
+use mari_market::{Order, Side};
 use mari_units::{CAP, Cents};
 use std::alloc::{AllocError, Global};
 
@@ -33,48 +33,61 @@ impl End {
         }
     }
 
-    /// Whether an order bounds its zone's price at this end.
+    /// Whether an order of a feasible activation, which runs `mw` MW, bounds its zone's price at this end.
+    ///
+    /// One that runs doesn't lose, and one that could run more would not gain. An order of a gate that runs nothing
+    /// bounds nothing, since its gate is closed.
     fn is_set_by(self, order: &Order, mw: u32) -> bool
         ensures { IsTrue result ↔ SetsAtEnd self (own_standing order.now.gate mw) order.now.side order.now.greatest mw }
     {
-        let standing = order.own_standing(mw);
-        match self {
-            End::Least => order.sets_lower(standing, mw),
-            End::Greatest => order.sets_upper(standing, mw),
+        match (self, order.side) {
+            (End::Least, Side::Inject) | (End::Greatest, Side::Withdraw) => mw > 0,
+            (End::Least, Side::Withdraw) | (End::Greatest, Side::Inject) => {
+                mw < order.greatest && (mw > 0 || order.gate.is_none())
+            }
         }
     }
 }
 
-/// The bound of an order's zone, raised to what the order sets.
-fn raised(bound: i64, order: &Order, mw: u32, end: End) -> i64
-    requires { IsPrice order.now.price.0 }
-    ensures { IsRaised end order.now mw order.now.zone bound result }
+/// Raises the bounds at this end to what an order that runs `mw` MW sets.
+fn raise(bounds: &mut [i64], order: &Order, mw: u32, end: End)
+    requires zone { order.now.zone < length bounds.old }
+    requires price { IsPrice order.now.price.0 }
+    ensures { (z : ℕ) → IsRaised end order.now mw z (int_at bounds.old z) (int_at bounds.new z) }
 {
     if end.is_set_by(order, mw) {
-        bound.max(end.signed(order.price))
-    } else {
-        bound
+        let zone = order.zone as usize;
+        bounds[zone] = bounds[zone].max(end.signed(order.price));
     }
 }
 
-/// Each zone's tightest bound at this end.
+/// Each zone's tightest bounds at both ends.
+#[derive(Drop)]
+pub(crate) struct Bounds {
+    /// Those at the least end.
+    pub(crate) least: Vec<i64>,
+    /// Those at the greatest end, with their signs turned.
+    pub(crate) greatest: Vec<i64>,
+}
+
+/// Each zone's tightest bounds at both ends, in one pass over the orders.
 pub(crate) fn tightest(
     alloc: Global,
     zones: u32,
     orders: &[Order],
     mw: &[u32],
-    end: End,
-) -> Result<Vec<i64>, AllocError>
+) -> Result<Bounds, AllocError>
     requires lengths { length mw.now ≡ length orders.now }
     requires zones { All (λ o. o.zone < zones) orders.now }
     requires prices { All (λ o. IsPrice o.price.0) orders.now }
-    ensures one_each { IfOk result (λ v. length v.items ≡ zones) }
-    ensures tightest { IfOk result (λ v. (z : ℕ) → z < zones → IsTightest end orders.now mw.now z (int_at v.items z)) }
+    ensures least { IfOk result (λ b. AreTightest End.Least orders.now mw.now zones b.least.items) }
+    ensures greatest { IfOk result (λ b. AreTightest End.Greatest orders.now mw.now zones b.greatest.items) }
 {
-    let mut bounds = vec![in alloc; -CAP; zones as usize]?;
+    let mut least = vec![in alloc; -CAP; zones as usize]?;
+    let mut greatest = vec![in alloc; -CAP; zones as usize]?;
     for (i, order) in orders.iter().enumerate() {
-        let zone = order.zone as usize;
-        bounds[zone] = raised(bounds[zone], order, mw[i], end);
+        raise(&mut least, order, mw[i], End::Least);
+        raise(&mut greatest, order, mw[i], End::Greatest);
     }
-    Ok(bounds)
+    Ok(Bounds { least, greatest })
 }

@@ -7,23 +7,14 @@ ghost use Rattle.mari_market.specs.Optimal.{IsFeasible};
 ghost use Rattle.mari_market.specs.Price.{IsPrice};
 ghost use Rattle.mari_prices.specs.Ends.{along_of, ArePriced, ArePricesOf, AreTrails, AreUncontradicted, IsContradicted, IsEnd, IsTrailTo};
 ghost use Rattle.mari_prices.specs.Spread.{entry_at};
-ghost use Rattle.mari_prices.specs.Tightest.{signed};
+ghost use Rattle.mari_prices.specs.Tightest.{AreTightest, signed};
 ghost use Rattle.mari_prices.specs.declared.spread.SettledZone.{SettledZone};
 
-use crate::bounds::{End, tightest};
+use crate::bounds::{Bounds, End, tightest};
 use crate::spread::{SettledZone, spread};
 use mari_market::{Activation, Along, Market, Prices};
 use mari_units::{Cents, Items, MOST_ZONES};
 use std::alloc::{AllocError, Global};
-
-/// The bounds of all zones' prices at one end.
-#[derive(Drop)]
-pub(crate) struct EndBounds {
-    /// The tightest bound of each zone by its own orders.
-    pub(crate) bounds: Vec<i64>,
-    /// What each zone gets as they spread, once it is settled.
-    pub(crate) settled: Vec<Option<SettledZone>>,
-}
 
 impl End {
     /// How the bounds of this end spread along borders.
@@ -48,22 +39,36 @@ impl End {
     }
 }
 
-/// The bounds of all zones' prices at one end, and what they become.
-pub(crate) fn ends_of(
+/// Each zone's tightest bounds by its own orders.
+pub(crate) fn bounds_of(
     alloc: Global,
     market: &Market,
     activation: &Activation,
-    end: End,
-) -> Result<EndBounds, AllocError>
+) -> Result<Bounds, AllocError>
     requires valid { IsValid market.now }
     requires feasible { IsFeasible market.now activation.now }
-    ensures { IfOk result (λ e. IsEnd end market.now activation.now e.bounds.items e.settled.items) }
+    ensures least { IfOk result (λ b. AreTightest End.Least market.now.orders activation.now.mw market.now.zones b.least.items) }
+    ensures greatest { IfOk result (λ b. AreTightest End.Greatest market.now.orders activation.now.mw market.now.zones b.greatest.items) }
 {
     let (orders, mw) = (market.orders.as_slice(), activation.mw.as_slice());
-    let bounds = tightest(alloc, market.zones, orders, mw, end)?;
+    tightest(alloc, market.zones, orders, mw)
+}
+
+/// What each zone gets as the bounds at one end spread.
+pub(crate) fn spread_of(
+    alloc: Global,
+    market: &Market,
+    activation: &Activation,
+    bounds: &[i64],
+    end: End,
+) -> Result<Vec<Option<SettledZone>>, AllocError>
+    requires valid { IsValid market.now }
+    requires feasible { IsFeasible market.now activation.now }
+    requires bounds { AreTightest end market.now.orders activation.now.mw market.now.zones bounds.now }
+    ensures { IfOk result (λ v. IsEnd end market.now activation.now bounds.now v.items) }
+{
     let (borders, flow) = (market.borders.as_slice(), activation.flow.as_slice());
-    let settled = spread(alloc, &bounds, borders, flow, end.along())?;
-    Ok(EndBounds { bounds, settled })
+    spread(alloc, bounds, borders, flow, end.along())
 }
 
 /// The prices that the values stand for.

@@ -10,7 +10,8 @@ ghost use Rattle.mari_prices.specs.Answers.{OnConflict};
 ghost use Rattle.mari_units.specs.declared.Cents.{Cents};
 
 use crate::bounds::End;
-use crate::ends::{chain_to, contradicted, ends_of, prices_of_settled};
+use crate::conflicts::chain_by;
+use crate::ends::{bounds_of, prices_of_settled, spread_of};
 use mari_market::{Activation, Market, Prices};
 use mari_units::Items;
 use std::alloc::{AllocError, Global};
@@ -70,14 +71,14 @@ pub fn price_test(
     ensures short { IfErr result (λ e. OnConflict e (λ chain. length chain ≤ market.now.zones)) }
     ensures zones { IfErr result (λ e. OnConflict e (All (λ z. z < market.now.zones))) }
 {
-    let least = ends_of(alloc, market, activation, End::Least)?;
-    let greatest = ends_of(alloc, market, activation, End::Greatest)?;
-    if let Some(zone) = contradicted(&least.settled, &greatest.bounds) {
-        let chain = chain_to(alloc, &least.settled, zone)?;
-        return Err(PriceFault::Conflict(Items::of(chain)));
+    let bounds = bounds_of(alloc, market, activation)?;
+    let least = spread_of(alloc, market, activation, &bounds.least, End::Least)?;
+    if let Some(chain) = chain_by(alloc, market, activation, &bounds, &least)? {
+        return Err(PriceFault::Conflict(chain));
     }
+    let greatest = spread_of(alloc, market, activation, &bounds.greatest, End::Greatest)?;
     Ok(Intervals {
-        least: prices_of_settled(alloc, &least.settled, End::Least)?,
-        greatest: prices_of_settled(alloc, &greatest.settled, End::Greatest)?,
+        least: prices_of_settled(alloc, &least, End::Least)?,
+        greatest: prices_of_settled(alloc, &greatest, End::Greatest)?,
     })
 }

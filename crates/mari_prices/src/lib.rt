@@ -3,12 +3,14 @@
 #![tactic(auto)]
 
 mod bounds;
+mod conflicts;
 mod ends;
 mod intervals;
 mod numbering;
 mod published;
 mod spread;
 
+pub use conflicts::contradiction;
 pub use intervals::{Intervals, PriceFault, price_test};
 pub use numbering::areas;
 pub use published::{Pricing, nearest, published_prices};

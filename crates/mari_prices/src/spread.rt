@@ -6,7 +6,7 @@ ghost use Rattle.std.specs.List.{All};
 ghost use Rattle.mari_market.specs.Along.{LeadsTo};
 ghost use Rattle.mari_market.specs.Market.{IsBetween};
 ghost use Rattle.mari_market.specs.Sums.{int_at};
-ghost use Rattle.mari_prices.specs.Spread.{AreShort, IsGreatestBefore, IsLed, IsLedOver, IsNext, IsNotPassed, IsPassed, NoneFreeBefore, NoneLed, NoneOver, SpreadsAlong};
+ghost use Rattle.mari_prices.specs.Spread.{AreFirstBorders, AreShort, IsGreatestBefore, IsLed, IsLedOver, IsNext, IsNotPassed, IsPassed, NoneFreeBefore, NoneOver, NoneOverBefore, SpreadsAlong};
 
 use mari_market::{Along, Border};
 use mari_units::MOST_ZONES;
@@ -21,6 +21,17 @@ pub(crate) struct SettledZone {
     pub(crate) previous: Option<u32>,
     /// How many zones the chain to it has.
     pub(crate) depth: u32,
+}
+
+/// A zone to settle next.
+#[derive(Clone, Copy, Debug, Drop, PartialEq, Eq)]
+struct NextZone {
+    /// Its number.
+    zone: u32,
+    /// What it gets.
+    entry: SettledZone,
+    /// The border that leads to it, from 0, or the number of borders: none before leads to a free zone.
+    border: usize,
 }
 
 /// What the second zone gets from the first, if that is settled and the second is free.
@@ -71,6 +82,9 @@ fn led_over(
     ensures none { IfNone result (NoneOver along settled.now border.now flow) }
     ensures some { IfSome result (λ p. IsLedOver along settled.now border.now flow p.0 p.1) }
 {
+    if settled[border.from as usize].is_some() == settled[border.to as usize].is_some() {
+        return None;
+    }
     match led(
         along.leads_on(border, flow),
         settled,
@@ -90,22 +104,36 @@ fn led_over(
     }
 }
 
-/// A free zone to which some border leads from a settled one, and what it gets.
+/// A free zone to which some border leads from a settled one, and what it gets. No border before the one given does.
 fn next_led(
     settled: &[Option<SettledZone>],
     borders: &[Border],
     flow: &[i64],
     along: Along,
-) -> Option<(u32, SettledZone)>
+    first: usize,
+) -> Option<NextZone>
+    // The borders, and what is settled so far.
     requires lengths { length flow.now ≡ length borders.now }
     requires ends { All (IsBetween (length settled.now)) borders.now }
     requires short { AreShort settled.now }
-    ensures none { IfNone result (NoneLed (LeadsTo along borders.now flow.now) settled.now) }
-    ensures some { IfSome result (λ p. IsLed (LeadsTo along borders.now flow.now) settled.now p.0 p.1) }
+
+    // The border to begin with.
+    requires first { first ≤ length borders.now }
+    requires before { NoneOverBefore along borders.now flow.now settled.now first }
+
+    // That no border leads to a free zone, or the first that does.
+    ensures none { IfNone result (NoneOverBefore along borders.now flow.now settled.now (length borders.now)) }
+    ensures some { IfSome result (λ n. IsLed (LeadsTo along borders.now flow.now) settled.now n.zone n.entry) }
+    ensures border { IfSome result (λ n. n.border ≤ length borders.now) }
+    ensures before { IfSome result (λ n. NoneOverBefore along borders.now flow.now settled.now n.border) }
 {
-    for (i, border) in borders.iter().enumerate() {
-        if let Some(next) = led_over(settled, border, flow[i], along) {
-            return Some(next);
+    for i in first..borders.len() {
+        if let Some((zone, entry)) = led_over(settled, &borders[i], flow[i], along) {
+            return Some(NextZone {
+                zone,
+                entry,
+                border: i,
+            });
         }
     }
     None
@@ -147,39 +175,62 @@ fn next(
     borders: &[Border],
     flow: &[i64],
     along: Along,
-) -> Option<(u32, SettledZone)>
+    first: usize,
+) -> Option<NextZone>
     // The zones, and the borders between them.
     requires values { length values.now ≡ length settled.now }
     requires lengths { length flow.now ≡ length borders.now }
     requires ends { All (IsBetween (length settled.now)) borders.now }
     requires few { length settled.now ≤ MOST_ZONES }
 
-    // What is settled so far.
+    // What is settled so far, and the border to begin with.
     requires short { AreShort settled.now }
+    requires first { first ≤ length borders.now }
+    requires before { NoneOverBefore along borders.now flow.now settled.now first }
 
     // That all are settled, or which is next.
     ensures none { IfNone result (NoneFreeBefore (length settled.now) settled.now) }
-    ensures some { IfSome result (λ p. IsNext (LeadsTo along borders.now flow.now) (int_at values.now) settled.now p.0 p.1) }
+    ensures some { IfSome result (λ n. IsNext (LeadsTo along borders.now flow.now) (int_at values.now) settled.now n.zone n.entry) }
+    ensures border { IfSome result (λ n. n.border ≤ length borders.now) }
+    ensures before { IfSome result (λ n. NoneOverBefore along borders.now flow.now settled.now n.border) }
 {
-    if let Some(next) = next_led(settled, borders, flow, along) {
+    if let Some(next) = next_led(settled, borders, flow, along, first) {
         return Some(next);
     }
     match greatest_free(settled, values) {
-        Some(zone) => Some((
+        Some(zone) => Some(NextZone {
             zone,
-            SettledZone {
+            entry: SettledZone {
                 value: values[zone as usize],
                 previous: None,
                 depth: 1,
             },
-        )),
+            border: borders.len(),
+        }),
         None => None,
     }
 }
 
+/// Each zone's first border, or the number of borders where it has none.
+fn first_borders(alloc: Global, zones: usize, borders: &[Border]) -> Result<Vec<usize>, AllocError>
+    requires ends { All (IsBetween zones) borders.now }
+    ensures one_each { IfOk result (λ v. length v.items ≡ zones) }
+    ensures firsts { IfOk result (λ v. AreFirstBorders borders.now zones v.items) }
+{
+    let mut firsts = vec![in alloc; borders.len(); zones]?;
+    for (i, border) in borders.iter().enumerate() {
+        let (from, to) = (border.from as usize, border.to as usize);
+        firsts[from] = firsts[from].min(i);
+        firsts[to] = firsts[to].min(i);
+    }
+    Ok(firsts)
+}
+
 /// For each zone the greatest of its own value and of the values of all zones from which borders lead to it.
 ///
-/// Zones are settled one by one, from the greatest value down, in time of zones times borders and zones.
+/// Zones are settled one by one, from the greatest value down, each by the first border that leads to a free one. Once
+/// a zone is settled, only borders from its first one on may newly lead to a free zone, so the search goes on there.
+/// Time is that of zones times borders and zones.
 pub(crate) fn spread(
     alloc: Global,
     values: &[i64],
@@ -193,9 +244,12 @@ pub(crate) fn spread(
     ensures one_each { IfOk result (λ v. length v.items ≡ length values.now) }
     ensures spread { IfOk result (λ v. SpreadsAlong along borders.now flow.now values.now v.items) }
 {
+    let firsts = first_borders(alloc, values.len(), borders)?;
     let mut settled = vec![in alloc; None; values.len()]?;
-    while let Some((zone, entry)) = next(&settled, values, borders, flow, along) {
-        settled[zone as usize] = Some(entry);
+    let mut first = 0;
+    while let Some(next) = next(&settled, values, borders, flow, along, first) {
+        settled[next.zone as usize] = Some(next.entry);
+        first = next.border.min(firsts[next.zone as usize]);
     }
     Ok(settled)
 }

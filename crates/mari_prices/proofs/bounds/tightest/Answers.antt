@@ -1,27 +1,29 @@
-use Rattle.std.proofs.Common.{arith, pos, get_or, to_z, of_z, to_z-of_z, w64, FitsSigned, ◌≡◌, ◌<◌, ◌∙◌, rules, None, length-set, sym, length}
-use Rattle.std.proofs.lemmas.List.{get_or_default}
-use Rattle.std.proofs.lemmas.List.Elements.{All-get_or}
+use Rattle.std.proofs.Common.{◌≡◌, ◌+◌, ℕ, ℤ, pos, List, length, take, get_or, None, arith, subst, sym}
 use Rattle.mari_market.specs.declared.market.Side.TheVariants.{Inject}
 use Rattle.mari_market.specs.declared.market.Order.{Order}
 use Rattle.mari_market.specs.Sums.{int_at}
-use Rattle.mari_prices.specs.Tightest.{IsRaised}
-use Rattle.mari_prices.proofs.Tight.{tightest_more, raised_at, raised_read}
+use Rattle.mari_prices.specs.declared.bounds.End.TheVariants.{Least, Greatest}
+use Rattle.mari_prices.specs.Tightest.{AreTightest, IsRaised}
+use Rattle.mari_prices.proofs.Lists.{written}
+use Rattle.mari_prices.proofs.Tight.{raised_more}
 use Rattle.mari_prices.proofs.bounds.tightest.Goals as goal
 
 pub loop-i-preserved : goal.loop-i-preserved
 loop-i-preserved c =
+    let os = c.args.orders.now in
+    let qs = c.args.mw.now in
+    let i = c.loop-i.i in
+    let n = c.args.zones in
     let none : Order = record { zone = 0; side = Inject; price = record { 0 = pos 0 }; least = 0; greatest = 0; gate = None } in
-    let o : Order = get_or c.args.orders.now c.loop-i.i none in
-    let zone : o.zone < c.args.zones = All-get_or (λ (x : Order). x.zone < c.args.zones) c.args.orders.now c.loop-i.i none c.loop-i-test.true c.requires.zones in
-    let fits : FitsSigned w64 c.raised.result = search rules in
-    let read : to_z w64 (of_z w64 c.raised.result) ≡ c.raised.result = to_z-of_z fits in
-    let there : o.zone < length c.loop-i.bounds.items = omega (arith, c.loop-i.invariant.long) in
-    let old : c.index.result.now ≡ int_at c.loop-i.bounds.items o.zone = c.index.ensures ∙ get_or_default c.loop-i.bounds.items o.zone c.index.result.now (pos 0) there in
-    let old_fits : FitsSigned w64 c.index.result.now = search rules in
-    let r : IsRaised c.args.end o (get_or c.args.mw.now c.loop-i.i 0) o.zone (int_at c.loop-i.bounds.items o.zone) (to_z w64 (of_z w64 c.raised.result)) =
-    raised_read c.args.end o (get_or c.args.mw.now c.loop-i.i 0) o.zone _ _ _ _ (to_z-of_z old_fits ∙ old) (sym read) c.raised.ensures in
+    let lows = c.raise.new.bounds in
+    let highs = c.raise-in-loop-i.new.bounds in
+    let low_each : length lows ≡ length c.loop-i.least.items = omega (arith, c.raise.auto.bounds, c.deref_mut.ensures.len) in
+    let high_each : length highs ≡ length c.loop-i.greatest.items = omega (arith, c.raise-in-loop-i.auto.bounds, c.deref_mut-in-loop-i.ensures.len) in
+    let low = subst (λ (vs : List ℤ). (z : ℕ) → IsRaised Least (get_or os i none) (get_or qs i 0) z (int_at vs z) (int_at lows z)) c.deref_mut.ensures.value c.raise.ensures in
+    let high = subst (λ (vs : List ℤ). (z : ℕ) → IsRaised Greatest (get_or os i none) (get_or qs i 0) z (int_at vs z) (int_at highs z)) c.deref_mut-in-loop-i.ensures.value c.raise-in-loop-i.ensures in
     record {
-      long = omega (arith, length-set c.loop-i.bounds.items o.zone (to_z w64 (of_z w64 c.raised.result)), c.loop-i.invariant.long);
-      tightest = λ z h. tightest_more c.args.end c.args.orders.now c.args.mw.now c.loop-i.i z none (int_at c.loop-i.bounds.items z) _ c.loop-i-test.true (omega arith) (c.loop-i.invariant.tightest z h)
-          (raised_at c.args.end o (get_or c.args.mw.now c.loop-i.i 0) c.loop-i.bounds.items (to_z w64 (of_z w64 c.raised.result)) there r z);
+      least = subst (AreTightest Least (take (i + 1) os) (take (i + 1) qs) n) (sym (written c.loop-i.least.len lows c.loop-i.least.items (omega (arith, c.raise.auto.bounds, c.deref_mut.ensures.len))))
+          (raised_more Least os qs i n none c.loop-i.least.items lows c.loop-i-test.true (omega arith) c.loop-i.invariant.least low_each low);
+      greatest = subst (AreTightest Greatest (take (i + 1) os) (take (i + 1) qs) n) (sym (written c.loop-i.greatest.len highs c.loop-i.greatest.items (omega (arith, c.raise-in-loop-i.auto.bounds, c.deref_mut-in-loop-i.ensures.len))))
+          (raised_more Greatest os qs i n none c.loop-i.greatest.items highs c.loop-i-test.true (omega arith) c.loop-i.invariant.greatest high_each high);
     }

@@ -1,92 +1,79 @@
-use Rattle.std.proofs.Common.{◌≡◌, ℕ, ◌<◌, ℤ, List, Option, length, subst, sym}
-use Rattle.std.specs.List.{All}
-use Rattle.mari_market.specs.Conflict.{IsContradiction}
-use Rattle.mari_market.specs.Price.{IsPrice}
+use Rattle.std.proofs.Common.{◌≡◌, ℕ, ℤ, List, Option, Some, None, MatchOption, length, subst, sym}
+use Rattle.std.specs.Option.{IfNone}
+use Rattle.mari_market.specs.declared.market.Market.{Market}
+use Rattle.mari_market.specs.declared.activation.Activation.{Activation}
+use Rattle.mari_market.specs.Conflict.{IsContradictoryChain}
+use Rattle.mari_market.specs.Optimal.{IsAdmissible}
+use Rattle.mari_prices.specs.declared.bounds.End.{End}
 use Rattle.mari_prices.specs.declared.bounds.End.TheVariants.{Least, Greatest}
-use Rattle.mari_market.specs.declared.along.Along.TheVariants.{Rising}
 use Rattle.mari_prices.specs.declared.spread.SettledZone.{SettledZone}
-use Rattle.mari_market.specs.Along.{LeadsTo}
-use Rattle.mari_prices.specs.Ends.{IsEnd, ArePriced, ArePricesOf, AreTrails, AreUncontradicted, IsContradicted, IsTrailTo}
-use Rattle.mari_market.specs.Sums.{int_at}
-use Rattle.mari_market.proofs.Agree.{keeps_consistent}
-use Rattle.mari_prices.proofs.EndLaws.{priced, bounds_priced, least_keeps, greatest_keeps, are_least, are_greatest, contradicted_none, trails, trail_contradicts}
+use Rattle.mari_prices.specs.Ends.{IsEnd, ArePriced, ArePricesOf, AreUncontradicted}
+use Rattle.mari_prices.proofs.EndLaws.{priced, least_keeps, greatest_keeps, are_least, are_greatest, none_consistent}
 use Rattle.mari_prices.proofs.intervals.price_test.Goals as goal
 
-at_lists : (xs xs' : List (Option SettledZone)) (us us' : List ℤ) (z : ℕ) → xs' ≡ xs → us' ≡ us → IsContradicted xs' us' z → IsContradicted xs us z
-at_lists xs xs' us us' z e f h = subst (λ (vs : List ℤ). IsContradicted xs vs z) f (subst (λ (ys : List (Option SettledZone)). IsContradicted ys us' z) e h)
+-- what holds of the slices that the calls read holds of the lists
+end_read : (end : End) (m : Market) (a : Activation) (bounds bounds' : List ℤ) (xs : List (Option SettledZone)) → bounds' ≡ bounds → IsEnd end m a bounds' xs → IsEnd end m a bounds xs
+end_read end m a bounds bounds' xs e = subst (λ (us : List ℤ). IsEnd end m a us xs) e
 
-fits_lists : (xs xs' : List (Option SettledZone)) (us us' : List ℤ) → xs' ≡ xs → us' ≡ us → AreUncontradicted (length xs') xs' us' → AreUncontradicted (length xs) xs us
-fits_lists xs xs' us us' e f h = subst (λ (vs : List ℤ). AreUncontradicted (length xs) xs vs) f (subst (λ (ys : List (Option SettledZone)). AreUncontradicted (length ys) ys us') e h)
+fits_read : (xs xs' : List (Option SettledZone)) (uppers : List ℤ) → xs' ≡ xs → AreUncontradicted (length xs') xs' uppers → AreUncontradicted (length xs) xs uppers
+fits_read xs xs' uppers e = subst (λ (ys : List (Option SettledZone)). AreUncontradicted (length ys) ys uppers) e
 
-pub contradicted-requires-clause-priced : goal.contradicted-requires-clause-priced
-contradicted-requires-clause-priced c =
-    subst ArePriced (sym c.deref.ensures.value)
-    (priced Least c.args.market.now c.args.activation.now c.in_ok-least.least.bounds.items c.in_ok-least.least.settled.items c.requires.valid c.in_ok-least.ensures)
+contradictory : (m : Market) (a : Activation) (chain : Option (List ℕ)) (zs : List ℕ) → chain ≡ Some zs → MatchOption chain (IsAdmissible m a) (IsContradictoryChain m a) → IsContradictoryChain m a zs
+contradictory m a chain zs e h = rw e at h
 
-pub contradicted-requires-clause-uppers : goal.contradicted-requires-clause-uppers
-contradicted-requires-clause-uppers c =
-    subst (All IsPrice) (sym c.deref-2.ensures.value)
-    (bounds_priced Greatest c.args.market.now c.args.activation.now c.in_ok-greatest.greatest.bounds.items c.in_ok-greatest.greatest.settled.items c.requires.valid c.in_ok-greatest.ensures)
+none_above : (xs : List (Option SettledZone)) (uppers : List ℤ) (chain : Option (List ℕ)) → chain ≡ None → IfNone chain (AreUncontradicted (length xs) xs uppers) → AreUncontradicted (length xs) xs uppers
+none_above xs uppers chain e h = rw e at h
 
-pub chain_to-requires-clause-trails : goal.chain_to-requires-clause-trails
-chain_to-requires-clause-trails c =
-    let e : IsEnd Least c.args.market.now c.args.activation.now c.in_ok-least.least.bounds.items c.in_ok-least.least.settled.items = c.in_ok-least.ensures in
-    subst AreTrails (sym c.deref-in-Some.ensures.value)
-    (trails (LeadsTo Rising c.args.market.now.borders c.args.activation.now.flow) (int_at c.in_ok-least.least.bounds.items) c.in_ok-least.least.settled.items e.spread.spreading e.spread.settled)
+pub chain_by-requires-clause-least : goal.chain_by-requires-clause-least
+chain_by-requires-clause-least c =
+    let m = c.args.market.now in
+    let a = c.args.activation.now in
+    let e = end_read Least m a c.in_ok-bounds.bounds.least.items c.deref.result.now c.in_ok-least.least.items c.deref.ensures.value c.in_ok-least.ensures in
+    subst (IsEnd Least m a c.in_ok-bounds.bounds.least.items) (sym c.deref-2.ensures.value) e
 
 pub returns-in-Some-clause-none : goal.returns-in-Some-clause-none
 returns-in-Some-clause-none c = λ ps h.
-    contradicted_none c.args.market.now c.args.activation.now c.in_ok-least.least.bounds.items c.in_ok-greatest.greatest.bounds.items
-    c.in_ok-least.least.settled.items c.in_ok-greatest.greatest.settled.items c.in-Some.zone ps c.requires.valid c.requires.feasible
-    c.in_ok-least.ensures c.in_ok-greatest.ensures
-    (at_lists c.in_ok-least.least.settled.items c.deref.result.now c.in_ok-greatest.greatest.bounds.items c.deref-2.result.now c.in-Some.zone c.deref.ensures.value c.deref-2.ensures.value c.in-Some.ensures)
-    h
-
-pub returns-in-Some-clause-chain : goal.returns-in-Some-clause-chain
-returns-in-Some-clause-chain c =
-    let trail = subst (λ (xs : List (Option SettledZone)). IsTrailTo xs c.in-Some.zone c.in_ok-chain.chain.items) c.deref-in-Some.ensures.value c.in_ok-chain.ensures in
-    let shows = trail_contradicts c.args.market.now c.args.activation.now c.in_ok-least.least.bounds.items c.in_ok-greatest.greatest.bounds.items c.in_ok-least.least.settled.items c.in_ok-greatest.greatest.settled.items c.in-Some.zone c.in_ok-chain.chain.items c.requires.valid c.requires.feasible c.in_ok-least.ensures c.in_ok-greatest.ensures
-    (at_lists c.in_ok-least.least.settled.items c.deref.result.now c.in_ok-greatest.greatest.bounds.items c.deref-2.result.now c.in-Some.zone c.deref.ensures.value c.deref-2.ensures.value c.in-Some.ensures) trail in
-    subst (IsContradiction c.args.market.now c.args.activation.now) (sym c.of.ensures) shows.contradiction
-
-pub returns-in-Some-clause-zones : goal.returns-in-Some-clause-zones
-returns-in-Some-clause-zones c =
-    let trail = subst (λ (xs : List (Option SettledZone)). IsTrailTo xs c.in-Some.zone c.in_ok-chain.chain.items) c.deref-in-Some.ensures.value c.in_ok-chain.ensures in
-    let shows = trail_contradicts c.args.market.now c.args.activation.now c.in_ok-least.least.bounds.items c.in_ok-greatest.greatest.bounds.items c.in_ok-least.least.settled.items c.in_ok-greatest.greatest.settled.items c.in-Some.zone c.in_ok-chain.chain.items c.requires.valid c.requires.feasible c.in_ok-least.ensures c.in_ok-greatest.ensures
-    (at_lists c.in_ok-least.least.settled.items c.deref.result.now c.in_ok-greatest.greatest.bounds.items c.deref-2.result.now c.in-Some.zone c.deref.ensures.value c.deref-2.ensures.value c.in-Some.ensures) trail in
-    subst (All (λ (z : ℕ). z < c.args.market.now.zones)) (sym c.of.ensures) shows.zones
+    let m = c.args.market.now in
+    let a = c.args.activation.now in
+    none_consistent m a c.in-Some.chain ps (contradictory m a c.in_ok-chain.field-0 c.in-Some.chain c.in-Some.is c.in_ok-chain.ensures.chain) h
 
 pub prices_of_settled-requires : goal.prices_of_settled-requires
 prices_of_settled-requires c =
-    subst ArePriced (sym c.deref-3.ensures.value)
-    (priced Least c.args.market.now c.args.activation.now c.in_ok-least.least.bounds.items c.in_ok-least.least.settled.items c.requires.valid c.in_ok-least.ensures)
+    subst ArePriced (sym c.deref-4.ensures.value)
+    (priced Least c.args.market.now c.args.activation.now c.deref.result.now c.in_ok-least.least.items c.requires.valid c.in_ok-least.ensures)
 
 pub prices_of_settled-requires-2 : goal.prices_of_settled-requires-2
 prices_of_settled-requires-2 c =
-    subst ArePriced (sym c.deref-4.ensures.value)
-    (priced Greatest c.args.market.now c.args.activation.now c.in_ok-greatest.greatest.bounds.items c.in_ok-greatest.greatest.settled.items c.requires.valid c.in_ok-greatest.ensures)
-
-pub returns-clause-some : goal.returns-clause-some
-returns-clause-some c =
-    let fit = fits_lists c.in_ok-least.least.settled.items c.deref.result.now c.in_ok-greatest.greatest.bounds.items c.deref-2.result.now c.deref.ensures.value c.deref-2.ensures.value c.in_default.ensures in
-    let p = subst (λ (xs : List (Option SettledZone)). ArePricesOf Least xs c.in_ok-prices_of_settled.field-0.cents) c.deref-3.ensures.value c.in_ok-prices_of_settled.ensures in
-    let k = least_keeps c.args.market.now c.args.activation.now c.in_ok-least.least.bounds.items c.in_ok-greatest.greatest.bounds.items c.in_ok-least.least.settled.items c.in_ok-greatest.greatest.settled.items c.in_ok-prices_of_settled.field-0.cents c.requires.valid c.requires.feasible c.in_ok-least.ensures c.in_ok-greatest.ensures fit p in
-    (c.in_ok-prices_of_settled.field-0.cents, keeps_consistent c.args.market.now c.args.activation.now c.in_ok-prices_of_settled.field-0.cents c.requires.valid c.requires.feasible k)
+    subst ArePriced (sym c.deref-5.ensures.value)
+    (priced Greatest c.args.market.now c.args.activation.now c.deref-3.result.now c.in_ok-greatest.greatest.items c.requires.valid c.in_ok-greatest.ensures)
 
 pub returns-clause-least : goal.returns-clause-least
 returns-clause-least c =
-    let fit = fits_lists c.in_ok-least.least.settled.items c.deref.result.now c.in_ok-greatest.greatest.bounds.items c.deref-2.result.now c.deref.ensures.value c.deref-2.ensures.value c.in_default.ensures in
-    let p = subst (λ (xs : List (Option SettledZone)). ArePricesOf Least xs c.in_ok-prices_of_settled.field-0.cents) c.deref-3.ensures.value c.in_ok-prices_of_settled.ensures in
-    let k = least_keeps c.args.market.now c.args.activation.now c.in_ok-least.least.bounds.items c.in_ok-greatest.greatest.bounds.items c.in_ok-least.least.settled.items c.in_ok-greatest.greatest.settled.items c.in_ok-prices_of_settled.field-0.cents c.requires.valid c.requires.feasible c.in_ok-least.ensures c.in_ok-greatest.ensures fit p in
-    are_least c.args.market.now c.args.activation.now c.in_ok-least.least.bounds.items c.in_ok-least.least.settled.items
-    c.in_ok-prices_of_settled.field-0.cents c.requires.valid c.requires.feasible c.in_ok-least.ensures k p
+    let m = c.args.market.now in
+    let a = c.args.activation.now in
+    let xs = c.in_ok-least.least.items in
+    let lows = c.in_ok-bounds.bounds.least.items in
+    let highs = c.in_ok-bounds.bounds.greatest.items in
+    let ps = c.in_ok-prices_of_settled.field-0.cents in
+    let e = end_read Least m a lows c.deref.result.now xs c.deref.ensures.value c.in_ok-least.ensures in
+    let fit = fits_read xs c.deref-2.result.now highs c.deref-2.ensures.value (none_above c.deref-2.result.now highs c.in_ok-chain.field-0 c.in_default.is c.in_ok-chain.ensures.none) in
+    let p = subst (λ (ys : List (Option SettledZone)). ArePricesOf Least ys ps) c.deref-4.ensures.value c.in_ok-prices_of_settled.ensures in
+    are_least m a lows xs ps c.requires.valid c.requires.feasible e (least_keeps m a lows highs xs ps c.requires.valid c.requires.feasible e c.in_ok-bounds.ensures.greatest fit p) p
 
 pub returns-clause-greatest : goal.returns-clause-greatest
 returns-clause-greatest c =
-    let fit = fits_lists c.in_ok-least.least.settled.items c.deref.result.now c.in_ok-greatest.greatest.bounds.items c.deref-2.result.now c.deref.ensures.value c.deref-2.ensures.value c.in_default.ensures in
-    let p = subst (λ (xs : List (Option SettledZone)). ArePricesOf Least xs c.in_ok-prices_of_settled.field-0.cents) c.deref-3.ensures.value c.in_ok-prices_of_settled.ensures in
-    let k = least_keeps c.args.market.now c.args.activation.now c.in_ok-least.least.bounds.items c.in_ok-greatest.greatest.bounds.items c.in_ok-least.least.settled.items c.in_ok-greatest.greatest.settled.items c.in_ok-prices_of_settled.field-0.cents c.requires.valid c.requires.feasible c.in_ok-least.ensures c.in_ok-greatest.ensures fit p in
-    let q = subst (λ (xs : List (Option SettledZone)). ArePricesOf Greatest xs c.in_ok-prices_of_settled-2.field-0.cents) c.deref-4.ensures.value c.in_ok-prices_of_settled-2.ensures in
-    let l = greatest_keeps c.args.market.now c.args.activation.now c.in_ok-greatest.greatest.bounds.items c.in_ok-greatest.greatest.settled.items c.in_ok-prices_of_settled.field-0.cents c.in_ok-prices_of_settled-2.field-0.cents c.requires.valid c.requires.feasible c.in_ok-greatest.ensures k q in
-    are_greatest c.args.market.now c.args.activation.now c.in_ok-greatest.greatest.bounds.items c.in_ok-greatest.greatest.settled.items
-    c.in_ok-prices_of_settled-2.field-0.cents c.requires.valid c.requires.feasible c.in_ok-greatest.ensures l q
+    let m = c.args.market.now in
+    let a = c.args.activation.now in
+    let xs = c.in_ok-least.least.items in
+    let ys = c.in_ok-greatest.greatest.items in
+    let lows = c.in_ok-bounds.bounds.least.items in
+    let highs = c.in_ok-bounds.bounds.greatest.items in
+    let ps = c.in_ok-prices_of_settled.field-0.cents in
+    let qs = c.in_ok-prices_of_settled-2.field-0.cents in
+    let e = end_read Least m a lows c.deref.result.now xs c.deref.ensures.value c.in_ok-least.ensures in
+    let g = end_read Greatest m a highs c.deref-3.result.now ys c.deref-3.ensures.value c.in_ok-greatest.ensures in
+    let fit = fits_read xs c.deref-2.result.now highs c.deref-2.ensures.value (none_above c.deref-2.result.now highs c.in_ok-chain.field-0 c.in_default.is c.in_ok-chain.ensures.none) in
+    let p = subst (λ (zs : List (Option SettledZone)). ArePricesOf Least zs ps) c.deref-4.ensures.value c.in_ok-prices_of_settled.ensures in
+    let q = subst (λ (zs : List (Option SettledZone)). ArePricesOf Greatest zs qs) c.deref-5.ensures.value c.in_ok-prices_of_settled-2.ensures in
+    let low = least_keeps m a lows highs xs ps c.requires.valid c.requires.feasible e c.in_ok-bounds.ensures.greatest fit p in
+    are_greatest m a highs ys qs c.requires.valid c.requires.feasible g (greatest_keeps m a highs ys ps qs c.requires.valid c.requires.feasible g low q) q

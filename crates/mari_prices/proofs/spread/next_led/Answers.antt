@@ -1,10 +1,9 @@
 use Rattle.std.proofs.Common.{arith, ℤ, pos, get_or, to_z-of_z, to_z, of_z, FitsSigned, w64, rules, ◌≡◌, subst}
 use Rattle.mari_market.specs.declared.market.Border.{Border}
-use Rattle.mari_market.proofs.Sums.{AnyZip-meets, AnyZip-at}
+use Rattle.mari_market.proofs.Sums.{AnyZip-at}
 use Rattle.mari_market.specs.Along.{LeadsOver}
 use Rattle.mari_prices.specs.Spread.{NoneOver, IsLedOver}
 use Rattle.mari_market.proofs.Lists.{AllZip_more}
-use Rattle.mari_prices.proofs.Lists.{AllZip_all}
 use Rattle.mari_prices.proofs.spread.next_led.Goals as goal
 
 pub loop-i-preserved : goal.loop-i-preserved
@@ -20,7 +19,7 @@ returns-in-Some-clause-some c =
     let none : Border = record { from = 0; to = 0; limit = 0; back = 0 } in
     let fits : FitsSigned w64 (get_or c.args.flow.now c.loop-i.i (pos 0)) = search rules in
     let read : to_z w64 (of_z w64 (get_or c.args.flow.now c.loop-i.i (pos 0))) ≡ get_or c.args.flow.now c.loop-i.i (pos 0) = to_z-of_z fits in
-    let over : IsLedOver c.args.along c.args.settled.now (get_or c.args.borders.now c.loop-i.i none) (to_z w64 (of_z w64 (get_or c.args.flow.now c.loop-i.i (pos 0)))) c.in-Some.next.0 c.in-Some.next.1 = c.in-Some.ensures.some in
+    let over : IsLedOver c.args.along c.args.settled.now (get_or c.args.borders.now c.loop-i.i none) (to_z w64 (of_z w64 (get_or c.args.flow.now c.loop-i.i (pos 0)))) c.in-Some.zone c.in-Some.entry = c.in-Some.ensures.some in
     let p = over.passed in
     record {
       free = p.free;
@@ -28,15 +27,10 @@ returns-in-Some-clause-some c =
         before = over.before;
         entry = p.entry;
         settled = p.settled;
-        leads = AnyZip-at (LeadsOver c.args.along over.before c.in-Some.next.0) c.args.borders.now c.args.flow.now c.loop-i.i none (pos 0) c.loop-i-test.true (omega arith)
-            (subst (λ (f : ℤ). LeadsOver c.args.along over.before c.in-Some.next.0 (get_or c.args.borders.now c.loop-i.i none) f) read over.leads);
+        leads = AnyZip-at (LeadsOver c.args.along over.before c.in-Some.zone) c.args.borders.now c.args.flow.now c.loop-i.i none (pos 0) c.loop-i-test.true (omega arith)
+            (subst (λ (f : ℤ). LeadsOver c.args.along over.before c.in-Some.zone (get_or c.args.borders.now c.loop-i.i none) f) read over.leads);
         previous = p.previous;
         value = p.value;
         depth = p.depth;
       };
     }
-
-pub returns-clause-none : goal.returns-clause-none
-returns-clause-none c = λ y z s k free r.
-    AnyZip-meets (NoneOver c.args.along c.args.settled.now) (LeadsOver c.args.along y z) ⊥ (λ b f h l. h y z l s k free) c.args.borders.now c.args.flow.now
-    (AllZip_all (NoneOver c.args.along c.args.settled.now) c.args.borders.now c.args.flow.now c.loop-i.i c.loop-i-test.false (omega arith) c.loop-i.invariant) r

@@ -1,0 +1,58 @@
+//! Whether some prices are consistent with an activation, and the chain of zones that shows where none are.
+
+ghost use Rattle.std.specs.Prelude.{IfOk, MatchOption, length};
+ghost use Rattle.std.specs.Option.{IfNone};
+ghost use Rattle.mari_market.specs.Conflict.{IsContradictoryChain};
+ghost use Rattle.mari_market.specs.Market.{IsValid};
+ghost use Rattle.mari_market.specs.Optimal.{IsAdmissible, IsFeasible};
+ghost use Rattle.mari_prices.specs.Ends.{AreUncontradicted, IsEnd};
+ghost use Rattle.mari_prices.specs.Tightest.{AreTightest};
+
+use crate::bounds::{Bounds, End};
+use crate::ends::{bounds_of, chain_to, contradicted, spread_of};
+use crate::spread::SettledZone;
+use mari_market::{Activation, Market};
+use mari_units::Items;
+use std::alloc::{AllocError, Global};
+
+/// The chain to a zone whose least price is above its own upper bound, where there is one.
+pub(crate) fn chain_by(
+    alloc: Global,
+    market: &Market,
+    activation: &Activation,
+    bounds: &Bounds,
+    least: &[Option<SettledZone>],
+) -> Result<Option<Items<u32>>, AllocError>
+    // The bounds at both ends, and what those at the least end become.
+    requires valid { IsValid market.now }
+    requires feasible { IsFeasible market.now activation.now }
+    requires least { IsEnd End.Least market.now activation.now bounds.now.least.items least.now }
+    requires greatest { AreTightest End.Greatest market.now.orders activation.now.mw market.now.zones bounds.now.greatest.items }
+
+    // A chain that shows that no prices are consistent; or some are, and no least price is above the upper bound.
+    ensures chain { IfOk result (λ chain. MatchOption chain (IsAdmissible market.now activation.now) (IsContradictoryChain market.now activation.now)) }
+    ensures none { IfOk result (λ chain. IfNone chain (AreUncontradicted (length least.now) least.now bounds.now.greatest.items)) }
+{
+    match contradicted(least, &bounds.greatest) {
+        Some(zone) => Ok(Some(Items::of(chain_to(alloc, least, zone)?))),
+        None => Ok(None),
+    }
+}
+
+/// The chain of zones that shows that no prices are consistent with a feasible activation, where none are.
+///
+/// It is the conflict of `price_test`, without the intervals: only the bounds at the least end spread. Time is that of
+/// the orders, and of zones times borders.
+pub fn contradiction(
+    alloc: Global,
+    market: &Market,
+    activation: &Activation,
+) -> Result<Option<Items<u32>>, AllocError>
+    requires valid { IsValid market.now }
+    requires feasible { IsFeasible market.now activation.now }
+    ensures { IfOk result (λ chain. MatchOption chain (IsAdmissible market.now activation.now) (IsContradictoryChain market.now activation.now)) }
+{
+    let bounds = bounds_of(alloc, market, activation)?;
+    let least = spread_of(alloc, market, activation, &bounds.least, End::Least)?;
+    chain_by(alloc, market, activation, &bounds, &least)
+}

@@ -1,10 +1,10 @@
 -- With every gate closed: something lies within the bounds, and no conflict holds, so there is a best activation.
 use Rattle.std.proofs.Common.{◌≡◌, ◌∙◌, ◌==◌, if◌then◌else◌, Bool, true, false, ℕ, zero, suc, ◌+◌, ◌<◌, ◌≤◌, ℤ, pos, List, [], ◌∷◌, length, map, replicate, Option, Some, None, arith, refl, sym, ap, subst, zero-add, add-zero}
-use Rattle.std.proofs.lemmas.Int.{ints}
-use Rattle.std.proofs.lemmas.List.{get_or-replicate, length-replicate}
+use Rattle.std.proofs.lemmas.Int.{clamps, ints}
+use Rattle.std.proofs.lemmas.List.{get_or-replicate, length-replicate, nil_from_length}
 use Rattle.std.proofs.lemmas.List.Elements.{All-head, All-tail}
 use Rattle.std.proofs.lemmas.Option.{slice_get-get_or}
-use Rattle.std.specs.Prelude.{slice_get, IsSomeAnd, MatchOption}
+use Rattle.std.specs.Prelude.{slice_get, IfSome, IsSomeAnd, MatchOption}
 use Rattle.std.specs.List.{All, AllZip, range_with_len}
 use Rattle.mari_market.specs.declared.activation.Activation.{Activation}
 use Rattle.mari_market.specs.declared.certificate.Conflict.{Conflict as ConflictRecord}
@@ -27,10 +27,10 @@ use Rattle.mari_market.specs.Consistent.{IsConsistentOrder, IsConsistentTrade, s
 use Rattle.mari_market.specs.declared.price_rules.Standing.TheVariants.{InOpen, InClosed}
 use Rattle.mari_market.specs.Cut.{IsCut}
 use Rattle.mari_market.specs.Dual.{IsTightOrder, IsTightTrade}
-use Rattle.mari_market.specs.Finding.{IsFinding, IsRefuted, IsRelaxedFinding, IsSettled}
+use Rattle.mari_market.specs.Finding.{IsAttained, IsFinding, IsRefuted, IsRelaxedFinding, IsSettled}
 use Rattle.mari_market.specs.Market.{IsValid, IsValidOrder}
 use Rattle.mari_market.specs.Optimal.{IsAdmissible}
-use Rattle.mari_market.specs.Prefix.{bit_of, bounds_of_word, decided, state_of, undecided, word_of}
+use Rattle.mari_market.specs.Prefix.{bit_of, bounds_of_word, decided, state_of, undecided, word_of, IsFeasibleWord}
 use Rattle.mari_market.specs.Price.{price_at}
 use Rattle.mari_market.specs.Relaxation.{all_closed, IsClosedWelfare, IsRelaxedWelfare, IsWithinBounds}
 use Rattle.mari_market.specs.Sums.{sum_along}
@@ -41,6 +41,9 @@ use Rattle.mari_market.proofs.Search.{parents_earlier}
 use Rattle.mari_market.proofs.Sums.{AllZip-both, AllZip-with}
 use Rattle.mari_market.proofs.Words.{begins_get, begins_own, Begins}
 use Rattle.mari_market.proofs.Standings.{plain_consistent}
+use Rattle.mari_node.specs.Nodes.{SomeWithin}
+use Rattle.mari_workers.specs.declared.first.ClosedOptimum.{ClosedOptimum}
+use Rattle.mari_workers.specs.Closed.{closed_finding, IsClosedOptimum}
 
 -- ---- the closed word
 
@@ -150,17 +153,29 @@ closed_has_best m r v f e =
     let P : Option Attained → Type 0 = λ o. MatchOption o (IsRefuted m (all_closed m) r) (IsSettled m (all_closed m) r) in
     not_refuted m r v (subst P e (f.at_the_end (length-all_closed m)))
 
-pub closed_welfare : (m : Market) (r : RelaxedRecord) (best : Attained) → IsRelaxedFinding m (all_closed m) r → r.best ≡ Some best → IsClosedWelfare m (pos best.welfare)
-closed_welfare m r best f e =
-    let P : Option Attained → Type 0 = λ o. MatchOption o (IsRefuted m (all_closed m) r) (IsSettled m (all_closed m) r) in
-    let settled : IsSettled m (all_closed m) r best = subst P e (f.at_the_end (length-all_closed m)) in
-    subst (IsRelaxedWelfare m (all_closed m)) (sym settled.value) f.value
+-- what is found there settles it
+settled : (m : Market) (r : RelaxedRecord) (best : Attained) → IsRelaxedFinding m (all_closed m) r → r.best ≡ Some best → IsSettled m (all_closed m) r best
+settled m r best f e = subst (λ (o : Option Attained). MatchOption o (IsRefuted m (all_closed m) r) (IsSettled m (all_closed m) r)) e (f.at_the_end (length-all_closed m))
 
-pub closed_gates : (m : Market) (r : RelaxedRecord) (best : Attained) → IsRelaxedFinding m (all_closed m) r → r.best ≡ Some best → gate_word_of m best.activation ≡ all_closed m
-closed_gates m r best f e =
-    let P : Option Attained → Type 0 = λ o. MatchOption o (IsRefuted m (all_closed m) r) (IsSettled m (all_closed m) r) in
-    let settled : IsSettled m (all_closed m) r best = subst P e (f.at_the_end (length-all_closed m)) in
-    settled.gates
+-- so its activation and its potentials are all that is found
+pub closed_whole : (m : Market) (r : RelaxedRecord) (best : Attained) → IsRelaxedFinding m (all_closed m) r → r.best ≡ Some best
+    → IsClosedOptimum m (record { first = best; potentials = r.potentials })
+closed_whole m r best f e =
+    let s : IsSettled m (all_closed m) r best = settled m r best f e in
+    record {
+      prices = f.prices;
+      value = f.value;
+      bound = omega (arith, ints, clamps, s.value);
+      attained = subst (λ (o : Option Attained). IfSome o (IsAttained m)) e f.attained;
+      at_the_end = λ l. record { gates = s.gates; value = s.value; conflict = refl };
+      before = λ l. absurd (omega (arith, l, length-all_closed m));
+    }
+
+pub closed_welfare : (m : Market) (c : ClosedOptimum) → IsClosedOptimum m c → IsClosedWelfare m (pos c.first.welfare)
+closed_welfare m c h = subst (IsRelaxedWelfare m (all_closed m)) (sym (settled m (closed_finding c) c.first h refl).value) h.value
+
+pub closed_gates : (m : Market) (c : ClosedOptimum) → IsClosedOptimum m c → gate_word_of m c.first.activation ≡ all_closed m
+closed_gates m c h = (settled m (closed_finding c) c.first h refl).gates
 
 -- what is found there isn't a cut
 pub closed_is_relaxed : (m : Market) (word : List Bool) (f : Finding) → IsValid m → word ≡ all_closed m → IsFinding m word f → ((r : RelaxedRecord) → f ≡ Relaxed r → ⊥) → ⊥
@@ -170,6 +185,14 @@ closed_is_relaxed m word (Relaxed r) v e h n = n r refl
 -- what is found there, as a relaxed optimum
 pub closed_found : (m : Market) (word : List Bool) (f : Finding) (r : RelaxedRecord) → word ≡ all_closed m → f ≡ Relaxed r → IsFinding m word f → IsRelaxedFinding m (all_closed m) r
 closed_found m word f r e is h = subst (λ (w : List Bool). IsRelaxedFinding m w r) e (subst (IsFinding m word) is h)
+
+-- where no gate is, every feasible word is that one
+pub one_word : (m : Market) (word : List Bool) → m.gates ≡ [] → IsFeasibleWord m.gates word → word ≡ all_closed m
+one_word m word e h = nil_from_length word (omega (arith, h.decided, ap length e)) ∙ sym (nil_from_length (all_closed m) (omega (arith, length-all_closed m, ap length e)))
+
+-- what is found shows that something lies within the word's bounds
+pub something_within : (m : Market) (word : List Bool) (r : RelaxedRecord) → IsRelaxedFinding m word r → SomeWithin m word
+something_within m word r f = record { activation = f.value.reached.0; within = f.value.reached.1 }
 
 -- ---- the closed prefix is feasible
 

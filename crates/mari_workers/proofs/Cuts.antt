@@ -1,7 +1,7 @@
 -- A walk that cuts a tree back.
 use Rattle.std.proofs.Common.{◌≡◌, if◌then◌else◌, Bool, true, false, ℕ, zero, suc, ◌<◌, ◌≤◌, pos, List, [], ◌∷◌, ◌++◌, length, take, reverse, append-nil, append_assoc, Option, Some, None, arith, sym, ap, subst, ◌∙◌, length-append}
 use Rattle.std.specs.Prelude.{IfSome, IsSomeAnd}
-use Rattle.std.proofs.lemmas.List.{length-take, reverse-append}
+use Rattle.std.proofs.lemmas.List.{length-take}
 use Rattle.mari_market.specs.declared.certificate.Leaf.{Leaf as LeafRecord}
 use Rattle.mari_market.specs.declared.certificate.TreeItem.{TreeItem}
 use Rattle.mari_market.specs.declared.certificate.TreeItem.TheVariants.{Branch, Leaf}
@@ -25,16 +25,13 @@ use Rattle.mari_proofs.specs.Places.{LeavesWords}
 use Rattle.mari_proofs.proofs.TreeWalk.{leaves_append, none_left}
 use Rattle.mari_workers.specs.Cutting.{AreLonger, IsAtItem, IsBelow, IsCutting}
 use Rattle.mari_workers.specs.Refine.{IsOldLeaf}
-use Rattle.mari_workers.proofs.TreeWalks.{search_parts}
+use Rattle.mari_workers.proofs.TreeWalks.{nothing_opened, popped, search_parts}
 
 -- what a finding closes its word by holds
 pub closed_at : (m : Market) (w : ℕ) (word : List Bool) (f : Finding) (o : Option LeafRecord) → IsFinding m word f
     → length word ≤ length m.gates → o ≡ closing_leaf w f → IfSome o (LeafHolds m (pos w) word)
 closed_at m w word f None is l e = tt
 closed_at m w word f (Some leaf) is l e = closing_leaf_holds m word w f leaf is l (sym e)
-
-popped : (left : List TreeItem) (item : TreeItem) → reverse (left ++ item ∷ []) ≡ item ∷ reverse left
-popped left item = reverse-append left (item ∷ [])
 
 -- ---- one item
 
@@ -192,10 +189,6 @@ branch_dropped m w word at y left more h e l child cleared =
       feasible = child_feasible m at y h.feasible taken.0 child cleared;
     }
 
--- a prefix that leaves a gate to decide is no longer than the bits
-pub room_at : (m : Market) (x : Prefix) → IsValid m → length (word_of x) < length m.gates → x.length < 512
-room_at m x v l = omega (arith, l, length-decisions x x.length, v.few_gates)
-
 -- a branch below leaves a gate to decide
 pub below_room : (m : Market) (w : ℕ) (word : List Bool) (at : Prefix) (left more : List TreeItem) → IsBelow m w word more (Some at) → more ≡ left ++ Branch ∷ [] → length (word_of at) < length m.gates
 below_room m w word at left more h e = let taken = below_taken m w word at Branch left more h e in taken.0
@@ -215,9 +208,6 @@ pub ends_at_last : (m : Market) (w : ℕ) (word : List Bool) (left : List TreeIt
 ends_at_last m w word left h = none_left_below m.gates word h.below h.left_is
 
 -- ---- the start
-
-nothing_opened : (gates : List GateInfo) → IsFeasibleWord gates []
-nothing_opened gates = record { decided = omega arith; rules = record { parents = λ g h e p. absurd (cc); groups = λ g h k e f p q. absurd (cc) } }
 
 pub cutting_started : (m : Market) (w : ℕ) (tree done left : List TreeItem) (next : Option Prefix)
     → AreParts m (IsOldLeaf m w) ([] ∷ []) tree → done ≡ [] → reverse left ≡ tree

@@ -7,6 +7,7 @@ use Rattle.mari_market.specs.declared.certificate.Leaf.{Leaf as LeafRecord}
 use Rattle.mari_market.specs.declared.certificate.TreeItem.{TreeItem}
 use Rattle.mari_market.specs.declared.certificate.TreeItem.TheVariants.{Branch, Leaf}
 use Rattle.mari_market.specs.declared.market.GateInfo.{GateInfo}
+use Rattle.mari_market.specs.declared.market.GateInfo.{GateInfo}
 use Rattle.mari_market.specs.declared.market.Market.{Market}
 use Rattle.mari_market.specs.declared.prefix.Prefix.{Prefix}
 use Rattle.mari_market.specs.Clearing.{ArePartsOfSearch}
@@ -22,6 +23,7 @@ use Rattle.mari_market.proofs.Search.{parents_earlier}
 use Rattle.mari_market.proofs.SearchParts.{each_append, each_child}
 use Rattle.mari_market.proofs.Ties.{before_both, before_cons, before_here, none_before_closed, not_before_itself}
 use Rattle.mari_gates.specs.Preorder.{left_at, opened_child, waiting, waiting_after}
+use Rattle.mari_gates.proofs.Decisions.{length-decisions}
 use Rattle.mari_gates.proofs.WaitingWords.{feasible_front, first_child}
 use Rattle.mari_core.specs.Preorder.{shape_of}
 use Rattle.mari_core.proofs.Children.{child_is_node}
@@ -29,6 +31,16 @@ use Rattle.mari_proofs.specs.Places.{LeavesWords}
 use Rattle.mari_proofs.proofs.TreeWalk.{leaves_append}
 use Rattle.mari_workers.specs.declared.fate.Aim.{Aim}
 use Rattle.mari_workers.specs.Refine.{IsAim, IsAtLeaf, IsCrowdedAt, IsNewLeaf, IsOldLeaf, IsToBranch, IsTreeWalk}
+
+-- ---- prefixes
+
+-- a prefix that leaves a gate to decide is no longer than the bits
+pub room_of : (m : Market) (x : Prefix) → IsValid m → length (word_of x) < length m.gates → x.length < 512
+room_of m x v l = omega (arith, l, length-decisions x x.length, v.few_gates)
+
+-- the word that decides no gate is feasible
+pub nothing_opened : (gates : List GateInfo) → IsFeasibleWord gates []
+nothing_opened gates = record { decided = omega arith; rules = record { parents = λ g h e p. absurd (cc); groups = λ g h k e f p q. absurd (cc) } }
 
 -- ---- parts of a tree
 
@@ -145,7 +157,8 @@ item_done : (m : Market) (P : List Bool → LeafRecord → Type 0) (done : List 
     → LeavesWords m P ([] ∷ []) (done ++ item ∷ []) left
 item_done m P done item now left h k = leaves_append m P ([] ∷ []) done (item ∷ []) now left h k
 
-popped : (left : List TreeItem) (item : TreeItem) → reverse (left ++ item ∷ []) ≡ item ∷ reverse left
+-- the last of the items that are left is the next
+pub popped : (left : List TreeItem) (item : TreeItem) → reverse (left ++ item ∷ []) ≡ item ∷ reverse left
 popped left item = reverse-append left (item ∷ [])
 
 -- a branch is taken as it is

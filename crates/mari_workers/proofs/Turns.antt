@@ -1,5 +1,5 @@
 -- What each turn of a walk does, as its calls state it.
-use Rattle.std.proofs.Common.{◌≡◌, if◌then◌else◌, Bool, true, false, ℕ, ◌+◌, ◌<◌, ◌≤◌, pos, List, [], ◌∷◌, ◌++◌, length, reverse, Option, Some, None, arith, sym, ap, subst, ◌∙◌, length-append}
+use Rattle.std.proofs.Common.{◌≡◌, if◌then◌else◌, Bool, true, false, ℕ, ◌+◌, ◌≤◌, pos, List, [], ◌∷◌, ◌++◌, length, reverse, Option, Some, None, arith, sym, ap, subst, ◌∙◌, length-append}
 use Rattle.std.specs.Prelude.{IfSome, IsSomeAnd}
 use Rattle.std.proofs.lemmas.List.{length-reverse}
 use Rattle.mari_market.specs.declared.certificate.Leaf.{Leaf as LeafRecord}
@@ -13,11 +13,10 @@ use Rattle.mari_market.specs.Prefix.{word_of, children, IsFeasiblePrefix, IsFeas
 use Rattle.mari_market.specs.Tree.{AreParts, LeafHolds, LeafHoldsFor}
 use Rattle.mari_market.proofs.Prefixes.{closed_child}
 use Rattle.mari_gates.specs.Preorder.{left_at, waiting_after}
-use Rattle.mari_gates.proofs.Decisions.{length-decisions}
 use Rattle.mari_proofs.specs.Places.{LeavesWords}
 use Rattle.mari_workers.specs.declared.fate.Aim.{Aim}
 use Rattle.mari_workers.specs.Refine.{IsAim, IsAtLeaf, IsNewLeaf, IsOldLeaf, IsToBranch, IsTreeWalk, MayRefine}
-use Rattle.mari_workers.proofs.TreeWalks.{branch_done, branch_room, child_leaves, leaf_branched, leaf_done, old_leaves}
+use Rattle.mari_workers.proofs.TreeWalks.{branch_done, branch_room, child_leaves, leaf_branched, leaf_done, nothing_opened, old_leaves}
 
 -- the next prefix is the closed child of this one
 abbrev pub IsDescended : Prefix → Option Prefix → Type 0
@@ -25,10 +24,6 @@ IsDescended x next = IsSomeAnd next (λ y. (word_of y ≡ word_of x ++ false ∷
 
 descended_feasible : (m : Market) (x y : Prefix) → IsFeasibleWord m.gates (word_of x ++ false ∷ []) → word_of y ≡ word_of x ++ false ∷ [] → IsCleared y → IsFeasiblePrefix m y
 descended_feasible m x y f e cleared = record { word = subst (IsFeasibleWord m.gates) (sym e) f; rest = cleared }
-
--- a prefix that leaves a gate to decide is no longer than the bits
-pub room_of : (m : Market) (x : Prefix) → IsValid m → length (word_of x) < length m.gates → x.length < 512
-room_of m x v l = omega (arith, l, length-decisions x x.length, v.few_gates)
 
 -- ---- a branch of the tree
 
@@ -71,9 +66,6 @@ turned_branched m aim x old leaf may done left new_done new_left (Some y) v k h 
 )
 
 -- ---- the start
-
-nothing_opened : (gates : List Rattle.mari_market.specs.declared.market.GateInfo.GateInfo) → IsFeasibleWord gates []
-nothing_opened gates = record { decided = omega arith; rules = record { parents = λ g h e p. absurd (cc); groups = λ g h k e f p q. absurd (cc) } }
 
 -- the walk at its start
 pub walk_started : (m : Market) (aim : Aim) (budget : ℕ) (found : Clearing) (done left : List TreeItem) (next : Option Prefix)

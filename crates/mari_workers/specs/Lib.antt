@@ -3,4 +3,5 @@ pub mod Refine
 pub mod Worked
 pub mod Together
 pub mod Cutting
+pub mod Closed
 pub mod Root

@@ -1,9 +1,18 @@
 -- Where the examinations of a search begin.
-use Rattle.std.specs.Prelude.{IfSome}
+use Rattle.std.specs.Prelude.{◌≡◌, []}
 use Rattle.mari_market.specs.declared.market.Market.{Market}
 use Rattle.mari_paths.specs.Warm.{IsWarmStart}
+use Rattle.mari_workers.specs.declared.root.Ahead.{Ahead}
+use Rattle.mari_workers.specs.declared.root.Ahead.TheVariants.{Known, Warm}
 use Rattle.mari_workers.specs.declared.root.Root.{Root as RootRecord}
+use Rattle.mari_workers.specs.Closed.{IsClosedOptimum}
 
--- what the nodes start from, if it is made, is made for the market; of which activation it is made is left open
+-- what is known is what may be found at the one word of a market without gates; a start is made for the market, and of
+-- which activation is left open
+abbrev pub IsAhead : Market → Ahead → Type 0
+IsAhead m (Known closed) = (m.gates ≡ []) × IsClosedOptimum m closed
+IsAhead m (Warm optimum start) = IsWarmStart m start
+
+-- what the examinations of the market's prefixes begin with
 pub record IsRootOf (m : Market) (r : RootRecord) : Type 0 where
-  pub warm : IfSome r.warm (IsWarmStart m)
+  pub ahead : IsAhead m r.ahead

@@ -14,7 +14,6 @@ ghost use Rattle.mari_workers.specs.Refine.{MayRefine};
 ghost use Rattle.mari_workers.specs.Root.{IsRootOf};
 
 use crate::bounds::BranchBounds;
-use crate::first::first_of;
 use crate::publishing::published_from;
 use crate::root::Root;
 use crate::rounding::best_rounded;
@@ -152,7 +151,8 @@ fn admit(search: &Search<'_>, queue: &mut Queue, key: u64)
 /// Visits the nodes of a search, always the one whose parent has the greatest bound. It says whether none waits any
 /// more; else one could not branch within the budget.
 ///
-/// Of equal bounds the node that was made first is the next. Where the root branches, its optimum is rounded.
+/// Of equal bounds the node that was made first is the next. Where the root branches, what its optimum comes to by
+/// rounding is offered. No clause says either.
 fn visit_all(
     alloc: Global,
     market: &Market,
@@ -276,8 +276,7 @@ fn cleared(alloc: Global, market: &Market, budget: u32) -> Result<Cleared, Memor
     requires budget { IsBudget budget }
     ensures { IfOk result (Clears market.now budget) }
 {
-    let first = first_of(alloc, market)?;
-    let root = Root::of(alloc, market, &first.activation)?;
+    let (root, first) = Root::with_first(alloc, market)?;
     let search = Search::start(alloc, market, ACTOR + 1, first, budget)?;
     let queue = Queue::start(alloc, budget)?;
     search_to_end(alloc, market, search, queue, budget, &root)

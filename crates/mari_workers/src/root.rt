@@ -1,64 +1,96 @@
 //! Where the examinations of a search begin.
 
-ghost use Rattle.std.specs.Prelude.{IfOk};
-ghost use Rattle.mari_market.specs.Finding.{IsFinding};
+ghost use Rattle.std.specs.Prelude.{◌≡◌, pos, IfOk};
+ghost use Rattle.mari_market.specs.Activation.{gate_word_of};
+ghost use Rattle.mari_market.specs.Finding.{IsAttained, IsFinding};
 ghost use Rattle.mari_market.specs.Market.{IsValid};
 ghost use Rattle.mari_market.specs.Prefix.{word_of, IsFeasiblePrefix};
+ghost use Rattle.mari_market.specs.Relaxation.{all_closed, IsClosedWelfare};
 ghost use Rattle.mari_node.specs.Nodes.{IsEmptyWhereNone};
+ghost use Rattle.mari_workers.specs.Closed.{IsClosedOptimum};
 ghost use Rattle.mari_workers.specs.Root.{IsRootOf};
 
-use crate::first::first_of;
+use crate::alone::copy_of;
+use crate::first::{ClosedOptimum, closed_optimum};
 use mari_gates::empty_prefix;
-use mari_market::{Activation, Finding, Market, Prefix};
+use mari_market::{Activation, Attained, Finding, Market, Prefix};
 use mari_node::{examine_from, examine_warm};
 use mari_paths::WarmStart;
 use mari_units::Memory;
 use std::alloc::Global;
 
+/// What the examinations of a search begin with.
+#[derive(Drop)]
+enum Ahead {
+    /// What is found at the one prefix of a market without gates. An examination from its activation would find the
+    /// same: nothing would be left to improve, and then potentials rest on what runs, not on how that was found. No
+    /// clause says so.
+    Known(ClosedOptimum),
+    /// Where there are gates, a relaxed optimum of the root, and what every examination begins with, made of it once.
+    Warm {
+        optimum: Activation,
+        start: WarmStart,
+    },
+}
+
 /// A relaxed optimum of the root, from which every prefix of a search is examined. So what is found at a prefix rests
 /// on the market and the prefix, and not on what was examined before. No clause says so; tests compare what is found.
+///
+/// A market without gates has one prefix, which is examined once: what is found there is known when a search starts.
 #[derive(Drop)]
 pub struct Root {
-    optimum: Activation,
-    /// What every examination begins with, made once. Without gates it isn't made: then there is one prefix alone.
-    warm: Option<WarmStart>,
+    ahead: Ahead,
 }
 
 impl Root {
     /// The root's optimum that is found from the best activation with every gate closed. Without gates it is that one.
-    pub(crate) fn of(alloc: Global, market: &Market, first: &Activation) -> Result<Root, Memory>
-        requires { IsValid market.now }
+    fn of(alloc: Global, market: &Market, closed: ClosedOptimum) -> Result<Root, Memory>
+        requires market { IsValid market.now }
+        requires closed { IsClosedOptimum market.now closed }
         ensures { IfOk result (IsRootOf market.now) }
     {
-        let optimum = first.clone()?;
         if market.gates.as_slice().is_empty() {
-            return Ok(Root {
-                optimum,
-                warm: None,
-            });
+            let ahead = Ahead::Known(closed);
+            return Ok(Root { ahead });
         }
-        let mut start = Some(optimum);
+        let ClosedOptimum { first, .. } = closed;
+        let mut start = Some(first.activation);
         examine_from(alloc, market, &empty_prefix(), &mut start)?;
         let Some(optimum) = start else { unreachable!() };
-        let warm = WarmStart::of(alloc, market, Some(&optimum))?;
-        Ok(Root {
-            optimum,
-            warm: Some(warm),
-        })
+        let start = WarmStart::of(alloc, market, Some(&optimum))?;
+        let ahead = Ahead::Warm { optimum, start };
+        Ok(Root { ahead })
     }
 
-    /// The same, where that activation isn't known yet.
+    /// The root of a market.
     pub(crate) fn find(alloc: Global, market: &Market) -> Result<Root, Memory>
         requires { IsValid market.now }
         ensures { IfOk result (IsRootOf market.now) }
     {
-        let first = first_of(alloc, market)?;
-        Root::of(alloc, market, &first.activation)
+        let closed = closed_optimum(alloc, market)?;
+        Root::of(alloc, market, closed)
+    }
+
+    /// The root of a market, with its best activation with every gate closed, from which a search starts.
+    pub(crate) fn with_first(alloc: Global, market: &Market) -> Result<(Root, Attained), Memory>
+        requires { IsValid market.now }
+        ensures root { IfOk result (λ found. IsRootOf market.now found.0) }
+        ensures attained { IfOk result (λ found. IsAttained market.now found.1) }
+        ensures closed { IfOk result (λ found. IsClosedWelfare market.now (pos found.1.welfare)) }
+        ensures gates { IfOk result (λ found. gate_word_of market.now found.1.activation ≡ all_closed market.now) }
+    {
+        let closed = closed_optimum(alloc, market)?;
+        let first = copy_of(&closed.first)?;
+        let root = Root::of(alloc, market, closed)?;
+        Ok((root, first))
     }
 
     /// The optimum.
     pub(crate) fn optimum(&self) -> &Activation {
-        &self.optimum
+        match &self.ahead {
+            Ahead::Known(closed) => &closed.first.activation,
+            Ahead::Warm { optimum, .. } => optimum,
+        }
     }
 
     /// Examines a prefix of the market from it.
@@ -74,12 +106,9 @@ impl Root {
         ensures finding { IfOk result (IsFinding market.now (word_of prefix.now)) }
         ensures empty { IfOk result (IsEmptyWhereNone market.now (word_of prefix.now)) }
     {
-        match &self.warm {
-            Some(warm) => examine_warm(alloc, market, prefix, warm),
-            None => {
-                let mut start = Some(self.optimum.clone()?);
-                examine_from(alloc, market, prefix, &mut start)
-            }
+        match &self.ahead {
+            Ahead::Known(closed) => Ok(closed.finding()?),
+            Ahead::Warm { start, .. } => examine_warm(alloc, market, prefix, start),
         }
     }
 }

@@ -1,5 +1,7 @@
 //! The rounding of a relaxed optimum: the gates that run at least their least in it are opened, as far as parents and
 //! groups allow.
+//!
+//! No clause says which gates are opened: whatever they are, an activation that is found there is admissible.
 
 ghost use Rattle.std.specs.Prelude.{◌≡◌, ◌<◌, ◌+◌, IfOk, IfSome, length};
 ghost use Rattle.mari_market.specs.Finding.{IsAttained};
@@ -58,7 +60,8 @@ pub(crate) fn rounded(market: &Market, activation: &Activation) -> Prefix
     prefix
 }
 
-/// The best activation of the gates that the root's optimum comes to by rounding, if they have one.
+/// The best activation of the gates that the root's optimum comes to by rounding, if they have one. The clause says
+/// that it is admissible and of its welfare, and not which gates those are.
 pub(crate) fn best_rounded(
     alloc: Global,
     market: &Market,

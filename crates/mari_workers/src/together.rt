@@ -15,7 +15,6 @@ ghost use Rattle.mari_workers.specs.Worked.{HoldsBest, IsWorked};
 
 use crate::alone::search_alone;
 use crate::bounds::BranchBounds;
-use crate::first::first_of;
 use crate::publishing::published_from;
 use crate::root::Root;
 use crate::seats::{Seated, gather, seated_of};
@@ -337,8 +336,7 @@ fn search_under_name<G: Turnstile, R: Threads + Wait + Sync>(
     requires budget { IsBudget budget }
     ensures { IfOk result (Clears market.now budget) }
 {
-    let first = first_of(alloc, market)?;
-    let root = Root::of(alloc, market, &first.activation)?;
+    let (root, first) = Root::with_first(alloc, market)?;
     let (incumbent, seat) = Incumbent::start(alloc, first.welfare, u64::from(workers) + 2)?;
     search_over_pool::<Brand, G, R>(
         rt, alloc, market, workers, budget, incumbent, seat, first, turnstile, &root,

@@ -123,8 +123,10 @@ pub(crate) fn visit<G: Turnstile>(
 /// branch within the budget. When out of memory it ends, and gives its node back unless it has settled it.
 ///
 /// Pool, seat and incumbent are of one search of this market. The lock is held for one take, one settle or one
-/// give-back. The bell rings where somebody who waits may get on: after a branch, and when a worker ends. Who branches
-/// the root rounds its optimum, while others go on.
+/// give-back. The bell rings where somebody who waits may get on: after a branch, and when a worker ends. The worker
+/// that branches the root offers what its optimum comes to by rounding, while others go on. The clauses speak of what a
+/// worker hands back, its seat and the best activation that it offered, and not of which nodes it takes or what it
+/// offers.
 pub fn work<'m, N: SearchName, G: Turnstile, R: Wait>(
     rt: &R,
     alloc: Global,

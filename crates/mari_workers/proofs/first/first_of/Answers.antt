@@ -1,29 +1,12 @@
 use Rattle.std.proofs.Common.{pos}
-use Rattle.mari_market.specs.Prefix.{word_of}
-use Rattle.mari_workers.proofs.Closed.{closed_found, closed_has_best, closed_is_relaxed, closed_gates, closed_one, closed_welfare}
+use Rattle.mari_workers.proofs.Closed.{closed_gates, closed_one, closed_welfare}
 use Rattle.mari_workers.proofs.first.first_of.Goals as goal
 
-pub unreachable-requires : goal.unreachable-requires
-unreachable-requires c =
-    closed_is_relaxed c.args.market.now (word_of c.closed_prefix.result) c.in_ok-relaxed.field-0 c.requires c.closed_prefix.ensures.word
-    c.in_ok-relaxed.ensures.finding c.in_default.not-Relaxed
-
-pub unreachable-requires-in-None : goal.unreachable-requires-in-None
-unreachable-requires-in-None c =
-    let f = closed_found c.args.market.now (word_of c.closed_prefix.result) c.in_ok-relaxed.field-0 c.in-Relaxed.relaxed c.closed_prefix.ensures.word c.in-Relaxed.is c.in_ok-relaxed.ensures.finding in
-    closed_has_best c.args.market.now c.in-Relaxed.relaxed c.requires f c.in-None.is
-
 pub returns-clause-closed : goal.returns-clause-closed
-returns-clause-closed c =
-    let f = closed_found c.args.market.now (word_of c.closed_prefix.result) c.in_ok-relaxed.field-0 c.in-Relaxed.relaxed c.closed_prefix.ensures.word c.in-Relaxed.is c.in_ok-relaxed.ensures.finding in
-    closed_welfare c.args.market.now c.in-Relaxed.relaxed c.in-Some.first f c.in-Some.is
+returns-clause-closed c = closed_welfare c.args.market.now c.in_ok-closed.closed c.in_ok-closed.ensures
 
 pub returns-clause-gates : goal.returns-clause-gates
-returns-clause-gates c =
-    let f = closed_found c.args.market.now (word_of c.closed_prefix.result) c.in_ok-relaxed.field-0 c.in-Relaxed.relaxed c.closed_prefix.ensures.word c.in-Relaxed.is c.in_ok-relaxed.ensures.finding in
-    closed_gates c.args.market.now c.in-Relaxed.relaxed c.in-Some.first f c.in-Some.is
+returns-clause-gates c = closed_gates c.args.market.now c.in_ok-closed.closed c.in_ok-closed.ensures
 
 pub returns-clause-one : goal.returns-clause-one
-returns-clause-one c w is =
-    let f = closed_found c.args.market.now (word_of c.closed_prefix.result) c.in_ok-relaxed.field-0 c.in-Relaxed.relaxed c.closed_prefix.ensures.word c.in-Relaxed.is c.in_ok-relaxed.ensures.finding in
-    closed_one c.args.market.now w (pos c.in-Some.first.welfare) is (closed_welfare c.args.market.now c.in-Relaxed.relaxed c.in-Some.first f c.in-Some.is)
+returns-clause-one c w is = closed_one c.args.market.now w (pos c.in_ok-closed.closed.first.welfare) is (closed_welfare c.args.market.now c.in_ok-closed.closed c.in_ok-closed.ensures)

@@ -3,11 +3,12 @@ use Rattle.std.specs.declared.vec.Vec.{Vec}
 use Rattle.std.specs.declared.alloc.Global.{Global}
 use Rattle.mari_market.specs.declared.certificate.TreeItem.{TreeItem}
 use Rattle.mari_market.specs.declared.certificate.TreeItem.TheVariants.{Branch, Leaf}
-use Rattle.mari_workers.proofs.Cuts.{below_branch, leaf_done, node_here, room_at}
+use Rattle.mari_workers.proofs.Cuts.{below_branch, leaf_done, node_here}
+use Rattle.mari_workers.proofs.TreeWalks.{room_of}
 use Rattle.mari_workers.proofs.cutting.Cutting.cut.Goals as goal
 
 pub child_of-requires-clause-room : goal.child_of-requires-clause-room
-child_of-requires-clause-room c = room_at c.args.market.now c.args.prefix.now c.requires.market c.requires.walk.after.0
+child_of-requires-clause-room c = room_of c.args.market.now c.args.prefix.now c.requires.market c.requires.walk.after.0
 
 pub drop_below-requires-clause-below : goal.drop_below-requires-clause-below
 drop_below-requires-clause-below c =

@@ -1,11 +1,12 @@
 use Rattle.std.proofs.Common.{◌∷◌, [], arith, length-append, ap}
 use Rattle.std.proofs.Common.{length}
 use Rattle.mari_market.specs.declared.certificate.TreeItem.TheVariants.{Branch}
-use Rattle.mari_workers.proofs.Cuts.{branch_kept, room_at}
+use Rattle.mari_workers.proofs.Cuts.{branch_kept}
+use Rattle.mari_workers.proofs.TreeWalks.{room_of}
 use Rattle.mari_workers.proofs.cutting.Cutting.descend.Goals as goal
 
 pub child_of-requires-clause-room : goal.child_of-requires-clause-room
-child_of-requires-clause-room c = room_at c.args.market.now c.args.prefix.now c.requires.market c.requires.walk.after.0
+child_of-requires-clause-room c = room_of c.args.market.now c.args.prefix.now c.requires.market c.requires.walk.after.0
 
 pub returns : goal.returns
 returns c = record {

@@ -2,8 +2,8 @@ use Rattle.std.proofs.Common.{◌++◌, ◌∷◌, [], ap, ◌∙◌}
 use Rattle.std.specs.declared.vec.Vec.{Vec}
 use Rattle.std.specs.declared.alloc.Global.{Global}
 use Rattle.mari_market.specs.declared.certificate.TreeItem.{TreeItem}
-use Rattle.mari_workers.proofs.TreeWalks.{branch_room}
-use Rattle.mari_workers.proofs.Turns.{room_of, turned_branch}
+use Rattle.mari_workers.proofs.TreeWalks.{branch_room, room_of}
+use Rattle.mari_workers.proofs.Turns.{turned_branch}
 use Rattle.mari_workers.proofs.refining.Walk.advance.Goals as goal
 
 pub descend-requires-clause-room : goal.descend-requires-clause-room

@@ -4,8 +4,8 @@ use Rattle.std.specs.declared.alloc.Global.{Global}
 use Rattle.mari_market.specs.declared.certificate.TreeItem.{TreeItem}
 use Rattle.mari_market.specs.declared.certificate.TreeItem.TheVariants.{Branch}
 use Rattle.mari_gates.proofs.Decisions.{length-decisions}
-use Rattle.mari_workers.proofs.TreeWalks.{leaf_crowded}
-use Rattle.mari_workers.proofs.Turns.{room_of, turned_branched}
+use Rattle.mari_workers.proofs.TreeWalks.{leaf_crowded, room_of}
+use Rattle.mari_workers.proofs.Turns.{turned_branched}
 use Rattle.mari_workers.proofs.refining.Walk.branch.Goals as goal
 use Rattle.mari_workers.proofs.refining.Walk.branch.Goals.{then-may_open, else-may_open}
 

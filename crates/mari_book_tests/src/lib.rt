@@ -11,6 +11,8 @@ mod demands;
 #[cfg(test)]
 mod links;
 #[cfg(test)]
+mod pages;
+#[cfg(test)]
 mod rows;
 #[cfg(test)]
 mod same;

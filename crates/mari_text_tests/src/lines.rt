@@ -1,5 +1,6 @@
 //! What is a line, and what isn't one.
 
+use crate::same::same_in;
 use crate::texts::made;
 use mari_lines::{FormFault, read_line};
 use std::alloc::Global;
@@ -159,34 +160,43 @@ const LISTS: &[(&str, &str, u32, &str, bool)] = &[
 /// Whether the text that these parts make is a line.
 fn reads(alloc: Global, parts: &[(&str, u32)]) -> Result<bool, Fail> {
     let text = made(alloc, parts)?;
-    let line = read_line(alloc, text.as_bytes());
+    let fault = read_line(alloc, text.as_bytes()).err();
     drop(text);
-    match line {
-        Ok(line) => {
-            drop(line);
-            Ok(true)
-        }
-        Err(FormFault::Formless) => Ok(false),
-        Err(FormFault::Memory) => Err(Fail::from("there is no memory")),
+    match fault {
+        None => Ok(true),
+        Some(FormFault::Formless) => Ok(false),
+        Some(FormFault::Memory) => Err(Fail::from("there is no memory")),
     }
 }
 
-/// Asserts whether each of these lines with each of these fields is a line.
-fn assert_read(
+/// Compares whether a line with each of these fields is a line.
+fn compare_line<'a>(
     rt: &impl Abort,
     alloc: Global,
-    lines: &str,
-    fields: &str,
+    line: &'a str,
+    fields: &'a str,
+    want: bool,
+) -> Result<(), Fail> {
+    let (before, after) = line
+        .split_once("*")
+        .ok_or("each line has a place for a field")?;
+    for field in fields.split('|') {
+        let read = reads(alloc, &[(before, 1), (field, 1), (after, 1)])?;
+        same_in(rt, field, read, want);
+    }
+    Ok(())
+}
+
+/// The same of each of these lines.
+fn compare_lines<'a>(
+    rt: &impl Abort,
+    alloc: Global,
+    lines: &'a str,
+    fields: &'a str,
     want: bool,
 ) -> Result<(), Fail> {
     for line in lines.split('|') {
-        let Some((before, after)) = line.split_once("*") else {
-            return Err(Fail::from("each line has a place for a field"));
-        };
-        for field in fields.split('|') {
-            let read = reads(alloc, &[(before, 1), (field, 1), (after, 1)])?;
-            assert_eq!(rt; read, want, "{before}{field}{after}");
-        }
+        compare_line(rt, alloc, line, fields, want)?;
     }
     Ok(())
 }
@@ -194,8 +204,8 @@ fn assert_read(
 #[test]
 fn a_field_is_read_within_its_range_and_in_its_form_alone(rt: HostRuntime) -> Result<(), Fail> {
     for fields in FIELDS {
-        assert_read(&rt, rt.alloc(), fields.lines, fields.good, true)?;
-        assert_read(&rt, rt.alloc(), fields.lines, fields.bad, false)?;
+        compare_lines(&rt, rt.alloc(), fields.lines, fields.good, true)?;
+        compare_lines(&rt, rt.alloc(), fields.lines, fields.bad, false)?;
     }
     Ok(())
 }
@@ -205,7 +215,7 @@ fn a_list_has_as_many_fields_as_its_kind_allows(rt: HostRuntime) -> Result<(), F
     let alloc = rt.alloc();
     for (words, field, times, tail, want) in LISTS {
         let read = reads(alloc, &[(words, 1), (field, *times), (tail, 1)])?;
-        assert_eq!(rt; read, *want, "{words} {field} {times} {tail}");
+        same_in(&rt, words, read, *want);
     }
     Ok(())
 }

@@ -10,6 +10,7 @@ use mari_publish::{
 };
 use mari_units::Memory;
 use std::alloc::Global;
+use std::process::Abort;
 use std::test::Fail;
 
 const HEAD: &str = "mari 1 2025-03-12 96 10000\n";
@@ -119,16 +120,30 @@ total-provider P2 450.0000
 done 1 1
 ";
 
+/// What stands in a text after a part that it begins with, if it begins with it.
+fn after<'a>(
+    text: Option<&'a [u8]>,
+    part: Result<Vec<u8>, Memory>,
+) -> Result<Option<&'a [u8]>, Memory> {
+    let part = part?;
+    let rest = match text {
+        Some(text) => text.strip_prefix(part.as_slice()),
+        None => None,
+    };
+    drop(part);
+    Ok(rest)
+}
+
 /// Whether these parts of a day make its text: its head, its blocks and its totals.
 fn is_text_of_parts(alloc: Global, day: &Publication, text: &str) -> Result<bool, Memory>
     requires { HasText day.now }
 {
-    let mut parts = head_text(alloc, &day.date, day.quarters, day.budget)?;
+    let head = head_text(alloc, &day.date, day.quarters, day.budget);
+    let mut rest = after(Some(text.as_bytes()), head)?;
     for block in day.blocks.as_slice() {
-        parts.extend_from_slice(&block_text(alloc, block)?)?;
+        rest = after(rest, block_text(alloc, block))?;
     }
-    parts.extend_from_slice(&total_text(alloc, day)?)?;
-    Ok(parts.as_slice() == text.as_bytes())
+    Ok(after(rest, total_text(alloc, day))? == Some(b""))
 }
 
 /// Whether a day prints this text.
@@ -136,7 +151,9 @@ fn is_text(alloc: Global, day: &Publication, text: &str) -> Result<bool, Memory>
     requires { HasText day.now }
 {
     let printed = write_text(alloc, day)?;
-    Ok(printed.as_slice() == text.as_bytes())
+    let is_text = printed.as_slice() == text.as_bytes();
+    drop(printed);
+    Ok(is_text)
 }
 
 /// How many quarters, nodes and operators the day of a text has, and whether it prints the text, whole and by parts.
@@ -152,56 +169,69 @@ fn read_back(alloc: Global, text: &str) -> Result<(u32, u32, usize, [bool; 2]), 
     Ok((quarters, budget, operators, [whole?, parts?]))
 }
 
+/// What is read back of the text of these parts.
+fn read_back_of(
+    alloc: Global,
+    parts: &[(&str, u32)],
+) -> Result<(u32, u32, usize, [bool; 2]), Fail> {
+    let text = made(alloc, parts)?;
+    let read = read_back(alloc, &text);
+    drop(text);
+    read
+}
+
+/// The parts of a text, and how many operators its day has.
+const DAYS: &[(&[(&str, u32)], usize)] = &[
+    (&[(TWO_ZONES, 1), (DONE_ONE, 1)], 2),
+    (&[(DAY, 1)], 1),
+    (&[(LONG_DAY, 1)], 1),
+];
+
 #[test]
 fn a_text_reads_back_and_prints_the_same(rt: HostRuntime) -> Result<(), Fail> {
-    let alloc = rt.alloc();
-    for (parts, operators) in &[
-        ([(TWO_ZONES, 1), (DONE_ONE, 1)], 2),
-        ([(DAY, 1), ("", 1)], 1),
-        ([(LONG_DAY, 1), ("", 1)], 1),
-    ] {
-        let text = made(alloc, parts)?;
-        let read = read_back(alloc, &text);
-        same_in(
-            &rt,
-            text.as_str(),
-            read?,
-            (96, 10_000, *operators, [true, true]),
-        );
+    for (parts, operators) in DAYS {
+        let want = (96, 10_000, *operators, [true, true]);
+        same(&rt, read_back_of(rt.alloc(), parts)?, want);
     }
     Ok(())
 }
 
 /// The fault of a text, if it has one.
 fn fault_of(alloc: Global, text: &[u8]) -> Option<TextFault> {
-    match read_text(alloc, text) {
-        Ok(day) => {
-            drop(day);
-            None
+    read_text(alloc, text).err()
+}
+
+/// Compares the faults of a text up to each of its bytes.
+fn compare_cut(rt: &impl Abort, alloc: Global, text: &[u8]) {
+    let mut line: u32 = 1;
+    for (count, byte) in text.iter().enumerate() {
+        same(rt, fault_of(alloc, &text[..count]), Some(Truncated(line)));
+        if *byte == b'\n' {
+            line = line.wrapping_add(1);
         }
-        Err(fault) => Some(fault),
     }
 }
 
 #[test]
 fn a_text_cut_at_any_byte_is_truncated_in_its_last_line(rt: HostRuntime) -> Result<(), Fail> {
-    let alloc = rt.alloc();
-    let text = made(alloc, &[(TWO_ZONES, 1), (DONE_ONE, 1)])?;
-    let bytes = text.as_bytes();
-    let mut line: u32 = 1;
-    for (count, byte) in bytes.iter().enumerate() {
-        let fault = fault_of(alloc, &bytes[..count]);
-        same(&rt, fault, Some(Truncated(line)));
-        if *byte == b'\n' {
-            line = line.wrapping_add(1);
-        }
-    }
+    let text = made(rt.alloc(), &[(TWO_ZONES, 1), (DONE_ONE, 1)])?;
+    compare_cut(&rt, rt.alloc(), text.as_bytes());
+    drop(text);
     Ok(())
 }
 
+/// Two texts, how often the second comes, what stands after that, and a fault, if there is one.
+type Row = (
+    &'static str,
+    &'static str,
+    u32,
+    &'static str,
+    Option<TextFault>,
+);
+
 /// The front of a text, parts with a `|` between them, one of which comes after it some times, what stands after
 /// that, and the fault of each of these texts, if they have one.
-const FAULTS: &[(&str, &str, u32, &str, Option<TextFault>)] = &[
+const FAULTS: &[Row] = &[
     // a text that is cut off
     ("", "|mari 1 2025", 1, "", Some(Truncated(1))),
     (HEAD, "", 1, "", Some(Truncated(2))),
@@ -285,21 +315,27 @@ fn fault_of_parts(alloc: Global, parts: &[(&str, u32)]) -> Result<Option<TextFau
     Ok(fault)
 }
 
+/// Compares the faults of the texts of a row.
+fn compare_texts(rt: &impl Abort, alloc: Global, row: &Row) -> Result<(), Fail> {
+    let (front, parts, times, tail, want) = *row;
+    for part in parts.split('|') {
+        let fault = fault_of_parts(alloc, &[(front, 1), (part, times), (tail, 1)])?;
+        same_in(rt, part, fault, want);
+    }
+    Ok(())
+}
+
 #[test]
 fn a_text_has_the_fault_of_its_first_bad_line(rt: HostRuntime) -> Result<(), Fail> {
-    let alloc = rt.alloc();
-    for (front, parts, times, tail, want) in FAULTS {
-        for part in parts.split('|') {
-            let fault = fault_of_parts(alloc, &[(front, 1), (part, *times), (tail, 1)])?;
-            assert_eq!(rt; fault, *want, "{front}{part} {times} {tail}");
-        }
+    for row in FAULTS {
+        compare_texts(&rt, rt.alloc(), row)?;
     }
     Ok(())
 }
 
 /// A line of `DAY`, the line in its place and how often that comes, what stands after it, and the fault that the text
 /// has then, if it has one.
-const ALTERED: &[(&str, &str, u32, &str, Option<TextFault>)] = &[
+const ALTERED: &[Row] = &[
     // a number in range that other lines do not agree with
     (
         "run 1 1 scheduled published\n",
@@ -354,16 +390,19 @@ const ALTERED: &[(&str, &str, u32, &str, Option<TextFault>)] = &[
     ),
 ];
 
+/// Compares the fault of the day with another line in the place of one.
+fn compare_altered(rt: &impl Abort, alloc: Global, row: &Row) -> Result<(), Fail> {
+    let (line, other, times, tail, want) = *row;
+    let (before, after) = DAY.split_once(line).ok_or("the day has each line")?;
+    let parts = [(before, 1), (other, times), (tail, 1), (after, 1)];
+    same_in(rt, other, fault_of_parts(alloc, &parts)?, want);
+    Ok(())
+}
+
 #[test]
 fn a_day_with_another_line_has_its_fault(rt: HostRuntime) -> Result<(), Fail> {
-    let alloc = rt.alloc();
-    for (line, other, times, tail, want) in ALTERED {
-        let Some((before, after)) = DAY.split_once(*line) else {
-            return Err(Fail::from("the day has each line"));
-        };
-        let parts = [(before, 1), (other, *times), (tail, 1), (after, 1)];
-        let fault = fault_of_parts(alloc, &parts)?;
-        assert_eq!(rt; fault, *want, "{times} {other}");
+    for row in ALTERED {
+        compare_altered(&rt, rt.alloc(), row)?;
     }
     Ok(())
 }

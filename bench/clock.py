@@ -1,4 +1,4 @@
-"""Times of a command, and the line that tells of the machine."""
+"""Times of a command, and the line about the machine."""
 
 import dataclasses
 import json
@@ -24,12 +24,12 @@ def run_once(words, output=os.devnull):
 
     It is started by a process of this file, since a process counts the memory of the one that starts it as its own.
     """
-    told = subprocess.run([sys.executable, "-SE", __file__, output, *words], stdout=subprocess.PIPE, check=True).stdout
-    return Spent(**json.loads(told))
+    printed = subprocess.run([sys.executable, "-SE", __file__, output, *words], stdout=subprocess.PIPE, check=True).stdout
+    return Spent(**json.loads(printed))
 
 
 def start(output, words):
-    """Runs a command, and tells what it took."""
+    """Runs a command, and reports what it took."""
     with open(output, "wb") as out:
         began = time.perf_counter()
         child = subprocess.Popen(words, stdout=out, stdin=subprocess.DEVNULL)

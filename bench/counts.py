@@ -11,8 +11,9 @@ byte, so all programs are counted with the C library's copies by 32 bytes at a t
 
 A node of ours is one examination from the root (`Root::examine`) with all that it calls, the mean of all that the search
 makes; LEMON's is its search less its reading, by the nodes that it solves. Of a run without gates ours are the solver and
-the price test of both examinations (the closed prefix and the root, which are the same there), and LEMON's its program
-less its reading. A run by itself is the command on a folder with the run, less that on the same folder without.
+the price test of all examinations (one, since the closed prefix is the root there; up to 30 November 2026 12:00 the
+program made two), and LEMON's its program less its reading. A run by itself is the command on a folder with the run,
+less that on the same folder without.
 """
 
 import argparse
@@ -58,10 +59,10 @@ class Counter:
 
     def of_function(self, profile, name):
         """The instructions of a function with all that it calls, and how often it was called."""
-        told = subprocess.run(["callgrind_annotate", "--inclusive=yes", "--tree=caller", "--threshold=100", profile],
+        printed = subprocess.run(["callgrind_annotate", "--inclusive=yes", "--tree=caller", "--threshold=100", profile],
                               stdout=subprocess.PIPE, text=True, check=True).stdout
-        found = re.search(rf"^ *([\d,]+) \(.*\*  .*{re.escape(name)}\b", told, re.M)
-        above = told[:found.start()].rsplit("\n\n", 1)[-1]
+        found = re.search(rf"^ *([\d,]+) \(.*\*  .*{re.escape(name)}\b", printed, re.M)
+        above = printed[:found.start()].rsplit("\n\n", 1)[-1]
         calls = sum(int(times.replace(",", "")) for times in re.findall(r" \(([\d,]+)x\)", above))
         return int(found.group(1).replace(",", "")), calls
 

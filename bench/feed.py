@@ -42,7 +42,7 @@ def block(run, bids, demands, items):
 
 
 def many_runs(path, size):
-    """A publication of about so many bytes, of runs whose trees have bounds."""
+    """A publication of about this number of bytes, of runs whose trees have bounds."""
     bound = "bound " + " ".join(f"{40 + zone}.25" for zone in range(64)) + "\n"
     leaves = min(25_000, max(1, (size // 960 - 90_000) // (len(bound) + 7)))
     items = ["branch\n"] * (leaves - 1) + [bound] * leaves

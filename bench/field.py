@@ -99,16 +99,16 @@ class Bench:
     def yardstick(self, folder, *mode):
         """The time of LEMON's program, of its solving alone, and the welfare and the nodes of its runs."""
         spent, welfare = self.ran([self.lemon, *mode, folder], r" welfare (\d+)")
-        told = dict(re.findall(r"(nodes|seconds|least|first) ([\d.e+-]+)", pathlib.Path(self.text).read_text().replace("run ", "\n")))
-        return spent, float(told["seconds"]), welfare, told
+        figures = dict(re.findall(r"(nodes|seconds|least|first) ([\d.e+-]+)", pathlib.Path(self.text).read_text().replace("run ", "\n")))
+        return spent, float(figures["seconds"]), welfare, figures
 
     def instructions(self, words, function=None):
         """How many instructions a command takes, or a function of it with all that it calls."""
         counts = os.path.join(self.scratch, "counts")
         counted = ["valgrind", "--tool=callgrind", f"--callgrind-out-file={counts}", *words]
         subprocess.run(counted, stdout=subprocess.DEVNULL, stderr=subprocess.DEVNULL, check=True, env=os.environ | COPIES)
-        told = subprocess.run(["callgrind_annotate", "--inclusive=yes", "--threshold=100", counts], stdout=subprocess.PIPE, text=True, check=True).stdout
-        found = re.search(rf"^ *([\d,]+) .*{function or 'PROGRAM TOTALS'}", told, re.M)
+        printed = subprocess.run(["callgrind_annotate", "--inclusive=yes", "--threshold=100", counts], stdout=subprocess.PIPE, text=True, check=True).stdout
+        found = re.search(rf"^ *([\d,]+) .*{function or 'PROGRAM TOTALS'}", printed, re.M)
         return int(found.group(1).replace(",", ""))
 
     def solver(self, name, folder):
@@ -136,7 +136,7 @@ def gated(bench):
         base, _ = bench.clear(folder, "--nodes", "1")
         spent, welfare = bench.clear(folder, "--nodes", "50000")
         nodes = bench.nodes_of_text()
-        _, _, _, told = bench.yardstick(folder, "--least")
+        _, _, _, figures = bench.yardstick(folder, "--least")
         theirs, seconds, found, counted = bench.yardstick(folder)
         agree(name, found, welfare)
         ours, lemons = (spent.processor - base.processor) / nodes * 1e6, seconds / int(counted["nodes"]) * 1e6
@@ -147,8 +147,8 @@ def gated(bench):
             if took is not None and answer == welfare:
                 fastest = min(fastest or took, took)
         print(row(name, f"{spent.processor:.3f}", nodes, f"{ours:.0f}", f"{theirs.processor:.3f}", counted["nodes"], f"{lemons:.0f}",
-                  f"{ours / lemons:.2f}", f"{told['least']}, {told['first']}", *cells), flush=True)
-        ratios[name] = (ours / lemons, nodes / int(told["least"]), nodes / int(told["first"]), fastest and spent.processor / fastest)
+                  f"{ours / lemons:.2f}", f"{figures['least']}, {figures['first']}", *cells), flush=True)
+        ratios[name] = (ours / lemons, nodes / int(figures["least"]), nodes / int(figures["first"]), fastest and spent.processor / fastest)
     return ratios
 
 

@@ -6,7 +6,7 @@ usage: python3 bench/folders.py FOLDER [--zones N] [--borders N] [--bids N] [--g
        python3 bench/folders.py FOLDER --day NUMBER
 
 The first form makes markets of one shape: a ring of zones with chords, three bids of four upward, as many demands as
-zones or as told, and gated bids spread evenly over the others. Border limits and demands grow with the bids, so a
+zones or as asked for, and gated bids spread evenly over the others. Border limits and demands grow with the bids, so a
 market of more bids is the same market in finer steps. `size` multiplies the gated bids, and `load` is added to each
 demand's draw: at 0 few gates are worth opening, at 40 their prices lie amid the margin. Each run is the scheduled one
 of its quarter. The second form makes the day that `mari generate NUMBER` clears.

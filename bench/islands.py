@@ -34,7 +34,7 @@ SHARED = re.compile(r"^(?:run|welfare|zone|border|bid|demand|done) .*$", re.M)
 
 
 def apart(zones, bids, runs):
-    """Pages of zones that nothing joins, with so many bids each."""
+    """Pages of zones that nothing joins, with this number of bids each."""
     dice = random.Random(11)
     pages = folders.empty_pages()
     pages["zones.csv"] = [(f"Z{zone}", f"T{zone % 4}") for zone in range(zones)]
@@ -49,7 +49,7 @@ def apart(zones, bids, runs):
 
 
 def near_the_margin(zones, gates):
-    """Pages of one run of zones that nothing joins, each with so many indivisible bids near the margin of its demand."""
+    """Pages of one run of zones that nothing joins, each with this number of indivisible bids near the margin of its demand."""
     dice = random.Random(5)
     pages = folders.empty_pages()
     pages["zones.csv"] = [(f"Z{zone}", f"T{zone}") for zone in range(zones)]

@@ -35,7 +35,7 @@ FREE = (0, 5, 6, 7)
 
 
 def quarters(gates):
-    """The pages of a folder of four quarters, with so many gated bids in each."""
+    """The pages of a folder of four quarters, with this number of gated bids in each."""
     return folders.market(ZONES, BORDERS, BIDS, gates, demands=DEMANDS, runs=QUARTERS)
 
 
@@ -89,9 +89,9 @@ def printed(words):
 
 def measure(name, program, words, nodes):
     """Prints the row of a call, and gives what it prints."""
-    told = [program, *words, "--workers", "1", "--nodes"]
-    made, whole = (clock.least_of(5, [*told, str(budget)], statuses=(0, 1)) for budget in (1, nodes))
-    text = printed([*told, str(nodes)])
+    command = [program, *words, "--workers", "1", "--nodes"]
+    made, whole = (clock.least_of(5, [*command, str(budget)], statuses=(0, 1)) for budget in (1, nodes))
+    text = printed([*command, str(nodes)])
     line = next(line for line in text.splitlines() if line.startswith(("run ", "blocks ")))
     items = next(iter(re.findall(r"^tree (\d+)$", text, re.M)), "-")
     print(f"| {name} | {line} | {items} | {made.processor:.4f} | {whole.processor:.3f} | {whole.memory:.0f} |", flush=True)

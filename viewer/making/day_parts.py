@@ -7,7 +7,7 @@ from making.damage import Damaged, shown
 from making.feed import FEED
 from making.quarter import Quarter
 
-DETAILED = 400      # of a tree with more items no bounds are told
+DETAILED = 400      # of a tree with more items no bounds are shown
 NO_DAY = {"date": "", "quarters": 1, "budget": 0, "times": [], "zones": [], "borders": [], "awaited": 0, "runs": [],
           "totals": False}
 

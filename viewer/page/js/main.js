@@ -17,7 +17,7 @@ import { drawFacts } from "./facts.js";
 const byId = (name) => document.getElementById(name);
 const later = () => new Promise((done) => { setTimeout(done); });
 
-function tell(text) {
+function say(text) {
   byId("fault").hidden = false;
   byId("fault").textContent = text;
 }
@@ -84,7 +84,7 @@ function drawer(day, selection, panels) {
       }
       if (mine === newest) document.body.dataset.drawn = `${selection.run} ${selection.zone}`;
     } catch (fault) {
-      tell(fault.message);
+      say(fault.message);
     }
   };
 }
@@ -109,7 +109,7 @@ function open(day) {
 
 function start() {
   if (typeof DecompressionStream === "undefined") {
-    tell("This browser is too old for the page: it can't unpack the day.");
+    say("This browser is too old for the page: it can't unpack the day.");
     document.body.classList.add("empty");
     return;
   }
@@ -118,16 +118,16 @@ function start() {
     day = summary();
   } catch (fault) {
     document.body.classList.add("empty");
-    tell("The page's day can't be read: the page was cut off or changed.");
+    say("The page's day can't be read: the page was cut off or changed.");
     return;
   }
   if (day.fault) {
-    tell(`The day is damaged. ${day.fault}.${day.runs.length
+    say(`The day is damaged. ${day.fault}.${day.runs.length
       ? ` The ${day.runs.length} of ${day.awaited} runs before it are shown.` : ""}`);
   }
   if (day.runs.length) open(day);
   else document.body.classList.add("empty");
-  if (!day.fault && !day.runs.length) tell("The day has no runs.");
+  if (!day.fault && !day.runs.length) say("The day has no runs.");
 }
 
 start();

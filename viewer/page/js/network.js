@@ -121,7 +121,7 @@ export class Network {
     this.reading.text(run ? `${some}, ${full} of ${rows.length} borders full` : UNPUBLISHED);
   }
 
-  // Colours by the prices of this run: the day's chart tells how they change.
+  // Colours by the prices of this run: the day's chart shows how they change.
   paint(run) {
     const [low, high] = widened(usualRange(run ? run.zones.price : [0]));
     this.colour = priceColour([low, high]);

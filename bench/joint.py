@@ -65,7 +65,7 @@ def with_dear_gates(pages, kept):
 
 
 def blocks_of(pages, count):
-    """So many blocks of a gated bid of each quarter that is in no group, and neither child nor parent."""
+    """`count` blocks of a gated bid of each quarter that is in no group, and neither child nor parent."""
     gated = {quarter: [] for quarter in range(1, QUARTERS + 1)}
     for name, _, _, quarter, _, _, least, _, _ in pages["bids.csv"]:
         if least > 0:

@@ -8,9 +8,9 @@ use Rattle.mari_market.specs.Activation.{gate_word_of}
 use Rattle.mari_market.specs.Optimal.{IsAdmissible}
 
 -- the cutoff less 1 where a certificate is to hold below it, and else the cutoff
-abbrev pub lowered : Bool → ℤ → ℤ
-lowered true cutoff = cutoff -ℤ pos 1
-lowered false cutoff = cutoff
+abbrev pub cutoff_below : Bool → ℤ → ℤ
+cutoff_below true cutoff = cutoff -ℤ pos 1
+cutoff_below false cutoff = cutoff
 
 -- where the certificate is a conflict, no admissible activation has the word as its gate word
 abbrev pub ExcludesWord : Market → List Bool → LeafRecord → Type 0

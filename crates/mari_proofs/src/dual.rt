@@ -5,7 +5,7 @@ ghost use Rattle.std.specs.List.{All};
 ghost use Rattle.mari_market.specs.declared.activation.Activation.{Activation};
 ghost use Rattle.mari_market.specs.Activation.{welfare_of};
 ghost use Rattle.mari_market.specs.Bounds.{span_in};
-ghost use Rattle.mari_market.specs.Dual.{gain_per_mw, dual_value_of, IsTight, best_trade, best_border, best_order};
+ghost use Rattle.mari_market.specs.Dual.{gain_per_mw, dual_value_of, IsTight, best_within, best_border, best_order};
 ghost use Rattle.mari_market.specs.Market.{IsValid, IsValidOrder, IsValidBorder};
 ghost use Rattle.mari_market.specs.Prefix.{bounds_at, IsFeasiblePrefix};
 ghost use Rattle.mari_market.specs.Price.{IsCapped, IsPrice, ArePrices, price_at};
@@ -14,13 +14,11 @@ ghost use Rattle.mari_market.specs.Sums.{int_sum};
 ghost use Rattle.mari_gates.specs.GateTable.{state_in};
 
 use mari_gates::{GateStates, states_at};
-use mari_market::{
-    Border, MOST_GAP, MOST_ORDERS, MOST_WORTH, Market, Order, Prefix, Prices, Side, worth,
-};
+use mari_market::{Border, MOST_GAP, MOST_ORDERS, MOST_WORTH, Market, Order, Prefix, Prices, Side};
 use mari_units::{Cents, MOST_BORDERS, MOST_FLOW, MOST_GATES, MOST_MW, Quarters};
 
 /// What a quantity in MW gains, in quarter-cents, at a gain for each MW.
-fn amount(gap: i64, mw: u32) -> i128
+fn amount(gap: i64, mw: u32) -> i64
     requires low { neg_ℤ (pos MOST_GAP) ≤ℤ gap }
     requires high { gap ≤ℤ pos MOST_GAP }
     requires mw { mw ≤ MOST_FLOW }
@@ -28,7 +26,7 @@ fn amount(gap: i64, mw: u32) -> i128
     ensures low { neg_ℤ (pos MOST_WORTH) ≤ℤ result }
     ensures high { result ≤ℤ pos MOST_WORTH }
 {
-    worth(Cents(gap), i64::from(mw))
+    gap * i64::from(mw)
 }
 
 /// How much an order gains for each MW at a potential.
@@ -39,40 +37,47 @@ fn gap(order: &Order, potential: Cents) -> i64
     ensures low { neg_ℤ (pos MOST_GAP) ≤ℤ result }
     ensures high { result ≤ℤ pos MOST_GAP }
 {
+    let rise = potential.0 - order.price.0;
     match order.side {
-        Side::Inject => potential.0 - order.price.0,
-        Side::Withdraw => order.price.0 - potential.0,
+        Side::Inject => rise,
+        Side::Withdraw => -rise,
     }
 }
 
-/// The most that an order gains at a potential, from its least to its greatest quantity.
-fn best_trade(order: &Order, span: (u32, u32), potential: Cents) -> i128
-    // Prices within the cap, and quantities within their limit.
-    requires order { IsPrice order.now.price.0 }
-    requires potential { IsPrice potential.0 }
-    requires least { span.0 ≤ MOST_MW }
-    requires greatest { span.1 ≤ MOST_MW }
+/// The most that quantities from the least to the greatest of a span gain, in quarter-cents, at a gain for each MW.
+fn best_within(gap: i64, span: (u32, u32)) -> i64
+    // A gap of two prices, and quantities in order and within their limit.
+    requires low { neg_ℤ (pos MOST_GAP) ≤ℤ gap }
+    requires high { gap ≤ℤ pos MOST_GAP }
+    requires in_order { span.0 ≤ span.1 }
+    requires small { span.1 ≤ MOST_MW }
 
-    // The value, in quarter-cents, and that it can be summed over all orders.
-    ensures value { result ≡ best_trade order.now.side order.now.price.0 potential.0 (record { lo = span.0; hi = span.1 }) }
+    // The value, and that it can be summed over all orders.
+    ensures value { result ≡ best_within gap (record { lo = span.0; hi = span.1 }) }
     ensures low { neg_ℤ (pos MOST_WORTH) ≤ℤ result }
     ensures high { result ≤ℤ pos MOST_WORTH }
 {
-    let gap = gap(order, potential);
     let (least, greatest) = span;
-    amount(gap, least).max(amount(gap, greatest))
+    if gap > 0 {
+        amount(gap, greatest)
+    } else {
+        amount(gap, least)
+    }
 }
 
-/// The most that an order gains at its zone's potential.
-fn best_order(order: &Order, states: &GateStates, potentials: &[Cents]) -> i128
+/// The most that an order gains at its zone's potential. One of no gate runs from 0.
+fn best_order(order: &Order, states: &GateStates, potentials: &[Cents]) -> i64
     requires order { IsValidOrder (length potentials.now) MOST_GATES order.now }
     requires potentials { All IsCapped potentials.now }
     ensures value { result ≡ best_order (span_in (state_in states.now)) potentials.now order.now }
     ensures low { neg_ℤ (pos MOST_WORTH) ≤ℤ result }
     ensures high { result ≤ℤ pos MOST_WORTH }
 {
-    let potential = potential_at(potentials, order.zone);
-    best_trade(order, states.span(order), potential)
+    let gap = gap(order, potential_at(potentials, order.zone));
+    match order.gate {
+        None => amount(gap.max(0), order.greatest),
+        Some(_) => best_within(gap, states.span(order)),
+    }
 }
 
 /// A zone's potential.
@@ -97,7 +102,7 @@ fn excess(dear: Cents, cheap: Cents) -> i64
 }
 
 /// The most that a border earns.
-fn best_border(border: &Border, potentials: &[Cents]) -> i128
+fn best_border(border: &Border, potentials: &[Cents]) -> i64
     requires border { IsValidBorder (length potentials.now) border.now }
     requires potentials { All IsCapped potentials.now }
     ensures value { result ≡ best_border potentials.now border.now }
@@ -106,11 +111,15 @@ fn best_border(border: &Border, potentials: &[Cents]) -> i128
 {
     let from = potential_at(potentials, border.from);
     let to = potential_at(potentials, border.to);
-    amount(excess(to, from), border.limit).max(amount(excess(from, to), border.back))
+    if to.0 > from.0 {
+        amount(excess(to, from), border.limit)
+    } else {
+        amount(excess(from, to), border.back)
+    }
 }
 
 /// The most that all orders gain.
-fn orders_value(orders: &[Order], states: &GateStates, potentials: &[Cents]) -> i128
+fn orders_value(orders: &[Order], states: &GateStates, potentials: &[Cents]) -> i64
     requires few { length orders.now ≤ MOST_ORDERS }
     requires orders { All (IsValidOrder (length potentials.now) MOST_GATES) orders.now }
     requires potentials { All IsCapped potentials.now }
@@ -126,7 +135,7 @@ fn orders_value(orders: &[Order], states: &GateStates, potentials: &[Cents]) -> 
 }
 
 /// The most that all borders earn.
-fn borders_value(borders: &[Border], potentials: &[Cents]) -> i128
+fn borders_value(borders: &[Border], potentials: &[Cents]) -> i64
     requires few { length borders.now ≤ MOST_BORDERS }
     requires borders { All (IsValidBorder (length potentials.now)) borders.now }
     requires potentials { All IsCapped potentials.now }
@@ -142,7 +151,7 @@ fn borders_value(borders: &[Border], potentials: &[Cents]) -> i128
 }
 
 /// The most that all orders gain and all borders earn.
-fn total_value(market: &Market, states: &GateStates, potentials: &[Cents]) -> i128
+fn total_value(market: &Market, states: &GateStates, potentials: &[Cents]) -> i64
     requires market { IsValid market.now }
     requires one_each { length potentials.now ≡ market.now.zones }
     requires potentials { All IsCapped potentials.now }
@@ -171,5 +180,6 @@ pub fn dual_value(market: &Market, prefix: &Prefix, potentials: &Prices) -> Quar
     ensures tight_where_equal { (a : Activation) → IsWithinBounds (bounds_at market.now prefix.now) market.now a → welfare_of market.now a ≡ result.0 → IsTight (bounds_at market.now prefix.now) market.now a potentials.now.cents }
 {
     let states = states_at(market, prefix);
-    Quarters(total_value(market, &states, potentials.cents.as_slice()))
+    let total = total_value(market, &states, potentials.cents.as_slice());
+    Quarters(i128::from(total))
 }

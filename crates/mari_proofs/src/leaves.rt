@@ -7,7 +7,7 @@ ghost use Rattle.mari_market.specs.Market.{IsValid};
 ghost use Rattle.mari_market.specs.Optimal.{IsAdmissible};
 ghost use Rattle.mari_market.specs.Prefix.{word_of, IsFeasiblePrefix};
 ghost use Rattle.mari_market.specs.Tree.{IsBound, LeafHolds, LeafHoldsFor};
-ghost use Rattle.mari_proofs.specs.Leaves.{ExcludesWord, lowered};
+ghost use Rattle.mari_proofs.specs.Leaves.{ExcludesWord, cutoff_below};
 
 use crate::conflicts::is_conflict;
 use crate::cuts::is_cut;
@@ -18,7 +18,7 @@ use mari_units::Quarters;
 
 /// Whether a value is at most the cutoff, or below it where that is asked for.
 fn is_within(value: Quarters, cutoff: Quarters, below: bool) -> bool
-    ensures { IsTrue result ↔ value.0 ≤ℤ lowered below cutoff.0 }
+    ensures { IsTrue result ↔ value.0 ≤ℤ cutoff_below below cutoff.0 }
 {
     if below {
         value.0 < cutoff.0
@@ -37,7 +37,7 @@ fn is_bound(
 ) -> bool
     requires market { IsValid market.now }
     requires prefix { IsFeasiblePrefix market.now prefix.now }
-    ensures { IsTrue result ↔ IsBound market.now (lowered below cutoff.0) (word_of prefix.now) potentials.now.cents }
+    ensures { IsTrue result ↔ IsBound market.now (cutoff_below below cutoff.0) (word_of prefix.now) potentials.now.cents }
 {
     market.are_prices(potentials.cents.as_slice())
         && is_within(dual_value(market, prefix, potentials), cutoff, below)
@@ -47,7 +47,7 @@ fn is_bound(
 fn holds_at(market: &Market, prefix: &Prefix, leaf: &Leaf, cutoff: Quarters, below: bool) -> bool
     requires market { IsValid market.now }
     requires prefix { IsFeasiblePrefix market.now prefix.now }
-    ensures { IsTrue result ↔ LeafHolds market.now (lowered below cutoff.0) (word_of prefix.now) leaf.now }
+    ensures { IsTrue result ↔ LeafHolds market.now (cutoff_below below cutoff.0) (word_of prefix.now) leaf.now }
 {
     match leaf {
         Leaf::Bound(potentials) => is_bound(market, prefix, potentials, cutoff, below),

@@ -1,5 +1,5 @@
 use Rattle.std.proofs.Common.{◌≡◌, ◌≤ℤ◌, ◌∙◌, sym, subst, to_z, of_z, to_z-of_z, rules, ℤ}
-use Rattle.std.specs.Int.{w128}
+use Rattle.std.specs.Int.{w64, w128}
 use Rattle.std.specs.Prelude.{FitsSigned}
 use Rattle.mari_gates.specs.GateTable.{state_in}
 use Rattle.mari_market.specs.Activation.{welfare_of}
@@ -12,12 +12,13 @@ use Rattle.mari_proofs.proofs.DualSums.{same_value}
 use Rattle.mari_proofs.proofs.dual.dual_value.Goals as goal
 
 -- the value that the code has is the dual value
-value_is : (c : goal.After-total_value) → to_z w128 (of_z w128 c.total_value.result) ≡ dual_value_of (bounds_at c.args.market.now c.args.prefix.now) c.args.market.now c.args.potentials.now.cents
+value_is : (c : goal.After-from) → to_z w128 (of_z w128 c.from.result) ≡ dual_value_of (bounds_at c.args.market.now c.args.prefix.now) c.args.market.now c.args.potentials.now.cents
 value_is c =
-    let fits : FitsSigned w128 c.total_value.result = search rules in
-    to_z-of_z fits
+    let total_fits : FitsSigned w64 c.total_value-total.result = search rules in
+    let fits : FitsSigned w128 c.from.result = search rules in
+    to_z-of_z fits ∙ c.from.ensures ∙ to_z-of_z total_fits
     ∙ same_value (span_in (state_in c.states_at-states.result)) (bounds_at c.args.market.now c.args.prefix.now) c.args.market.now
-    c.as_slice.result.now c.args.potentials.now.cents c.total_value.result c.requires.market c.total_value.ensures c.as_slice.ensures
+    c.as_slice.result.now c.args.potentials.now.cents c.total_value-total.result c.requires.market c.total_value-total.ensures c.as_slice.ensures
     c.states_at-states.ensures.bounds
 
 pub returns-clause-value : goal.returns-clause-value

@@ -4,7 +4,7 @@ ghost use Rattle.std.specs.Prelude.{IfOk};
 ghost use Rattle.mari_network.specs.Network.{IsNetwork, Runs};
 ghost use Rattle.mari_network.specs.Searching.{AreTightPrices};
 
-use mari_network::{Found, Network, find_chain, improve, margins_of};
+use mari_network::{Network, find_chain, improve, margins_of, search_of};
 use std::alloc::{AllocError, Global};
 
 /// Improves until no chain is left, one chain after another, and gives the prices that show it.
@@ -19,13 +19,15 @@ pub fn run(
     ensures runs { Runs network.now amounts.new flows.new }
     ensures tight { IfOk result (λ prices. AreTightPrices network.now amounts.new flows.new prices.items) }
 {
+    let mut search = search_of(alloc, network.meeting.len())?;
     loop {
         let margins = margins_of(alloc, network, amounts)?;
-        match find_chain(alloc, network, amounts, flows, &margins)? {
-            Found::Improving(chain) => {
+        match find_chain(alloc, network, amounts, flows, &margins, &mut search)? {
+            Some(chain) => {
                 improve(network, amounts, flows, &chain);
+                search.hops = chain.hops;
             }
-            Found::Tight(prices) => return Ok(prices),
+            None => return Ok(search.prices),
         }
     }
 }

@@ -1,7 +1,7 @@
 -- Marks, and one more of them.
 use Rattle.std.proofs.Common.{◌≡◌, ◌⊎◌, Bool, true, false, not, ℕ, zero, suc, ◌+◌, ◌<◌, List, [], ◌∷◌, length, set, arith, refl, ap, inl, inr, cond, sym, subst}
 use Rattle.std.specs.Prelude.{count_by}
-use Rattle.std.proofs.lemmas.List.Sums.{sum_by-set}
+use Rattle.std.proofs.lemmas.List.Sums.{sum_by-set, sum_by-cons}
 use Rattle.mari_network.specs.Spread.{is_marked}
 
 pub marked_set : (marked : List Bool) (i z : ℕ) → is_marked (set marked i true) z ≡ true → (z ≡ i) ⊎ (is_marked marked z ≡ true)
@@ -44,3 +44,19 @@ pub marked_below : (marked : List Bool) (z : ℕ) → is_marked marked z ≡ tru
 marked_below [] z e = absurd (cc)
 marked_below (b ∷ bs) zero e = omega arith
 marked_below (b ∷ bs) (suc z) e = omega (arith, marked_below bs z e)
+
+pub none_count : (marked : List Bool) → ((z : ℕ) → is_marked marked z ≡ false) → count_by not marked ≡ length marked
+none_count [] n = refl
+none_count (true ∷ bs) n = absurd (not_both true refl (n 0))
+none_count (false ∷ bs) n = omega (arith, sum_by-cons (λ (x : Bool). cond (not x) 1 0) false bs, none_count bs (λ z. n (suc z)))
+
+pub all_marked : (marked : List Bool) (z : ℕ) → count_by not marked ≡ 0 → z < length marked → is_marked marked z ≡ true
+all_marked [] z e h = absurd (omega arith)
+all_marked (true ∷ bs) zero e h = refl
+all_marked (true ∷ bs) (suc z) e h = all_marked bs z (omega (arith, sum_by-cons (λ (x : Bool). cond (not x) 1 0) true bs, e)) (omega arith)
+all_marked (false ∷ bs) z e h = absurd (omega (arith, sum_by-cons (λ (x : Bool). cond (not x) 1 0) false bs, e))
+
+pub all_unmarked : (marked : List Bool) → ((k : ℕ) → k < length marked → is_marked marked k ≡ false) → (z : ℕ) → is_marked marked z ≡ false
+all_unmarked [] h z = refl
+all_unmarked (b ∷ bs) h zero = h 0 (omega arith)
+all_unmarked (b ∷ bs) h (suc z) = all_unmarked bs (λ k l. h (suc k) (omega arith)) z

@@ -1,12 +1,13 @@
 -- One zone more that is reached.
-use Rattle.std.proofs.Common.{◌≡◌, ◌≢◌, ◌⊎◌, Bool, true, false, ℕ, ◌+◌, ◌<◌, ℤ, pos, ◌≤ℤ◌, ◌<ℤ◌, ◌==◌, List, [], ◌∷◌, ◌++◌, length, set, arith, refl, sym, ap, subst, ◌∙◌, inl, inr, length-set}
+use Rattle.std.proofs.Common.{◌≡◌, ◌≢◌, ◌⊎◌, Bool, true, false, ℕ, ◌+◌, ◌<◌, ℤ, pos, ◌≤ℤ◌, ◌<ℤ◌, List, [], ◌∷◌, ◌++◌, length, set, arith, refl, sym, ap, subst, ◌∙◌, inl, inr, length-set}
 use Rattle.std.proofs.lemmas.List.{get_or_append_left, get_or_push, length_push}
-use Rattle.std.proofs.lemmas.Bool.{cases_lt, eqb-false, eqb-true}
+use Rattle.std.proofs.lemmas.Bool.{cases_lt}
 use Rattle.std.specs.List.{All, AllZip}
 use Rattle.std.proofs.lemmas.List.Elements.{All-contains}
 use Rattle.mari_market.specs.declared.market.Border.{Border}
 use Rattle.mari_network.specs.declared.chain.Hop.{Hop}
-use Rattle.mari_network.specs.Network.{no_border, border_at, Meets, AreMeeting}
+use Rattle.mari_network.specs.declared.network.Way.{Way}
+use Rattle.mari_network.specs.Network.{no_border, border_at, way_of, AreMeeting}
 use Rattle.mari_market.specs.Sums.{int_at}
 use Rattle.mari_network.proofs.Lists.{zip_of}
 use Rattle.mari_network.specs.Chain.{no_hop, hop_at, tail_of, head_of, hop_room, room_of, IsHop, HasRoom}
@@ -193,26 +194,23 @@ closed_more old marked hops (b ∷ bs) (f ∷ fs) news k into a = (
 closed_more old marked hops [] (f ∷ fs) news k into a = absurd a
 closed_more old marked hops (b ∷ bs) [] news k into a = absurd a
 
--- a border is looked at the way that leads into the marked zone
-pub one_way : (marked : List Bool) (b : Border) (f : ℤ) (y : ℕ) → is_marked marked y ≡ true
-    → (pos 0 <ℤ room_of (b.to == y) b f → head_of (b.to == y) b ≡ y → is_marked marked (tail_of (b.to == y) b) ≡ true) → MarkedInto marked y b f
-one_way marked b f y here leads way r e = by way (b.to == y) refl leads r e
-  where
-    by : (way forth : Bool) → (b.to == y) ≡ forth → (pos 0 <ℤ room_of forth b f → head_of forth b ≡ y → is_marked marked (tail_of forth b) ≡ true)
-        → pos 0 <ℤ room_of way b f → head_of way b ≡ y → is_marked marked (tail_of way b) ≡ true
-    by true true same leads r e = leads r e
-    by false false apart leads r e = leads r e
-    by false true same leads r e = subst (λ z. is_marked marked z ≡ true) (sym (eqb-true b.to y same)) here
-    by true false apart leads r e = absurd (eqb-false b.to y apart e)
+-- where all zones are marked, all that is led to is
+pub closed_all : (marked : List Bool) (bs : List Border) (fs : List ℤ) → AllZip (λ b f. (b.from < length marked) × (b.to < length marked)) bs fs
+    → ((z : ℕ) → z < length marked → is_marked marked z ≡ true) → AreClosed bs fs marked
+closed_all marked [] [] ends all = tt
+closed_all marked (b ∷ bs) (f ∷ fs) ends all = (
+  λ forth r m. all (tail_of forth b) (tail_end (λ z. z < length marked) forth b ends.0.0 ends.0.1),
+  closed_all marked bs fs ends.1 all,
+)
+closed_all marked [] (f ∷ fs) ends all = absurd ends
+closed_all marked (b ∷ bs) [] ends all = absurd ends
 
--- the zone where energy comes in is met
-head_meets : (forth : Bool) (b : Border) (y : ℕ) → head_of forth b ≡ y → Meets b y
-head_meets true b y e = inr e
-head_meets false b y e = inl e
+-- where energy can come along the way, the zone that it comes from is marked
+abbrev pub Leads : List Border → List ℤ → List Bool → Way → Type 0
+Leads bs fs marked w = pos 0 <ℤ room_of w.forth (border_at bs w.border) (int_at fs w.border) → is_marked marked w.from ≡ true
 
--- it is enough to look at the borders that meet a zone
-pub all_into : (bs : List Border) (fs : List ℤ) (marked : List Bool) (y : ℕ) (places : List ℕ) → length bs ≡ length fs
-    → AreMeeting bs y places → All (λ i. MarkedInto marked y (border_at bs i) (int_at fs i)) places
-    → AllZip (MarkedInto marked y) bs fs
-all_into bs fs marked y places e m a = zip_of (MarkedInto marked y) bs fs no_border (pos 0) e
-    (λ k l forth r h. All-contains (λ i. MarkedInto marked y (border_at bs i) (int_at fs i)) places k a (m.all k l (head_meets forth (border_at bs k) y h)) forth r h)
+-- it is enough to look along the ways into a zone
+pub all_into : (bs : List Border) (fs : List ℤ) (marked : List Bool) (y : ℕ) (ways : List Way) → length bs ≡ length fs
+    → AreMeeting bs y ways → All (Leads bs fs marked) ways → AllZip (MarkedInto marked y) bs fs
+all_into bs fs marked y ways e m a = zip_of (MarkedInto marked y) bs fs no_border (pos 0) e
+    (λ k l forth r h. All-contains (Leads bs fs marked) ways (way_of bs k forth) a (m.all k forth l h) r)

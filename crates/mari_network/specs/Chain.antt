@@ -6,6 +6,7 @@ use Rattle.mari_network.specs.declared.chain.Chain.{Chain as ChainRecord}
 use Rattle.mari_network.specs.declared.network.Network.{Network as NetworkRecord}
 use Rattle.mari_network.specs.Slots.{zone_of, price_of, CanLess, CanMore}
 use Rattle.mari_network.specs.Network.{border_at}
+pub use Rattle.mari_network.specs.Network.{tail_of, head_of}
 
 -- what is read past the end of a list of hops
 abbrev pub no_hop : Hop
@@ -14,20 +15,6 @@ no_hop = record { zone = 0; border = 0; forth = false; before = 0 }
 -- the hop at a place
 abbrev pub hop_at : List Hop → ℕ → Hop
 hop_at hops k = slice_index_or hops k no_hop
-
--- where energy leaves for the border
-abbrev pub tail_of : Bool → Border → ℕ
-tail_of true b = b.from
-tail_of false b = b.to
-
--- where it comes in
-abbrev pub head_of : Bool → Border → ℕ
-head_of true b = b.to
-head_of false b = b.from
-
--- the hop that leads over a border to an earlier one
-abbrev pub hop_of : List Border → ℕ → Bool → ℕ → Hop
-hop_of bs border forth before = record { zone = tail_of forth (border_at bs border); border = border; forth = forth; before = before }
 
 -- how much more the border can carry that way, in MW
 abbrev pub room_of : Bool → Border → ℤ → ℤ

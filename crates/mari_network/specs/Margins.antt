@@ -69,11 +69,6 @@ pub record IsDearestOf (slots : List Slot) (margins : List Margin) (marked : Lis
   pub one : (i : ℕ) → best ≡ Some i → (z : ℕ) × (z < n) × (is_marked marked z ≡ false) × (dearest_at margins z ≡ Some i)
   pub all : (z i : ℕ) → z < n → is_marked marked z ≡ false → dearest_at margins z ≡ Some i → IsAbove slots (price_of slots i) best
 
--- the cheapest of the first n zones' cheapest slots, of those marked
-pub record IsCheapestOf (slots : List Slot) (margins : List Margin) (marked : List Bool) (n : ℕ) (best : Option ℕ) : Type 0 where
-  pub one : (i : ℕ) → best ≡ Some i → (z : ℕ) × (z < n) × (is_marked marked z ≡ true) × (cheapest_at margins z ≡ Some i)
-  pub all : (z i : ℕ) → z < n → is_marked marked z ≡ true → cheapest_at margins z ≡ Some i → IsBelow slots (price_of slots i) best
-
 -- the dearest of the slots on these rungs of a ladder that may put in less, if there is one
 pub record IsDearestRung (slots : List Slot) (xs : List ℤ) (ladder : List Rung) (start end : ℕ) (best : Option ℕ) : Type 0 where
   pub one : (i : ℕ) → best ≡ Some i → CanLess slots xs i × (j : ℕ) × (start ≤ j) × (j < end) × ((rung_at ladder j).place ≡ i)

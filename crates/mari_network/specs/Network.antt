@@ -1,6 +1,5 @@
--- Networks: slots and borders between zones, and for each zone its slots by price and the places of the borders that
--- meet it.
-use Rattle.std.specs.Prelude.{◌≡◌, ◌⊎◌, ℕ, ◌+◌, ◌<◌, ◌≤◌, ℤ, pos, ◌≤ℤ◌, List, length, slice_index_or}
+-- Networks: slots and borders between zones, and for each zone its slots by price and the ways into it.
+use Rattle.std.specs.Prelude.{◌≡◌, Bool, true, false, ℕ, ◌+◌, ◌<◌, ◌≤◌, ℤ, pos, ◌≤ℤ◌, List, length, slice_index_or}
 use Rattle.std.specs.List.{All, Contains}
 use Rattle.mari_market.specs.declared.market.Border.{Border}
 use Rattle.mari_market.specs.Market.{IsBetween}
@@ -8,6 +7,7 @@ use Rattle.mari_network.specs.declared.slots.Slot.{Slot}
 use Rattle.mari_network.specs.declared.network.Network.{Network}
 use Rattle.mari_network.specs.declared.network.Places.{Places}
 use Rattle.mari_network.specs.declared.network.Rung.{Rung}
+use Rattle.mari_network.specs.declared.network.Way.{Way}
 use Rattle.mari_network.specs.Slots.{price_of, zone_of, IsSmallSlot, IsRunning}
 
 -- what is read past the end of a list of borders: limits of 0 MW
@@ -18,14 +18,30 @@ no_border = record { from = 0; to = 0; limit = 0; back = 0 }
 abbrev pub border_at : List Border → ℕ → Border
 border_at bs i = slice_index_or bs i no_border
 
--- the border meets the zone
-abbrev pub Meets : Border → ℕ → Type 0
-Meets b z = (b.from ≡ z) ⊎ (b.to ≡ z)
+-- where energy leaves for the border
+abbrev pub tail_of : Bool → Border → ℕ
+tail_of true b = b.from
+tail_of false b = b.to
 
--- the places of the borders that meet the zone, and perhaps of others
-pub record AreMeeting (bs : List Border) (z : ℕ) (places : List ℕ) : Type 0 where
-  pub there : All (λ i. i < length bs) places
-  pub all : (i : ℕ) → i < length bs → Meets (border_at bs i) z → Contains places i
+-- where it comes in
+abbrev pub head_of : Bool → Border → ℕ
+head_of true b = b.to
+head_of false b = b.from
+
+-- the way over a border
+abbrev pub way_of : List Border → ℕ → Bool → Way
+way_of bs border forth = record { from = tail_of forth (border_at bs border); border = border; forth = forth }
+
+-- the way leads over a border into the zone
+pub record IsWay (bs : List Border) (z : ℕ) (w : Way) : Type 0 where
+  pub there : w.border < length bs
+  pub from : w.from ≡ tail_of w.forth (border_at bs w.border)
+  pub to : head_of w.forth (border_at bs w.border) ≡ z
+
+-- the ways into the zone
+pub record AreMeeting (bs : List Border) (z : ℕ) (ways : List Way) : Type 0 where
+  pub each : All (IsWay bs z) ways
+  pub all : (i : ℕ) (forth : Bool) → i < length bs → head_of forth (border_at bs i) ≡ z → Contains ways (way_of bs i forth)
 
 -- what is read past the end of a ladder
 abbrev pub no_rung : Rung
@@ -59,7 +75,7 @@ pub record IsLadder (slots : List Slot) (n z : ℕ) (ladder : List Rung) : Type 
 abbrev pub AreInOrder : ℕ → List Slot → Type 0
 AreInOrder n slots = (k : ℕ) → n ≤ k → k < length slots → k ≡ n + zone_of slots k
 
--- for each of the zones its ladder, and the places of the borders that meet it
+-- for each of the zones its ladder, and the ways into it
 pub record ArePlaces (zones : ℕ) (slots : List Slot) (bs : List Border) (p : Places) : Type 0 where
   pub ladders_long : length p.ladders.items ≡ zones
   pub meeting_long : length p.meeting.items ≡ zones

@@ -39,7 +39,7 @@ slot_into z s x = at_zone z s.zone x
 abbrev pub slot_gain : Slot → ℤ → ℤ
 slot_gain s x = neg_ℤ (s.price *ℤ x)
 
--- the slot may put in that many MW
+-- the slot may put in this amount, in MW
 pub record IsWithinSlot (s : Slot) (x : ℤ) : Type 0 where
   pub least : s.low ≤ℤ x
   pub most : x ≤ℤ s.high

@@ -30,7 +30,8 @@ abbrev pub OfCut : SolveFault → (CutRecord → Type 0) → Type 0
 OfCut (Cut cut) P = P cut
 OfCut Memory P = ⊤
 
--- an activation within the spans that is the relaxed optimum, and the dual value of its potentials
+-- an activation within the spans that is the relaxed optimum; potentials that are tight for it, and whose dual value is
+-- its welfare; and the welfare as it is stated, 0 where it is negative
 pub record IsSolution (spans : Order → Span) (m : Market) (s : Solved) : Type 0 where
   pub within : IsWithinBounds spans m s.activation
   pub relaxed : IsRelaxed spans m (welfare_of m s.activation)

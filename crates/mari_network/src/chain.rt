@@ -34,7 +34,7 @@ fn flow_after(border: &Border, now: i64, more: i64, forth: bool) -> i64
     requires room { more ≤ℤ room_of forth border.now now }
     ensures { result ≡ now +ℤ more_flow forth more }
 {
-    // Both limits are read, since it is they that bound the flow.
+    // The limits are read so that the proof knows them: the flow is bounded by them.
     let (_limit, _back) = (border.limit, border.back);
     if forth { now + more } else { now - more }
 }

@@ -19,8 +19,8 @@ mod slots;
 
 pub use chain::{Chain, Hop, has_room, improve};
 pub use margins::{Margin, add_to_margin};
-pub use network::{Network, Places, Rung, network_of, places_of};
+pub use network::{Network, Places, Rung, Way, network_of, places_of};
 pub use optimum::{Optimum, SolveFault, Solved, answer};
 pub use renewal::{margins_of, renew};
-pub use search::{Found, find_chain};
+pub use search::{Search, find_chain, search_of};
 pub use slots::{BEYOND, Slot, gain_of, order_slots, slot_from, stand_in, worth_of};

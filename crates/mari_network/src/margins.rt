@@ -1,11 +1,12 @@
 //! The marginal slots of each zone.
 
 ghost use Rattle.std.specs.Prelude.{◌≡◌, ◌≢◌, ◌⊎◌, ℕ, ℤ, ◌<◌, ◌+◌, ◌≤ℤ◌, ◌<ℤ◌, true, length, slice_index_or, Some, None, IfSome};
-ghost use Rattle.mari_network.specs.Slots.{price_of, zone_of};
+ghost use Rattle.std.specs.List.{All};
+ghost use Rattle.mari_network.specs.Slots.{price_of, zone_of, IsSmallSlot};
 ghost use Rattle.mari_network.specs.Spread.{is_marked};
-ghost use Rattle.mari_network.specs.Margins.{no_margin, dearest_at, cheapest_at, IsAbove, IsBelow, IsDearestWith, IsCheapestWith, IsMarginWith, IsDearestOf, IsCheapestOf};
+ghost use Rattle.mari_network.specs.Margins.{no_margin, dearest_at, cheapest_at, IsAbove, IsBelow, IsDearestWith, IsCheapestWith, IsMarginWith, IsDearestOf};
 
-use crate::slots::Slot;
+use crate::slots::{BEYOND, Slot};
 
 /// A zone's dearest slot that may put in less, and its cheapest that may put in more.
 #[derive(Clone, Copy, Drop)]
@@ -140,64 +141,28 @@ pub fn add_to_margin(slots: &[Slot], amounts: &[i64], margins: &mut [Margin], sl
     };
 }
 
-/// The dearer of a slot and a zone's dearest, if the zone is not marked.
-fn dearest_yet(
-    slots: &[Slot],
-    margins: &[Margin],
-    marked: &[bool],
-    best: Option<usize>,
-    zone: usize,
-) -> Option<usize>
-    requires zone { zone < length margins.now }
-    requires marks { length marked.now ≡ length margins.now }
-    requires there { (z i : ℕ) → z < length margins.now → dearest_at margins.now z ≡ Some i → i < length slots.now }
-    requires best { IsDearestOf slots.now margins.now marked.now zone best }
-    ensures { IsDearestOf slots.now margins.now marked.now (zone + 1) result }
-{
-    if marked[zone] {
-        return best;
-    }
-    match margins[zone].dearest {
-        None => best,
-        Some(slot) => dearer(slots, best, slot),
-    }
-}
-
-/// The dearest slot of a zone that is not marked, of those that may put in less.
+/// The dearest slot of a zone that is not marked, of those that may put in less. Where some cost the same it is that of
+/// the first zone; no clause says so.
 pub fn dearest(slots: &[Slot], margins: &[Margin], marked: &[bool]) -> Option<usize>
+    requires small { All IsSmallSlot slots.now }
     requires marks { length marked.now ≡ length margins.now }
     requires there { (z i : ℕ) → z < length margins.now → dearest_at margins.now z ≡ Some i → i < length slots.now }
     ensures there { IfSome result (λ i. i < length slots.now) }
     ensures dearest { IsDearestOf slots.now margins.now marked.now (length margins.now) result }
 {
     let mut best = None;
+    let mut above = -BEYOND - 1;
     for zone in 0..margins.len() {
-        best = dearest_yet(slots, margins, marked, best, zone);
+        if !marked[zone] {
+            if let Some(slot) = margins[zone].dearest {
+                if slots[slot].price > above {
+                    above = slots[slot].price;
+                    best = Some(slot);
+                }
+            }
+        }
     }
     best
-}
-
-/// The cheaper of a slot and a zone's cheapest, if the zone is marked.
-fn cheapest_yet(
-    slots: &[Slot],
-    margins: &[Margin],
-    marked: &[bool],
-    best: Option<usize>,
-    zone: usize,
-) -> Option<usize>
-    requires zone { zone < length margins.now }
-    requires marks { length marked.now ≡ length margins.now }
-    requires there { (z i : ℕ) → z < length margins.now → cheapest_at margins.now z ≡ Some i → i < length slots.now }
-    requires best { IsCheapestOf slots.now margins.now marked.now zone best }
-    ensures { IsCheapestOf slots.now margins.now marked.now (zone + 1) result }
-{
-    if !marked[zone] {
-        return best;
-    }
-    match margins[zone].cheapest {
-        None => best,
-        Some(slot) => cheaper(slots, best, slot),
-    }
 }
 
 /// The slot, if its price is below a limit.
@@ -212,8 +177,10 @@ fn only_below(slots: &[Slot], best: Option<usize>, limit: i64) -> Option<usize>
     }
 }
 
-/// The cheapest slot of a marked zone, of those that may put in more, if it is cheaper than a limit.
+/// The cheapest slot of a marked zone, of those that may put in more, if it is cheaper than a limit. Where some cost the
+/// same it is that of the first zone; no clause says so.
 pub fn cheapest(slots: &[Slot], margins: &[Margin], marked: &[bool], limit: i64) -> Option<usize>
+    requires small { All IsSmallSlot slots.now }
     requires marks { length marked.now ≡ length margins.now }
     requires there { (z i : ℕ) → z < length margins.now → cheapest_at margins.now z ≡ Some i → i < length slots.now }
     ensures there { IfSome result (λ i. i < length slots.now) }
@@ -221,8 +188,16 @@ pub fn cheapest(slots: &[Slot], margins: &[Margin], marked: &[bool], limit: i64)
     ensures none { result ≡ None → (z i : ℕ) → z < length margins.now → is_marked marked.now z ≡ true → cheapest_at margins.now z ≡ Some i → limit ≤ℤ price_of slots.now i }
 {
     let mut best = None;
+    let mut below = BEYOND + 1;
     for zone in 0..margins.len() {
-        best = cheapest_yet(slots, margins, marked, best, zone);
+        if marked[zone] {
+            if let Some(slot) = margins[zone].cheapest {
+                if slots[slot].price < below {
+                    below = slots[slot].price;
+                    best = Some(slot);
+                }
+            }
+        }
     }
     only_below(slots, best, limit)
 }

@@ -5,7 +5,7 @@ ghost use Rattle.std.specs.List.{All, AllZip};
 ghost use Rattle.std.specs.List.Sorted.{IsPermutation};
 ghost use Rattle.mari_market.specs.Market.{IsValid, IsBetween};
 ghost use Rattle.mari_network.specs.Fits.{IsNetworkSlot};
-ghost use Rattle.mari_network.specs.Network.{rung_of, AreInOrder, AreMeeting, ArePlaces, AreRungs, IsLadder, IsNetwork, IsRising};
+ghost use Rattle.mari_network.specs.Network.{rung_of, tail_of, way_of, AreInOrder, AreMeeting, ArePlaces, AreRungs, IsLadder, IsNetwork, IsRising};
 ghost use Rattle.mari_network.specs.Orders.{CanPut};
 ghost use Rattle.mari_network.specs.Solving.{IsNetworkOf};
 
@@ -22,6 +22,17 @@ pub struct Rung {
     pub place: usize,
 }
 
+/// A way over a border into a zone.
+#[derive(Clone, Copy, Drop)]
+pub struct Way {
+    /// The zone from which it leads.
+    pub from: u32,
+    /// The place of the border.
+    pub border: usize,
+    /// Whether it leads from the border's `from` to its `to`.
+    pub forth: bool,
+}
+
 /// Slots and borders between zones, lent, with the places of both by zone.
 #[derive(Drop)]
 pub struct Network<'a> {
@@ -33,8 +44,8 @@ pub struct Network<'a> {
     pub ladders: &'a [Vec<Rung>],
     /// How many slots stand on ladders. After them stands one for each zone, in order of the zones, or none.
     pub on_ladders: usize,
-    /// For each zone the places of the borders that meet it.
-    pub meeting: &'a [Vec<usize>],
+    /// For each zone the ways into it.
+    pub meeting: &'a [Vec<Way>],
 }
 
 /// For each zone the places of its slots and borders, which a network lends.
@@ -44,8 +55,8 @@ pub struct Places {
     pub ladders: Vec<Vec<Rung>>,
     /// How many slots stand on ladders: the first.
     pub on_ladders: usize,
-    /// For each zone the places of the borders that meet it.
-    pub meeting: Vec<Vec<usize>>,
+    /// For each zone the ways into it.
+    pub meeting: Vec<Vec<Way>>,
 }
 
 /// An empty list for each zone, with room for `room` items.
@@ -72,20 +83,43 @@ fn add_to<T: Drop>(lists: &mut Vec<Vec<T>>, zone: usize, item: T) -> Result<(), 
     Ok(())
 }
 
-/// For each zone the places of the borders that meet it.
+/// Where energy leaves for the border.
+fn tail(border: &Border, forth: bool) -> u32
+    ensures { result ≡ tail_of forth border.now }
+{
+    if forth { border.from } else { border.to }
+}
+
+/// The way over a border.
+fn way_over(borders: &[Border], border: usize, forth: bool) -> Way
+    requires { border < length borders.now }
+    ensures { result ≡ way_of borders.now border forth }
+{
+    Way {
+        from: tail(&borders[border], forth),
+        border,
+        forth,
+    }
+}
+
+/// For each zone the ways into it.
 fn meeting_borders(
     alloc: Global,
     borders: &[Border],
     zones: usize,
-) -> Result<Vec<Vec<usize>>, AllocError>
+) -> Result<Vec<Vec<Way>>, AllocError>
     requires ends { All (IsBetween zones) borders.now }
     ensures long { IfOk result (λ v. length v.items ≡ zones) }
     ensures meeting { IfOk result (λ v. (z : ℕ) (d : _) → z < zones → AreMeeting borders.now z (slice_index_or v.items z d).items) }
 {
     let mut meeting = empty_lists(alloc, zones, 8)?;
     for (i, border) in borders.iter().enumerate() {
-        add_to(&mut meeting, border.from as usize, i)?;
-        add_to(&mut meeting, border.to as usize, i)?;
+        add_to(
+            &mut meeting,
+            border.from as usize,
+            way_over(borders, i, false),
+        )?;
+        add_to(&mut meeting, border.to as usize, way_over(borders, i, true))?;
     }
     Ok(meeting)
 }
@@ -210,8 +244,8 @@ pub fn ladder_at<'a>(network: &'a Network, zone: usize) -> &'a [Rung]
     network.ladders[zone].as_slice()
 }
 
-/// The places of the borders that meet a zone.
-pub fn meeting_at<'a>(network: &'a Network, zone: u32) -> &'a [usize]
+/// The ways into a zone.
+pub fn meeting_at<'a>(network: &'a Network, zone: u32) -> &'a [Way]
     requires network { IsNetwork network.now }
     requires zone { zone < length network.now.meeting.now }
     ensures { AreMeeting network.now.borders.now zone result.now }

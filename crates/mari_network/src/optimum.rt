@@ -164,7 +164,8 @@ fn cut_from(alloc: Global, side: CutSide, prices: &[i64]) -> Result<Cut, AllocEr
     })
 }
 
-/// Reads the answer where no chain is left: where nothing stands in any more it is the optimum, and else a cut.
+/// Reads the answer where no chain is left: where nothing stands in any more it is the optimum, and else a cut. `worth`
+/// is what the amounts are worth together, in quarter-cents.
 pub fn answer(
     alloc: Global,
     market: &Market,

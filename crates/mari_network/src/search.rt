@@ -1,75 +1,61 @@
 //! The search for an improving chain, and for prices where there is none.
 
-ghost use Rattle.std.specs.Prelude.{◌≡◌, ℕ, ℤ, pos, ◌<ℤ◌, ◌+◌, ◌<◌, ◌≤◌, true, false, Bool, List, length, OnOk, IfOk, MatchOption};
+ghost use Rattle.std.specs.Prelude.{◌≡◌, ℕ, ℤ, pos, ◌<ℤ◌, ◌+◌, ◌<◌, ◌≤◌, true, false, not, Bool, List, length, count_by, OnOk, IfOk, MatchOption};
 ghost use Rattle.std.specs.List.{All, AllZip};
 ghost use Rattle.mari_market.specs.Activation.{IsWithinLimits};
 ghost use Rattle.mari_market.specs.Sums.{int_at};
-ghost use Rattle.mari_network.specs.Network.{border_at, IsNetwork, Runs};
+ghost use Rattle.mari_network.specs.Network.{border_at, IsNetwork, IsWay, Runs};
 ghost use Rattle.mari_market.specs.Market.{IsBetween};
-ghost use Rattle.mari_network.specs.Chain.{hop_at, hop_of, head_of, tail_of, room_of, IsImproving};
+ghost use Rattle.mari_network.specs.Chain.{hop_at, room_of, IsImproving};
 ghost use Rattle.mari_network.specs.Spread.{is_marked, IsSpread, AreClosed, MarkedInto, Keeps};
 ghost use Rattle.mari_network.specs.Margins.{AreMargins};
-ghost use Rattle.mari_network.specs.Searching.{AreTightPrices, IsFound};
+ghost use Rattle.mari_network.specs.Searching.{AreTightPrices, HasZones};
 
 use crate::chain::{Chain, Hop, room_over};
 use crate::margins::{Margin, cheapest, dearest};
-use crate::network::{Network, meeting_at};
+use crate::network::{Network, Way, meeting_at};
 use crate::slots::BEYOND;
 use mari_market::Border;
 use std::alloc::{AllocError, Global};
+use std::mem;
 
-/// What a search finds.
+/// What searches work on, kept from one to the next.
 #[derive(Drop)]
-pub enum Found {
-    /// A chain along which more welfare can be had.
-    Improving(Chain),
-    /// Tight prices, one for each zone, in cents per MWh: there is no such chain.
-    Tight(Vec<i64>),
+pub struct Search {
+    /// Whether each zone is marked.
+    pub marked: Vec<bool>,
+    /// The price of each zone, in cents per MWh. Where a search finds no chain they are tight.
+    pub prices: Vec<i64>,
+    /// Where hops are listed. A chain takes the list along, and may be asked for it back.
+    pub hops: Vec<Hop>,
 }
 
-/// Where energy leaves for the border.
-fn tail(border: &Border, forth: bool) -> u32
-    ensures { result ≡ tail_of forth border.now }
+/// What searches of a network with this number of zones work on.
+pub fn search_of(alloc: Global, zones: usize) -> Result<Search, AllocError>
+    ensures { IfOk result (HasZones zones) }
 {
-    if forth { border.from } else { border.to }
+    let marked = vec![in alloc; false; zones]?;
+    let prices = vec![in alloc; 0i64; zones]?;
+    let hops = Vec::with_capacity(alloc, zones)?;
+    Ok(Search {
+        marked,
+        prices,
+        hops,
+    })
 }
 
-/// Where it comes in.
-fn head(border: &Border, forth: bool) -> u32
-    ensures { result ≡ head_of forth border.now }
-{
-    if forth { border.to } else { border.from }
-}
-
-/// Whether energy can come over the border to the zone from one that is not marked.
-fn is_new(border: &Border, flow: i64, marked: &[bool], zone: u32, forth: bool) -> bool
-    requires flow { IsWithinLimits border.now flow }
-    requires tail { tail_of forth border.now < length marked.now }
-    ensures yes { result ≡ true → (is_marked marked.now (tail_of forth border.now) ≡ false) × (head_of forth border.now ≡ zone) × (pos 0 <ℤ room_of forth border.now flow) }
-    ensures no { result ≡ false → pos 0 <ℤ room_of forth border.now flow → head_of forth border.now ≡ zone → is_marked marked.now (tail_of forth border.now) ≡ true }
-{
-    if head(border, forth) != zone {
-        return false;
-    }
-    if marked[tail(border, forth) as usize] {
-        return false;
-    }
-    room_over(border, flow, forth) > 0
-}
-
-/// Marks the zone of a hop and adds the hop, where energy can come over its border from that zone and it is not
-/// marked.
+/// Marks the zone that a way leads from and adds a hop, where energy can come along the way and the zone is not marked.
 fn reach_over(
     borders: &[Border],
     flows: &[i64],
     marked: &mut [bool],
     hops: &mut Vec<Hop>,
-    hop: Hop,
+    way: Way,
+    before: usize,
 ) -> Result<(), AllocError>
-    // A hop from one that was found.
-    requires before { hop.before < length hops.old.items }
-    requires border { hop.border < length borders.now }
-    requires zone { hop.zone ≡ tail_of hop.forth (border_at borders.now hop.border) }
+    // A way into the zone of a hop that was found.
+    requires before { before < length hops.old.items }
+    requires way { IsWay borders.now (hop_at hops.old.items before).zone way }
 
     // Flows that may be, between zones that can be marked.
     requires flows { length flows.now ≡ length borders.now }
@@ -84,35 +70,23 @@ fn reach_over(
     ensures stay { (k : ℕ) → k < length hops.old.items → hop_at hops.new.items k ≡ hop_at hops.old.items k }
     ensures more { length hops.old.items ≤ length hops.new.items }
 
-    // By this border nothing comes from a zone that isn't marked.
-    ensures into { OnOk result (pos 0 <ℤ room_of hop.forth (border_at borders.now hop.border) (int_at flows.now hop.border) → head_of hop.forth (border_at borders.now hop.border) ≡ (hop_at hops.old.items hop.before).zone → is_marked marked.new hop.zone ≡ true) }
+    // Along this way nothing comes from a zone that isn't marked.
+    ensures into { OnOk result (pos 0 <ℤ room_of way.forth (border_at borders.now way.border) (int_at flows.now way.border) → is_marked marked.new way.from ≡ true) }
 {
-    let zone = hops[hop.before].zone;
-    if !is_new(
-        &borders[hop.border],
-        flows[hop.border],
-        marked,
-        zone,
-        hop.forth,
-    ) {
+    if marked[way.from as usize] {
         return Ok(());
     }
-    marked[hop.zone as usize] = true;
-    hops.push(hop)?;
-    Ok(())
-}
-
-/// The hop that leads over a border to an earlier one.
-fn hop_over(borders: &[Border], border: usize, forth: bool, before: usize) -> Hop
-    requires { border < length borders.now }
-    ensures { result ≡ hop_of borders.now border forth before }
-{
-    Hop {
-        zone: tail(&borders[border], forth),
-        border,
-        forth,
-        before,
+    if room_over(&borders[way.border], flows[way.border], way.forth) <= 0 {
+        return Ok(());
     }
+    marked[way.from as usize] = true;
+    hops.push(Hop {
+        zone: way.from,
+        border: way.border,
+        forth: way.forth,
+        before,
+    })?;
+    Ok(())
 }
 
 /// Marks the zones from which energy can come over one border to that of a hop.
@@ -128,7 +102,6 @@ fn look(
     requires marks { length marked.old ≡ length network.now.meeting.now }
     requires at { at < length hops.old.items }
     requires zone { (hop_at hops.old.items at).zone < length network.now.meeting.now }
-    requires marked { is_marked marked.old (hop_at hops.old.items at).zone ≡ true }
 
     // Flows that may be.
     requires flows { length flows.now ≡ length network.now.borders.now }
@@ -145,41 +118,40 @@ fn look(
     // By no border anything comes to its zone from one that isn't marked.
     ensures into { OnOk result (AllZip (MarkedInto marked.new (hop_at hops.old.items at).zone) network.now.borders.now flows.now) }
 {
-    let zone = hops[at].zone;
-    let places = meeting_at(network, zone);
-    let borders = network.borders;
-    for border in places {
-        let forth = borders[*border].to == zone;
-        let hop = hop_over(borders, *border, forth, at);
-        reach_over(borders, flows, marked, hops, hop)?;
+    let ways = meeting_at(network, hops[at].zone);
+    for way in ways {
+        reach_over(network.borders, flows, marked, hops, *way, at)?;
     }
     Ok(())
 }
 
-/// Marks the zones from which energy can come to one, and gives the chains by which it does.
+/// Marks the zones from which energy can come to one, and lists the hops by which it does. Of the zones so many are not
+/// marked yet.
 fn spread(
-    alloc: Global,
     network: &Network,
     flows: &[i64],
     marked: &mut [bool],
+    hops: &mut Vec<Hop>,
     start: u32,
-) -> Result<Vec<Hop>, AllocError>
+    left: usize,
+) -> Result<(), AllocError>
     // A zone to begin from.
     requires network { IsNetwork network.now }
     requires marks { length marked.old ≡ length network.now.meeting.now }
     requires start { start < length marked.old }
     requires fresh { is_marked marked.old start ≡ false }
+    requires left { left ≡ count_by not marked.old }
 
-    // Flows that may be, and marks that earlier searches left.
+    // Flows that may be, and marks that earlier levels left.
     requires flows { length flows.now ≡ length network.now.borders.now }
     requires limits { AllZip IsWithinLimits network.now.borders.now flows.now }
     requires closed { AreClosed network.now.borders.now flows.now marked.old }
 
-    // The chains, and marks as a next search needs them.
-    ensures spread { IfOk result (λ hops. IsSpread network.now.borders.now flows.now marked.old start marked.new hops.items) }
+    // The hops, and marks as a next level needs them.
+    ensures spread { OnOk result (IsSpread network.now.borders.now flows.now marked.old start marked.new hops.new.items) }
     ensures closed { OnOk result (AreClosed network.now.borders.now flows.now marked.new) }
 {
-    let mut hops = Vec::with_capacity(alloc, marked.len())?;
+    hops.clear();
     marked[start as usize] = true;
     hops.push(Hop {
         zone: start,
@@ -188,15 +160,26 @@ fn spread(
         before: 0,
     })?;
     let mut at = 0;
-    while at < hops.len() {
-        look(network, flows, marked, &mut hops, at)?;
+    while at < hops.len() && hops.len() < left {
+        look(network, flows, marked, hops, at)?;
         at += 1;
     }
-    Ok(hops)
+    Ok(())
+}
+
+/// Gives the zones of hops this price.
+fn level(prices: &mut [i64], hops: &[Hop], price: i64)
+    requires zones { (k : ℕ) → k < length hops.now → (hop_at hops.now k).zone < length prices.old }
+    ensures here { (k : ℕ) → k < length hops.now → int_at prices.new (hop_at hops.now k).zone ≡ price }
+    ensures others { (z : ℕ) → ((k : ℕ) → k < length hops.now → (hop_at hops.now k).zone ≡ z → ⊥) → int_at prices.new z ≡ int_at prices.old z }
+{
+    for hop in hops {
+        prices[hop.zone as usize] = price;
+    }
 }
 
 /// Gives each zone that is not marked this price.
-fn level(prices: &mut [i64], marked: &[bool], price: i64)
+fn level_rest(prices: &mut [i64], marked: &[bool], price: i64)
     requires { length prices.old ≡ length marked.now }
     ensures keep { (z : ℕ) → is_marked marked.now z ≡ true → int_at prices.new z ≡ int_at prices.old z }
     ensures level { (z : ℕ) → is_marked marked.now z ≡ false → z < length marked.now → int_at prices.new z ≡ price }
@@ -222,19 +205,28 @@ fn place_of_hop(hops: &[Hop], zone: u32) -> usize
     0
 }
 
+/// Takes all marks back.
+fn unmark(marked: &mut [bool])
+    ensures { (z : ℕ) → is_marked marked.new z ≡ false }
+{
+    for mark in marked.iter_mut() {
+        *mark = false;
+    }
+}
+
 /// An improving chain, or none, with prices that show it.
 ///
 /// The zones are marked in levels, the dearest slot that may put in less first: that slot's zone, and all zones from
 /// which energy can still be moved to it, have its price, and a cheaper slot of one of them that may put in more makes
 /// a chain. The zones that are left at the end have the least price of all.
 fn chain_by_levels(
-    alloc: Global,
     network: &Network,
     amounts: &[i64],
     flows: &[i64],
     margins: &[Margin],
     marked: &mut [bool],
     prices: &mut [i64],
+    mut hops: Vec<Hop>,
 ) -> Result<Option<Chain>, AllocError>
     // A network, what its slots and borders run at, and how far each slot may still go.
     requires network { IsNetwork network.now }
@@ -250,10 +242,10 @@ fn chain_by_levels(
     ensures { IfOk result (λ r. MatchOption r (AreTightPrices network.now amounts.now flows.now prices.new) (IsImproving network.now amounts.now flows.now)) }
 {
     let slots = network.slots;
+    let mut left = marked.len();
     while let Some(sink) = dearest(slots, margins, marked) {
         let slot = slots[sink];
-        level(prices, marked, slot.price);
-        let hops = spread(alloc, network, flows, marked, slot.zone)?;
+        spread(network, flows, marked, &mut hops, slot.zone, left)?;
         if let Some(source) = cheapest(slots, margins, marked, slot.price) {
             let at = place_of_hop(&hops, slots[source].zone);
             return Ok(Some(Chain {
@@ -263,37 +255,38 @@ fn chain_by_levels(
                 hops,
             }));
         }
+        level(prices, &hops, slot.price);
+        left -= hops.len();
     }
-    level(prices, marked, -BEYOND);
+    level_rest(prices, marked, -BEYOND);
     Ok(None)
 }
 
-/// An improving chain, or else prices that leave none.
+/// An improving chain, or none, where the prices that the search is left with are tight.
 pub fn find_chain(
     alloc: Global,
     network: &Network,
     amounts: &[i64],
     flows: &[i64],
     margins: &[Margin],
-) -> Result<Found, AllocError>
+    search: &mut Search,
+) -> Result<Option<Chain>, AllocError>
     requires network { IsNetwork network.now }
     requires margins { AreMargins network.now.slots.now amounts.now (length network.now.meeting.now) (length network.now.slots.now) margins.now }
     requires runs { Runs network.now amounts.now flows.now }
-    ensures { IfOk result (IsFound network.now amounts.now flows.now) }
+    requires search { HasZones (length network.now.meeting.now) search.old }
+    ensures found { IfOk result (λ r. MatchOption r (AreTightPrices network.now amounts.now flows.now search.new.prices.items) (IsImproving network.now amounts.now flows.now)) }
+    ensures search { HasZones (length network.now.meeting.now) search.new }
 {
-    let zones = network.meeting.len();
-    let mut marked = vec![in alloc; false; zones]?;
-    let mut prices = vec![in alloc; 0i64; zones]?;
-    match chain_by_levels(
-        alloc,
+    unmark(&mut search.marked);
+    let hops = mem::replace(&mut search.hops, Vec::new(alloc));
+    chain_by_levels(
         network,
         amounts,
         flows,
         margins,
-        &mut marked,
-        &mut prices,
-    )? {
-        Some(chain) => Ok(Found::Improving(chain)),
-        None => Ok(Found::Tight(prices)),
-    }
+        &mut search.marked,
+        &mut search.prices,
+        hops,
+    )
 }

@@ -23,7 +23,7 @@ use mari_units::MOST_MW;
 use mari_welfare::OpenGates;
 
 /// How many MW the order at this place runs.
-fn quantity(optimum: &Optimum, place: usize) -> u32
+pub(crate) fn quantity(optimum: &Optimum, place: usize) -> u32
     requires place { place < length optimum.now.amounts.items }
     requires small { quantity_at optimum.now place ≤ MOST_MW }
     ensures { result ≡ quantity_at optimum.now place }

@@ -4,6 +4,7 @@
 //! holds, and at a prefix that decides every gate it settles what that gate word has.
 #![tactic(auto)]
 
+mod bounds;
 mod gates;
 mod node;
 mod prices;

@@ -1,6 +1,6 @@
 //! What is found of one node of the search.
 
-ghost use Rattle.std.specs.Prelude.{◌≡◌, ◌<◌, Bool, List, Option, IfOk, IfErr, OnErr, is_some, length, true};
+ghost use Rattle.std.specs.Prelude.{◌≡◌, ◌<◌, Bool, List, Option, IfOk, IfErr, IfSome, OnErr, is_some, length, true};
 ghost use Rattle.mari_market.specs.declared.activation.Activation.{Activation as TheActivation};
 ghost use Rattle.mari_market.specs.Finding.{IsFinding, IsRelaxedFinding};
 ghost use Rattle.mari_market.specs.Market.{IsValid};
@@ -8,12 +8,12 @@ ghost use Rattle.mari_market.specs.Optimal.{IsAdmissible};
 ghost use Rattle.mari_market.specs.Prefix.{word_of, bounds_at, IsFeasiblePrefix};
 ghost use Rattle.mari_network.specs.Solving.{FitsOrders, NoneWithin, OfCut, IsFoundOptimum, IsWritten};
 ghost use Rattle.mari_node.specs.Nodes.{best_found, bound_found, conflict_found, left_by, IsEmptyWhereNone, IsInnerNode, IsLastNode, IsLeft, IsRelaxedOptimum, IsWrittenOf};
-ghost use Rattle.mari_paths.specs.Warm.{AreGated, IsWarmStart};
+ghost use Rattle.mari_paths.specs.Warm.{AreGated, AreOrderLadders, IsWarmStart};
 
 use crate::gates::keeps_gates;
-use crate::prices::priced;
+use crate::prices::contradiction_of;
 use mari_market::{Activation, Attained, Conflict, Finding, Market, Prefix, Prices, Relaxed};
-use mari_paths::{Optimum, SolveFault, Solved, WarmStart, gated_places, optimum_from};
+use mari_paths::{Optimum, Places, SolveFault, Solved, WarmStart, gated_places, optimum_from};
 use mari_units::{Items, Memory};
 use std::alloc::{AllocError, Global};
 
@@ -67,14 +67,17 @@ fn last_node(
     alloc: Global,
     market: &Market,
     gated: &[usize],
+    places: Option<&Places>,
     optimum: Optimum,
 ) -> Result<Relaxed, Memory>
     requires valid { IsValid market.now }
     requires gated { AreGated market.now gated.now }
+    requires ladders { IfSome places (λ p. AreOrderLadders market.now p.now) }
     requires optimum { (word : List Bool) × IsLastNode market.now word optimum }
     ensures { (word : List Bool) → IsLastNode market.now word optimum → IfOk result (IsRelaxedFinding market.now word) }
 {
-    let (solved, chain) = priced(alloc, market, gated, optimum)?;
+    let chain = contradiction_of(alloc, market, gated, places, &optimum)?;
+    let solved = optimum.solved(alloc, market)?;
     match chain {
         None => Ok(best_of(solved)),
         Some(chain) => Ok(conflict_by(solved, chain)?),
@@ -87,10 +90,12 @@ fn inner_node(
     alloc: Global,
     market: &Market,
     gated: &[usize],
+    places: Option<&Places>,
     optimum: Optimum,
 ) -> Result<Relaxed, Memory>
     requires valid { IsValid market.now }
     requires gated { AreGated market.now gated.now }
+    requires ladders { IfSome places (λ p. AreOrderLadders market.now p.now) }
     requires optimum { (word : List Bool) × IsInnerNode market.now word optimum }
     ensures finding { (word : List Bool) → IsInnerNode market.now word optimum → IfOk result (IsRelaxedFinding market.now word) }
     ensures best { (a : TheActivation) → IsWritten market.now optimum a → IsAdmissible market.now a → IfOk result (λ relaxed. is_some relaxed.best ≡ true) }
@@ -98,10 +103,9 @@ fn inner_node(
     if !keeps_gates(market, gated, &optimum) {
         return Ok(bound_alone(optimum.potentials, optimum.welfare));
     }
-    let (solved, chain) = priced(alloc, market, gated, optimum)?;
-    match chain {
-        None => Ok(best_of(solved)),
-        Some(_chain) => Ok(bound_alone(solved.potentials, solved.welfare)),
+    match contradiction_of(alloc, market, gated, places, &optimum)? {
+        None => Ok(best_of(optimum.solved(alloc, market)?)),
+        Some(_chain) => Ok(bound_alone(optimum.potentials, optimum.welfare)),
     }
 }
 
@@ -111,33 +115,38 @@ fn relaxed_node(
     market: &Market,
     prefix: &Prefix,
     gated: &[usize],
+    places: Option<&Places>,
     optimum: Optimum,
 ) -> Result<Relaxed, Memory>
     requires valid { IsValid market.now }
     requires prefix { IsFeasiblePrefix market.now prefix.now }
     requires gated { AreGated market.now gated.now }
+    requires ladders { IfSome places (λ p. AreOrderLadders market.now p.now) }
     requires optimum { IsRelaxedOptimum market.now (word_of prefix.now) optimum }
     ensures finding { IfOk result (IsRelaxedFinding market.now (word_of prefix.now)) }
     ensures best { (a : TheActivation) → IsWritten market.now optimum a → IsAdmissible market.now a → IfOk result (λ relaxed. length (word_of prefix.now) < length market.now.gates → is_some relaxed.best ≡ true) }
 {
     if prefix.length as usize == market.gates.as_slice().len() {
-        last_node(alloc, market, gated, optimum)
+        last_node(alloc, market, gated, places, optimum)
     } else {
-        inner_node(alloc, market, gated, optimum)
+        inner_node(alloc, market, gated, places, optimum)
     }
 }
 
-/// What is found of a prefix, by what the solver finds there. `gated` has the places of the orders of gates.
+/// What is found of a prefix, by what the solver finds there. `gated` has the places of the orders of gates, and `places`
+/// those of all orders by zone and price, where they are at hand.
 fn finding_by(
     alloc: Global,
     market: &Market,
     prefix: &Prefix,
     gated: &[usize],
+    places: Option<&Places>,
     found: Result<Optimum, SolveFault>,
 ) -> Result<Finding, Memory>
     requires valid { IsValid market.now }
     requires prefix { IsFeasiblePrefix market.now prefix.now }
     requires gated { AreGated market.now gated.now }
+    requires ladders { IfSome places (λ p. AreOrderLadders market.now p.now) }
     requires found { IsFoundOptimum (bounds_at market.now prefix.now) market.now found }
     requires empty { IfErr found (λ fault. OfCut fault (λ _. NoneWithin (bounds_at market.now prefix.now) market.now)) }
     ensures finding { IfOk result (IsFinding market.now (word_of prefix.now)) }
@@ -146,7 +155,7 @@ fn finding_by(
 {
     match found {
         Ok(optimum) => {
-            let relaxed = relaxed_node(alloc, market, prefix, gated, optimum)?;
+            let relaxed = relaxed_node(alloc, market, prefix, gated, places, optimum)?;
             Ok(Finding::Relaxed(relaxed))
         }
         Err(SolveFault::Cut(cut)) => Ok(Finding::Empty(cut)),
@@ -185,7 +194,7 @@ pub fn examine(alloc: Global, market: &Market, prefix: &Prefix) -> Result<Findin
 {
     let gated = gated_places(alloc, market)?;
     let found = optimum_from(alloc, market, prefix, None);
-    finding_by(alloc, market, prefix, &gated, found)
+    finding_by(alloc, market, prefix, &gated, None, found)
 }
 
 /// Examines one node of the search from an activation to start with, and leaves the relaxed optimum there.
@@ -209,7 +218,7 @@ pub fn examine_from(
     let gated = gated_places(alloc, market)?;
     let found = optimum_from(alloc, market, prefix, start.as_ref());
     let optimum = activation_of(alloc, market, &found)?;
-    let finding = finding_by(alloc, market, prefix, &gated, found)?;
+    let finding = finding_by(alloc, market, prefix, &gated, None, found)?;
     if optimum.is_some() {
         *start = optimum;
     }
@@ -232,5 +241,6 @@ pub fn examine_warm(
     ensures empty { IfOk result (IsEmptyWhereNone market.now (word_of prefix.now)) }
 {
     let found = warm.optimum(alloc, market, prefix);
-    finding_by(alloc, market, prefix, warm.gated(), found)
+    let (gated, places) = (warm.gated(), warm.places());
+    finding_by(alloc, market, prefix, gated, Some(places), found)
 }

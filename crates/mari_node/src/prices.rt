@@ -1,9 +1,9 @@
 //! Whether some prices are consistent with an optimum whose activation is feasible.
 //!
 //! The optimum's own potentials mostly are: they are tight, so only an order of a gate that is open could lose at them.
-//! Where one does, `contradiction` decides.
+//! Where one does, `mari_prices` decides by the bounds that orders set.
 
-ghost use Rattle.std.specs.Prelude.{◌↔◌, ◌<◌, Bool, IfOk, IsTrue, List, MatchOption, length};
+ghost use Rattle.std.specs.Prelude.{◌↔◌, ◌<◌, Bool, IfOk, IfSome, IsTrue, List, MatchOption, length};
 ghost use Rattle.std.specs.List.{All};
 ghost use Rattle.mari_market.specs.declared.activation.Activation.{Activation as TheActivation};
 ghost use Rattle.mari_market.specs.Conflict.{IsContradictoryChain};
@@ -12,15 +12,16 @@ ghost use Rattle.mari_market.specs.Optimal.{IsAdmissible, IsFeasible};
 ghost use Rattle.mari_market.specs.Price.{ArePrices};
 ghost use Rattle.mari_market.specs.Sums.{int_at};
 ghost use Rattle.mari_network.specs.Solving.{FitsOrders, IsWritten};
-ghost use Rattle.mari_node.specs.Nodes.{IsRelaxedOptimum, IsSolvedAs};
+ghost use Rattle.mari_node.specs.Nodes.{IsRelaxedOptimum};
 ghost use Rattle.mari_node.specs.Paid.{IsPaid, IsPaidAt};
-ghost use Rattle.mari_paths.specs.Warm.{AreGated};
+ghost use Rattle.mari_paths.specs.Warm.{AreGated, AreOrderLadders};
 
+use crate::bounds::bounds_from;
 use mari_market::{Market, Order};
-use mari_paths::{Optimum, Solved};
-use mari_prices::contradiction;
-use mari_units::{Cents, Items, Memory};
-use std::alloc::Global;
+use mari_paths::{Optimum, Places};
+use mari_prices::{contradiction, contradiction_between};
+use mari_units::{Cents, Items};
+use std::alloc::{AllocError, Global};
 
 /// Whether an order that puts in this amount doesn't lose at this price: it isn't paid less for what it gives, and
 /// doesn't pay more for what it takes.
@@ -54,29 +55,41 @@ fn none_loses(market: &Market, gated: &[usize], optimum: &Optimum) -> bool
     true
 }
 
-/// An optimum whose activation is feasible, with that; and the chain that shows that no prices are consistent with it,
-/// where none are. `gated` has the places of the orders of gates.
-pub(crate) fn priced(
+/// The chain of zones that shows that no prices are consistent with the activation that an optimum is written as, where
+/// none are.
+///
+/// `gated` has the places of the orders of gates, and `places` those of all orders by zone and price, where they are at
+/// hand. With them no activation is written.
+pub(crate) fn contradiction_of(
     alloc: Global,
     market: &Market,
     gated: &[usize],
-    optimum: Optimum,
-) -> Result<(Solved, Option<Items<u32>>), Memory>
-    // The relaxed optimum of some word, which keeps the gates.
+    places: Option<&Places>,
+    optimum: &Optimum,
+) -> Result<Option<Items<u32>>, AllocError>
+    // The market, and the places of its orders.
     requires valid { IsValid market.now }
     requires gated { AreGated market.now gated.now }
-    requires optimum { (word : List Bool) × IsRelaxedOptimum market.now word optimum }
-    requires feasible { (a : TheActivation) → IsWritten market.now optimum a → IsFeasible market.now a }
+    requires ladders { IfSome places (λ p. AreOrderLadders market.now p.now) }
 
-    // The same with its activation, and whether that is admissible.
-    ensures solved { IfOk result (λ r. IsSolvedAs market.now optimum r.0) }
-    ensures chain { IfOk result (λ r. MatchOption r.1 (IsAdmissible market.now r.0.activation) (IsContradictoryChain market.now r.0.activation)) }
+    // The relaxed optimum of some word, which keeps the gates.
+    requires optimum { (word : List Bool) × IsRelaxedOptimum market.now word optimum.now }
+    requires feasible { (a : TheActivation) → IsWritten market.now optimum.now a → IsFeasible market.now a }
+
+    // Whether its activation is admissible.
+    ensures { (a : TheActivation) → IsWritten market.now optimum.now a → IfOk result (λ chain. MatchOption chain (IsAdmissible market.now a) (IsContradictoryChain market.now a)) }
 {
-    let paid = none_loses(market, gated, &optimum);
-    let solved = optimum.solved(alloc, market)?;
-    if paid {
-        return Ok((solved, None));
+    if none_loses(market, gated, optimum) {
+        return Ok(None);
     }
-    let chain = contradiction(alloc, market, &solved.activation)?;
-    Ok((solved, chain))
+    match places {
+        Some(places) => {
+            let bounds = bounds_from(alloc, market, places, gated, optimum)?;
+            contradiction_between(alloc, market, &optimum.flows, &bounds)
+        }
+        None => {
+            let activation = optimum.activation(alloc, market)?;
+            contradiction(alloc, market, &activation)
+        }
+    }
 }

@@ -1,25 +1,66 @@
--- What runs at one price lies within the slots, and is small.
-use Rattle.std.proofs.Common.{Bool, true, false, ℤ, List, [], ◌∷◌, map, arith}
+-- What runs by supply curves lies within the slots, and ladders stay where what stands in is added.
+use Rattle.std.proofs.Common.{◌≡◌, ℕ, ◌+◌, ◌<◌, ◌≤◌, ℤ, pos, ◌+ℤ◌, ◌≤ℤ◌, List, length, take, get_or, arith, ap, sym, ◌∙◌, subst, Vec, Global, get_or-take}
 use Rattle.std.proofs.lemmas.Int.{ints}
 use Rattle.std.specs.List.{All, AllZip}
-use Rattle.std.proofs.lemmas.List.Elements.{All-head, All-tail}
-use lib.Signed.{lt_z}
+use Rattle.mari_market.specs.declared.market.Border.{Border}
 use Rattle.mari_network.specs.declared.slots.Slot.{Slot}
-use Rattle.mari_network.specs.Slots.{IsSmallSlot, IsWithinSlot}
-use Rattle.mari_paths.specs.Merit.{run_if, run_at}
-use Rattle.mari_paths.specs.Starts.{IsInOrder, IsNear}
+use Rattle.mari_network.specs.declared.network.Places.{Places}
+use Rattle.mari_network.specs.Network.{ArePlaces, AreInOrder}
+use Rattle.mari_market.specs.declared.market.Market.{Market}
+use Rattle.mari_network.specs.Orders.{AreOrderSlots, IsOrderSlot}
+use Rattle.mari_paths.specs.Starts.{AreFilled}
+use Rattle.mari_paths.proofs.Starts.{filled_in_order}
+use Rattle.mari_network.specs.Slots.{no_slot, slot_at, zone_of, price_of, IsWithinSlot}
+use Rattle.mari_network.proofs.Rungs.{ladder_stays}
+use Rattle.mari_paths.specs.Merit.{AreLadders, IsOrderRange, IsReach}
+use Rattle.mari_paths.specs.declared.merit.Reach.{Reach}
 
-runs_near : (b : Bool) (s : Slot) → IsInOrder s → IsSmallSlot s → IsNear 1099511627776 (run_if b s)
-runs_near true s o m = record { low = omega (arith, ints, o, m.low); high = m.high }
-runs_near false s o m = record { low = m.low; high = omega (arith, ints, o, m.high) }
+-- the slots of orders have small numbers
+pub order_ranges : (zones : ℕ) (slots : List Slot) → All (IsOrderSlot zones) slots → All IsOrderRange slots
+order_ranges zones slots a k d l = let s = a k d l in record { low = s.low; in_order = s.in_order; high = s.high }
 
-pub run_near : (p : ℤ) (s : Slot) → IsInOrder s → IsSmallSlot s → IsNear 1099511627776 (run_at p s)
-run_near p s o m = runs_near (lt_z s.price p) s o m
+-- so much more than its least a slot may put in
+pub raised_within : (s : Slot) (part x : ℤ) → pos 0 ≤ℤ part → (s.low +ℤ part) ≤ℤ s.high → x ≡ s.low +ℤ part → IsWithinSlot s x
+raised_within s part x low high e = record { least = omega (arith, ints, low, e); most = omega (arith, ints, high, e) }
 
-runs_within : (b : Bool) (s : Slot) → IsInOrder s → IsWithinSlot s (run_if b s)
-runs_within true s o = record { least = o; most = omega (arith, ints) }
-runs_within false s o = record { least = omega (arith, ints); most = o }
+pub least_within : (s : Slot) → IsOrderRange s → IsWithinSlot s s.low
+least_within s r = record { least = omega (arith, ints); most = r.in_order }
 
-pub all_within : (p : ℤ) (slots : List Slot) → All IsInOrder slots → AllZip IsWithinSlot slots (map (run_at p) slots)
-all_within p [] a = tt
-all_within p (s ∷ ss) a = (runs_within (lt_z s.price p) s (All-head IsInOrder s ss a), all_within p ss (All-tail IsInOrder s ss a))
+-- rungs are of slots that there are
+pub ladders_there : (zones : ℕ) (slots : List Slot) (bs : List Border) (p : Places) → ArePlaces zones slots bs p → AreLadders slots p.ladders.items
+ladders_there zones slots bs p a z v l k d m = omega (arith, (a.ladders z v (omega (arith, a.ladders_long, l))).rungs.there k d m, a.few)
+
+-- places stay where slots are added after those on ladders
+pub places_grow : (zones : ℕ) (before after : List Slot) (bs : List Border) (p : Places) → length before ≤ length after → ((k : ℕ) → k < p.on_ladders → slot_at after k ≡ slot_at before k) → AreInOrder p.on_ladders after
+    → ArePlaces zones before bs p → ArePlaces zones after bs p
+places_grow zones before after bs p long same order a = record {
+  ladders_long = a.ladders_long;
+  meeting_long = a.meeting_long;
+  few = omega (arith, a.few, long);
+  stand_ins = order;
+  ladders = λ z v l. ladder_stays before after p.on_ladders z (get_or p.ladders.items z v).items (λ k m. ap (λ (s : Slot). s.zone) (same k m)) (λ k m. ap (λ (s : Slot). s.price) (same k m)) (a.ladders z v l);
+  meeting = a.meeting;
+}
+
+-- the first slots are those that were there
+pub first_slots : (n k : ℕ) (reals slots : List Slot) → take n slots ≡ reals → k < n → slot_at slots k ≡ slot_at reals k
+first_slots n k reals slots e l = sym (get_or-take n slots k no_slot l) ∙ ap (λ (ss : List Slot). slot_at ss k) e
+
+pub reach_wider : (m n : ℕ) (r : Reach) → m ≤ n → IsReach m r → IsReach n r
+reach_wider m n r l a = record { out = (a.out.0, omega (arith, ints, l, a.out.1)); into = (a.into.0, omega (arith, ints, l, a.into.1)) }
+
+pub reaches_wider : (m n : ℕ) (rs : List Reach) → m ≤ n → All (IsReach m) rs → All (IsReach n) rs
+reaches_wider m n rs l a k d h = reach_wider m n (get_or rs k d) l (a k d h)
+
+pub reach_more : (m : ℕ) (r s : Reach) (out into : ℕ) → out ≤ 200000 → into ≤ 200000 → s.out ≡ r.out +ℤ pos out → s.into ≡ r.into +ℤ pos into → IsReach m r → IsReach (m + 200000) s
+reach_more m r s out into a b e f h = record {
+  out = (omega (arith, ints, e, h.out.0), omega (arith, ints, a, e, h.out.1));
+  into = (omega (arith, ints, f, h.into.0), omega (arith, ints, b, f, h.into.1));
+}
+
+-- the places of the orders' slots are those of all slots that are filled
+pub started_places : (m : Market) (reals slots : List Slot) (xs : List ℤ) (p : Places) → AreOrderSlots m.zones m.orders reals → take (length m.orders) slots ≡ reals → AreFilled m slots xs → p.on_ladders ≡ length m.orders
+    → ArePlaces m.zones reals m.borders p → ArePlaces m.zones slots m.borders p
+started_places m reals slots xs p fine e filled on a =
+    places_grow m.zones reals slots m.borders p (omega (arith, fine.long, filled.long)) (λ k l. first_slots (length m.orders) k reals slots e (omega (arith, l, on)))
+    (subst (λ (n : ℕ). AreInOrder n slots) (sym on) (filled_in_order m slots xs filled)) a

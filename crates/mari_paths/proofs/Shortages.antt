@@ -11,7 +11,7 @@ use Rattle.mari_network.specs.declared.slots.Slot.{Slot}
 use Rattle.mari_market.specs.Sums.{int_at}
 use Rattle.mari_network.specs.Slots.{no_slot, at_zone, IsWithinSlot}
 use Rattle.mari_network.specs.Orders.{IsOrderSlot}
-use Rattle.mari_network.specs.Network.{no_border}
+use Rattle.mari_network.specs.Network.{no_border, border_at}
 use Rattle.mari_paths.specs.Starts.{IsNear, AreSmallLimits}
 
 yes_zone : (k z : ℕ) (a b : ℤ) → z ≡ k → (if k == z then a else b) ≡ a
@@ -64,11 +64,12 @@ small_amount n slots xs i a w l =
     let x = AllZip-at IsWithinSlot slots xs i no_slot (pos 0) l w in
     record { low = omega (arith, ints, s.low, x.least); high = omega (arith, ints, s.high, x.most) }
 
+-- a flow within small limits is small
+pub within_near : (b : Border) (f : ℤ) → AreSmallLimits b → IsWithinLimits b f → IsNear 200000 f
+within_near b f a w = record { low = omega (arith, ints, a.1, w.back); high = omega (arith, ints, a.0, w.limit) }
+
 pub small_flow : (bs : List Border) (fs : List ℤ) (i : ℕ) → All AreSmallLimits bs → AllZip IsWithinLimits bs fs → i < length bs → IsNear 200000 (int_at fs i)
-small_flow bs fs i a w l =
-    let b = a i no_border l in
-    let f = AllZip-at IsWithinLimits bs fs i no_border (pos 0) l w in
-    record { low = omega (arith, ints, b.1, f.back); high = omega (arith, ints, b.0, f.limit) }
+small_flow bs fs i a w l = within_near (border_at bs i) (int_at fs i) (a i no_border l) (AllZip-at IsWithinLimits bs fs i no_border (pos 0) l w)
 
 pub near_wider : (m k : ℕ) (x : ℤ) → IsNear m x → m ≤ k → IsNear k x
 near_wider m k x n l = record { low = omega (arith, ints, n.low); high = omega (arith, ints, n.high) }

@@ -1,5 +1,5 @@
 -- What the nodes of one search start from.
-use Rattle.std.specs.Prelude.{◌≡◌, ℕ, ◌<◌, ◌≤◌, false, true, is_some, None, List, length}
+use Rattle.std.specs.Prelude.{◌≡◌, ℕ, ◌<◌, ◌≤◌, false, true, is_some, None, List, length, slice_index_or}
 use Rattle.std.specs.List.{All, AllZip, Contains}
 use Rattle.mari_market.specs.declared.market.Market.{Market}
 use Rattle.mari_market.specs.declared.market.Order.{Order}
@@ -7,7 +7,9 @@ use Rattle.mari_market.specs.Activation.{IsWithinLimits}
 use Rattle.mari_market.specs.Bounds.{Span, Free, span_of}
 use Rattle.mari_market.specs.Sums.{sum_along}
 use Rattle.mari_network.specs.Margins.{AreMarginsOfThese}
-use Rattle.mari_network.specs.Network.{ArePlaces}
+use Rattle.mari_network.specs.declared.network.Places.{Places}
+use Rattle.mari_network.specs.declared.network.Rung.{Rung}
+use Rattle.mari_network.specs.Network.{ArePlaces, IsRising}
 use Rattle.mari_network.specs.Orders.{slot_of}
 use Rattle.mari_network.specs.Slots.{price_of, slot_at, slot_gain, zone_of}
 use Rattle.mari_paths.specs.declared.warm.WarmStart.{WarmStart}
@@ -43,3 +45,16 @@ pub record IsWarmStart (m : Market) (w : WarmStart) : Type 0 where
   pub prices : (k : ℕ) → k < length m.orders → price_of w.slots.items k ≡ (order_at m k).price.0
   pub gated : AreGated m w.gated.items
   pub plain : (k : ℕ) → IsPlain m k → slot_at w.slots.items k ≡ slot_of (plain_span (order_at m k)) (order_at m k)
+
+-- the ladder of a zone's orders: the price and the place of each, the cheapest first
+pub record IsOrderLadder (m : Market) (z : ℕ) (ladder : List Rung) : Type 0 where
+  pub there : All (λ r. r.place < length m.orders) ladder
+  pub zone : All (λ r. (order_at m r.place).zone ≡ z) ladder
+  pub price : All (λ r. r.price ≡ (order_at m r.place).price.0) ladder
+  pub all : (k : ℕ) → k < length m.orders → (order_at m k).zone ≡ z → Contains ladder (record { price = (order_at m k).price.0; place = k })
+  pub rising : IsRising ladder
+
+-- for each zone the ladder of its orders
+pub record AreOrderLadders (m : Market) (p : Places) : Type 0 where
+  pub one_each : length p.ladders.items ≡ m.zones
+  pub each : (z : ℕ) (v : _) → z < m.zones → IsOrderLadder m z (slice_index_or p.ladders.items z v).items

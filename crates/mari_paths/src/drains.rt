@@ -1,6 +1,6 @@
 //! Improving along the hops of one search while they have room.
 
-ghost use Rattle.std.specs.Prelude.{◌≡◌, ◌<◌, ◌<ℤ◌, true, ℕ, pos, length, Some, IfSome};
+ghost use Rattle.std.specs.Prelude.{◌≡◌, ◌<◌, ◌<ℤ◌, true, ℕ, pos, length, Some, IfSome, MatchOption};
 ghost use Rattle.std.specs.List.{AllZip};
 ghost use Rattle.mari_market.specs.Sums.{sum_along};
 ghost use Rattle.mari_market.specs.Activation.{IsWithinLimits};
@@ -8,7 +8,7 @@ ghost use Rattle.mari_network.specs.Chain.{hop_at, HasRoom, IsImproving};
 ghost use Rattle.mari_paths.specs.Drains.{AreHops, AreEnds};
 ghost use Rattle.mari_network.specs.Margins.{dearest_at, cheapest_at, AreMargins};
 ghost use Rattle.mari_network.specs.Network.{IsNetwork, Runs};
-ghost use Rattle.mari_network.specs.Slots.{slot_gain};
+ghost use Rattle.mari_network.specs.Slots.{price_of, slot_gain};
 
 use mari_network::{Chain, Hop, Margin, Network, Slot, has_room, improve, renew};
 
@@ -43,6 +43,18 @@ fn cheapest_end(slots: &[Slot], margins: &[Margin], hops: &[Hop], sink: usize) -
     best
 }
 
+/// Whether there is a slot that costs less than another.
+fn is_cheaper(slots: &[Slot], source: Option<usize>, sink: usize) -> bool
+    requires source { IfSome source (λ i. i < length slots.now) }
+    requires sink { sink < length slots.now }
+    ensures { result ≡ true → MatchOption source ⊥ (λ i. price_of slots.now i <ℤ price_of slots.now sink) }
+{
+    match source {
+        Some(slot) => slots[slot].price < slots[sink].price,
+        None => false,
+    }
+}
+
 /// The ends of another improving chain along the same hops, whose sink has this price or lies in its source's zone.
 fn next_ends(
     network: &Network,
@@ -66,9 +78,15 @@ fn next_ends(
     ensures sink { IfSome result (λ e. dearest_at margins.now (hop_at hops.now 0).zone ≡ Some e.sink) }
     ensures room { IfSome result (λ e. HasRoom network.now.borders.now flows.now hops.now (pos 1) e.at) }
 {
-    let sink = margins[hops[0].zone as usize].dearest?;
+    let first = margins[hops[0].zone as usize];
+    let sink = first.dearest?;
+    let same_price = network.slots[sink].price == price;
+    // To a sink of another price energy goes on from its own zone alone.
+    if !same_price && !is_cheaper(network.slots, first.cheapest, sink) {
+        return None;
+    }
     let ends = cheapest_end(network.slots, margins, hops, sink)?;
-    let goes_on = ends.at == 0 || network.slots[sink].price == price;
+    let goes_on = ends.at == 0 || same_price;
     if goes_on && has_room(network.borders, flows, hops, ends.at) {
         Some(ends)
     } else {

@@ -8,6 +8,7 @@
 #![tactic(auto)]
 
 mod changes;
+mod curves;
 mod drains;
 mod margins;
 mod merit;
@@ -16,6 +17,6 @@ mod run;
 mod start;
 mod warm;
 
-pub use mari_network::{Optimum, SolveFault, Solved};
+pub use mari_network::{Optimum, Places, SolveFault, Solved};
 pub use optimum::{optimum_from, solve_from};
 pub use warm::{WarmStart, gated_places};

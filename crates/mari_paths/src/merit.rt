@@ -1,71 +1,157 @@
-//! What runs at one price for the whole market, from which a solve without an activation starts.
+//! What runs where no activation is given: in each zone the slots that cost less than one price for the whole market,
+//! or more or fewer of them where its borders can't carry what that leaves over or lacks.
+//!
+//! The clauses say that what runs lies within the slots. No clause says how good it is, and no promise rests on it.
 
-ghost use Rattle.std.specs.Prelude.{◌≡◌, ◌≤◌, length, map, IfOk};
-ghost use Rattle.std.specs.List.{All};
-ghost use Rattle.mari_market.specs.Sums.{int_sum};
-ghost use Rattle.mari_network.specs.Slots.{IsSmallSlot};
-ghost use Rattle.mari_paths.specs.Merit.{run_at, IsBalancing};
-ghost use Rattle.mari_paths.specs.Starts.{IsInOrder};
+ghost use Rattle.std.specs.Prelude.{◌<◌, ◌≤◌, ◌≡◌, ◌+◌, ◌+ℤ◌, ◌≤ℤ◌, ℕ, pos, length, IfOk};
+ghost use Rattle.std.specs.List.{All, AllZip};
+ghost use Rattle.mari_market.specs.Market.{IsBetween, IsValid};
+ghost use Rattle.mari_network.specs.Slots.{IsWithinSlot};
+ghost use Rattle.mari_paths.specs.Merit.{most_carried, AreLadders, IsCurve, IsOrderRange, IsReach};
+ghost use Rattle.mari_paths.specs.Starts.{AreSmallLimits};
 
-use mari_market::MOST_ORDERS;
-use mari_network::{BEYOND, Slot};
+use crate::curves::{Curve, balancing_price, curve_of, supply_at};
+use mari_market::{Border, Market};
+use mari_network::{Rung, Slot};
+use mari_units::MOST_BORDERS;
 use std::alloc::{AllocError, Global};
 
-/// What a slot puts in at a price: its greatest where it is cheaper, and else its least.
-fn amount_at_price(slot: &Slot, price: i64) -> i64
-    ensures { result ≡ run_at price slot.now }
+/// What a zone's borders can carry out of it and into it, together, in MW.
+#[derive(Clone, Copy, Drop)]
+pub struct Reach {
+    /// Out of it.
+    pub out: i64,
+    /// Into it.
+    pub into: i64,
+}
+
+/// Adds what one border can carry out of a zone and into it.
+fn widen(reaches: &mut [Reach], zone: usize, out: u32, into: u32)
+    requires zone { zone < length reaches.old }
+    requires out { out ≤ 200000 }
+    requires into { into ≤ 200000 }
+    requires before { All (IsReach most_carried) reaches.old }
+    ensures { (most : ℕ) → All (IsReach most) reaches.old → All (IsReach (most + 200000)) reaches.new }
 {
-    if slot.price < price {
-        slot.high
-    } else {
-        slot.low
+    let now = reaches[zone];
+    reaches[zone] = Reach {
+        out: now.out + i64::from(out),
+        into: now.into + i64::from(into),
+    };
+}
+
+/// Adds what borders can carry out of each zone and into it.
+fn widen_all(reaches: &mut [Reach], borders: &[Border])
+    requires few { length borders.now ≤ MOST_BORDERS }
+    requires ends { All (IsBetween (length reaches.old)) borders.now }
+    requires limits { All AreSmallLimits borders.now }
+    requires none { All (IsReach 0) reaches.old }
+    ensures { All (IsReach most_carried) reaches.new }
+{
+    for border in borders {
+        widen(reaches, border.from as usize, border.limit, border.back);
+        widen(reaches, border.to as usize, border.back, border.limit);
     }
 }
 
-/// What slots put in at a price, together.
-fn put_in_at(slots: &[Slot], price: i64) -> i64
-    requires few { length slots.now ≤ MOST_ORDERS }
-    requires order { All IsInOrder slots.now }
-    requires small { All IsSmallSlot slots.now }
-    ensures { result ≡ int_sum (run_at price) slots.now }
+/// What the borders of each zone can carry out of it and into it.
+fn reaches_of(alloc: Global, market: &Market) -> Result<Vec<Reach>, AllocError>
+    requires { IsValid market.now }
+    ensures long { IfOk result (λ v. length v.items ≡ market.now.zones) }
+    ensures reaches { IfOk result (λ v. All (IsReach most_carried) v.items) }
 {
-    let mut total = 0;
-    for slot in slots {
-        total += amount_at_price(slot, price);
-    }
-    total
+    let none = Reach { out: 0, into: 0 };
+    let mut reaches = vec![in alloc; none; market.zones as usize]?;
+    widen_all(&mut reaches, market.borders.as_slice());
+    Ok(reaches)
 }
 
-/// The price at which slots put in no more than they take, and a cent above it more, if there is one.
-pub fn balancing_price(slots: &[Slot]) -> i64
-    requires few { length slots.now ≤ MOST_ORDERS }
-    requires order { All IsInOrder slots.now }
-    requires small { All IsSmallSlot slots.now }
-    ensures { IsBalancing slots.now result }
+/// How much more than their least a zone's slots are to put in at a price, as far as borders can carry what that leaves
+/// over or lacks.
+fn more_at(curve: &Curve, reach: Reach, price: i64) -> i64
+    requires curve { IsCurve curve.now }
+    requires reach { IsReach most_carried reach }
 {
-    let mut price = -BEYOND;
-    // How far it is from there to the greatest price.
-    let mut width = 2 * BEYOND as u32;
-    while width > 1 {
-        let half = width / 2;
-        let middle = price + i64::from(half);
-        if put_in_at(slots, middle) > 0 {
-            width = half;
-        } else {
-            price = middle;
-            width -= half;
-        }
-    }
-    price
+    supply_at(curve, price).clamp(-reach.into, reach.out) - curve.least
 }
 
-/// What each slot puts in at a price.
-pub fn amounts_at(alloc: Global, slots: &[Slot], price: i64) -> Result<Vec<i64>, AllocError>
-    ensures { IfOk result (λ v. v.items ≡ map (run_at price) slots.now) }
+/// The supply curve of each zone.
+fn curves_of(alloc: Global, slots: &[Slot], ladders: &[Vec<Rung>]) -> Result<Vec<Curve>, AllocError>
+    requires slots { All IsOrderRange slots.now }
+    requires ladders { AreLadders slots.now ladders.now }
+    ensures long { IfOk result (λ v. length v.items ≡ length ladders.now) }
+    ensures curves { IfOk result (λ v. All IsCurve v.items) }
+{
+    let mut curves = Vec::with_capacity(alloc, ladders.len())?;
+    for ladder in ladders {
+        curves.push(curve_of(alloc, slots, ladder.as_slice())?)?;
+    }
+    Ok(curves)
+}
+
+/// The least of each slot.
+fn least_amounts(alloc: Global, slots: &[Slot]) -> Result<Vec<i64>, AllocError>
+    requires slots { All IsOrderRange slots.now }
+    ensures within { IfOk result (λ v. AllZip IsWithinSlot slots.now v.items) }
 {
     let mut amounts = Vec::with_capacity(alloc, slots.len())?;
     for slot in slots {
-        amounts.push(amount_at_price(slot, price))?;
+        amounts.push(slot.low)?;
+    }
+    Ok(amounts)
+}
+
+/// How much more than its least a slot may put in, of what is left.
+fn part_of(slot: Slot, left: i64) -> i64
+    requires range { IsOrderRange slot }
+    requires left { pos 0 ≤ℤ left }
+    ensures some { pos 0 ≤ℤ result }
+    ensures left { result ≤ℤ left }
+    ensures within { IsWithinSlot slot (slot.low +ℤ result) }
+{
+    left.min(slot.high - slot.low)
+}
+
+/// Lets the cheapest slots of a ladder put in so much more than their least, together.
+fn run_cheapest(slots: &[Slot], ladder: &[Rung], more: i64, amounts: &mut [i64])
+    requires slots { All IsOrderRange slots.now }
+    requires there { All (λ r. r.place < length slots.now) ladder.now }
+    requires within { AllZip IsWithinSlot slots.now amounts.old }
+    ensures within { AllZip IsWithinSlot slots.now amounts.new }
+{
+    let mut left = more;
+    for rung in ladder {
+        if left <= 0 {
+            return;
+        }
+        let slot = slots[rung.place];
+        let part = part_of(slot, left);
+        amounts[rung.place] = slot.low + part;
+        left -= part;
+    }
+}
+
+/// What the slots of a market's orders put in at one price, as far as its borders can carry what that leaves over or
+/// lacks in a zone.
+pub fn amounts_by_price(
+    alloc: Global,
+    market: &Market,
+    slots: &[Slot],
+    ladders: &[Vec<Rung>],
+) -> Result<Vec<i64>, AllocError>
+    requires market { IsValid market.now }
+    requires slots { All IsOrderRange slots.now }
+    requires long { length ladders.now ≡ market.now.zones }
+    requires ladders { AreLadders slots.now ladders.now }
+    ensures { IfOk result (λ v. AllZip IsWithinSlot slots.now v.items) }
+{
+    let curves = curves_of(alloc, slots, ladders)?;
+    let price = balancing_price(&curves);
+    let reaches = reaches_of(alloc, market)?;
+    let mut amounts = least_amounts(alloc, slots)?;
+    for (zone, curve) in curves.iter().enumerate() {
+        let more = more_at(curve, reaches[zone], price);
+        run_cheapest(slots, &ladders[zone], more, &mut amounts);
     }
     Ok(amounts)
 }

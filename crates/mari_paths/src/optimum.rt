@@ -17,7 +17,7 @@ ghost use Rattle.mari_network.specs.declared.slots.Slot.{Slot};
 ghost use Rattle.mari_network.specs.Fits.{IsNetworkSlot};
 ghost use Rattle.mari_network.specs.Orders.{slots_of, CanPut, AreOrderSlots};
 ghost use Rattle.mari_network.specs.Margins.{AreMargins};
-ghost use Rattle.mari_network.specs.Network.{AreInOrder, IsNetwork, Runs};
+ghost use Rattle.mari_network.specs.Network.{ArePlaces, IsNetwork, Runs};
 ghost use Rattle.mari_network.specs.Slots.{slot_gain, IsRunning};
 ghost use Rattle.mari_network.specs.Solving.{NoneWithin, OfCut, IsFoundOptimum, IsNetworkOf, AreSlotsOf};
 
@@ -25,7 +25,7 @@ use crate::run::run;
 use crate::start::start_from;
 use mari_market::{Activation, Market, Prefix};
 use mari_network::{
-    Margin, Network, Optimum, Slot, SolveFault, Solved, answer, margins_of, network_of,
+    Margin, Network, Optimum, Places, Slot, SolveFault, Solved, answer, margins_of, network_of,
     order_slots, places_of, worth_of,
 };
 use std::alloc::Global;
@@ -71,20 +71,19 @@ fn solve_slots(
     alloc: Global,
     market: &Market,
     slots: &[Slot],
+    places: &Places,
     amounts: Vec<i64>,
     flows: Vec<i64>,
 ) -> Result<Optimum, SolveFault>
     requires market { IsValid market.now }
     requires slots { All (IsNetworkSlot market.now.zones) slots.now }
     requires sides { AllZip (λ o s. CanPut o.side s.low × CanPut o.side s.high) market.now.orders (take (length market.now.orders) slots.now) }
-    requires stand_ins { AreInOrder (length market.now.orders) slots.now }
+    requires places { ArePlaces market.now.zones slots.now market.now.borders places.now }
     requires runs { IsRunning market.now.zones slots.now market.now.borders amounts.items flows.items }
     requires long { length market.now.orders ≤ length amounts.items }
     ensures { (spans : Order → Span) (more : List Slot) → AreSlotsOf spans market.now more slots.now → IsFoundOptimum spans market.now result }
 {
-    let orders = market.orders.as_slice().len();
-    let places = places_of(alloc, market, slots, orders)?;
-    let network = network_of(market, slots, &places);
+    let network = network_of(market, slots, places);
     let worth = worth_of(network.slots, &amounts);
     let mut margins = margins_of(alloc, &network, &amounts)?;
     solve_network(alloc, market, &network, amounts, flows, worth, &mut margins)
@@ -102,9 +101,11 @@ fn solve_reals(
     requires reals { AreOrderSlots market.now.zones market.now.orders reals.items }
     ensures { (spans : Order → Span) → reals.items ≡ slots_of spans market.now.orders → IsFoundOptimum spans market.now result }
 {
-    let begun = start_from(alloc, market, reals, start)?;
+    let orders = market.orders.as_slice().len();
+    let places = places_of(alloc, market, &reals, orders)?;
+    let begun = start_from(alloc, market, reals, &places, start)?;
     let slots = begun.slots;
-    solve_slots(alloc, market, &slots, begun.amounts, begun.flows)
+    solve_slots(alloc, market, &slots, &places, begun.amounts, begun.flows)
 }
 
 /// The relaxed optimum of a prefix from an activation to start with, as the network has it.
@@ -132,10 +133,11 @@ pub fn optimum_from(
 ///
 /// The start's quantities and flows are moved within the bounds and limits, to the nearest there; no clause says that
 /// it is the nearest. In place of a start of other lengths, or none, the orders run what they would at one price for
-/// the whole market. What that leaves too much or too little in a zone is taken away or given at a price that no order
-/// reaches, and energy is then moved from cheaper to dearer orders along borders with room until no zone's prices
-/// contradict each other. From a start near the optimum few moves are needed, and time is that of a few passes over the
-/// orders.
+/// the whole market, as far as a zone's borders can carry what that leaves over or lacks, and zones with too much give
+/// their neighbours what these are short of. What is still too much or too little in a zone is taken away or given at a
+/// price that no order reaches, and energy is then moved from cheaper to dearer orders along borders with room until no
+/// zone's prices contradict each other. From a start near the optimum few moves are needed, and time is that of a few
+/// passes over the orders.
 pub fn solve_from(
     alloc: Global,
     market: &Market,

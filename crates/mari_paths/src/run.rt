@@ -8,7 +8,7 @@ ghost use Rattle.mari_network.specs.Searching.{AreTightPrices};
 ghost use Rattle.mari_network.specs.Slots.{slot_gain};
 
 use crate::drains::drain;
-use mari_network::{Found, Margin, Network, find_chain};
+use mari_network::{Margin, Network, find_chain, search_of};
 use std::alloc::{AllocError, Global};
 
 /// Improves until no chain is left, and gives the prices that show it.
@@ -31,12 +31,14 @@ pub fn run(
     ensures worth { worth.new ≡ sum_along slot_gain network.now.slots.now amounts.new }
     ensures tight { IfOk result (λ prices. AreTightPrices network.now amounts.new flows.new prices.items) }
 {
+    let mut search = search_of(alloc, network.meeting.len())?;
     loop {
-        match find_chain(alloc, network, amounts, flows, margins)? {
-            Found::Improving(mut chain) => {
+        match find_chain(alloc, network, amounts, flows, margins, &mut search)? {
+            Some(mut chain) => {
                 drain(network, amounts, flows, worth, margins, &mut chain);
+                search.hops = chain.hops;
             }
-            Found::Tight(prices) => return Ok(prices),
+            None => return Ok(search.prices),
         }
     }
 }

@@ -1,21 +1,22 @@
-//! What a solve starts from: the quantities and flows of an activation, set right, or what runs at one price; and what
-//! stands in for what they leave out of balance.
+//! What a solve starts from: the quantities and flows of an activation, moved within their limits, or what runs at one
+//! price; and what stands in for what they leave out of balance.
 //!
-//! The clauses say that what runs lies within the slots and limits. That it is the nearest there no clause says, and no
-//! promise rests on it. The slots of orders are the real ones, as against those that stand in.
+//! The clauses say that what runs lies within the slots and limits. No clause says that it is the nearest there to the
+//! activation, and no promise rests on that. The slots of orders are the real ones, as against those that stand in.
 
 ghost use Rattle.std.specs.Prelude.{◌≡◌, ◌<◌, ◌≤◌, ℕ, pos, neg_ℤ, ◌+ℤ◌, ◌-ℤ◌, ◌++◌, length, slice_set, take, IfOk, OnOk};
 ghost use Rattle.std.specs.List.{All, AllZip};
 ghost use Rattle.mari_market.specs.Sums.{sum_along, int_at};
 ghost use Rattle.mari_market.specs.Activation.{IsWithinLimits, carried_out, put_in};
 ghost use Rattle.mari_market.specs.Market.{IsValid, IsBetween};
+ghost use Rattle.mari_network.specs.Network.{ArePlaces};
 ghost use Rattle.mari_network.specs.Orders.{IsOrderSlot, AreOrderSlots};
 ghost use Rattle.mari_network.specs.Slots.{slot_into, IsSmallSlot, IsWithinSlot};
 ghost use Rattle.mari_paths.specs.Starts.{most_halfway, most_moved, most_put_in, most_short, stand_ins, IsInOrder, IsNear, AreEven, AreFilled, AreSmallLimits, AreShort, StandInsNear};
 
-use crate::merit::{amounts_at, balancing_price};
+use crate::merit::amounts_by_price;
 use mari_market::{Activation, Border, MOST_ORDERS, Market, Order, Side};
-use mari_network::{Slot, stand_in};
+use mari_network::{Places, Slot, stand_in};
 use mari_units::{MOST_BORDERS, MOST_ZONES};
 use std::alloc::{AllocError, Global};
 
@@ -75,37 +76,6 @@ fn flows_near(alloc: Global, borders: &[Border], flow: &[i64]) -> Result<Vec<i64
         flows.push(flow_near(border, flow[i]))?;
     }
     Ok(flows)
-}
-
-/// What the orders' slots put in and what flows at the start: as near to an activation as may be, if one is given that
-/// fits the market, and else what runs at one price for the whole market, with no flow.
-pub fn first_run(
-    alloc: Global,
-    market: &Market,
-    slots: &[Slot],
-    start: Option<&Activation>,
-) -> Result<(Vec<i64>, Vec<i64>), AllocError>
-    requires few { length slots.now ≤ MOST_ORDERS }
-    requires lengths { length slots.now ≡ length market.now.orders }
-    requires order { All IsInOrder slots.now }
-    requires small { All IsSmallSlot slots.now }
-    ensures amounts { IfOk result (λ r. AllZip IsWithinSlot slots.now r.0.items) }
-    ensures flows { IfOk result (λ r. AllZip IsWithinLimits market.now.borders r.1.items) }
-{
-    let borders = market.borders.as_slice();
-    match start {
-        Some(activation) if market.has_lengths(activation) => {
-            let orders = market.orders.as_slice();
-            let amounts = amounts_near(alloc, slots, orders, activation.mw.as_slice())?;
-            let flows = flows_near(alloc, borders, activation.flow.as_slice())?;
-            Ok((amounts, flows))
-        }
-        _ => {
-            let amounts = amounts_at(alloc, slots, balancing_price(slots))?;
-            let flows = vec![in alloc; 0i64; borders.len()]?;
-            Ok((amounts, flows))
-        }
-    }
 }
 
 /// Adds to what a zone is short of.
@@ -181,6 +151,25 @@ fn add_flows(short: &mut [i64], borders: &[Border], flows: &[i64])
     }
 }
 
+/// What each zone is short of where nothing flows.
+fn shortages_alone(
+    alloc: Global,
+    market: &Market,
+    slots: &[Slot],
+    amounts: &[i64],
+) -> Result<Vec<i64>, AllocError>
+    requires market { IsValid market.now }
+    requires slots { AreOrderSlots market.now.zones market.now.orders slots.now }
+    requires within { AllZip IsWithinSlot slots.now amounts.now }
+    ensures long { IfOk result (λ v. length v.items ≡ market.now.zones) }
+    ensures near { IfOk result (λ v. (z : ℕ) → IsNear most_put_in (int_at v.items z)) }
+    ensures each { IfOk result (λ v. (z : ℕ) → int_at v.items z ≡ neg_ℤ (sum_along (slot_into z) slots.now amounts.now)) }
+{
+    let mut short = vec![in alloc; 0i64; market.zones as usize]?;
+    take_amounts(&mut short, slots, amounts);
+    Ok(short)
+}
+
 /// What each zone is short of: what its borders carry out, less what its slots put in.
 pub fn shortages(
     alloc: Global,
@@ -196,10 +185,80 @@ pub fn shortages(
     ensures near { IfOk result (λ v. (z : ℕ) → IsNear most_short (int_at v.items z)) }
     ensures short { IfOk result (λ v. AreShort market.now.zones slots.now market.now.borders amounts.now flows.now v.items) }
 {
-    let mut short = vec![in alloc; 0i64; market.zones as usize]?;
-    take_amounts(&mut short, slots, amounts);
+    let mut short = shortages_alone(alloc, market, slots, amounts)?;
     add_flows(&mut short, market.borders.as_slice(), flows);
     Ok(short)
+}
+
+/// The flow over a border from an end that has too much to one that is short, as much as is good for both. No clause
+/// says so.
+fn flow_between(border: &Border, from_short: i64, to_short: i64) -> i64
+    requires from { IsNear most_short from_short }
+    requires to { IsNear most_short to_short }
+    ensures { IsWithinLimits border.now result }
+{
+    let forth = to_short.min(-from_short).max(0);
+    let back = from_short.min(-to_short).max(0);
+    flow_near(border, forth - back)
+}
+
+/// Flows by which zones that have too much make up for what their neighbours are short of, border by border.
+fn flows_between(
+    alloc: Global,
+    borders: &[Border],
+    short: &mut [i64],
+) -> Result<Vec<i64>, AllocError>
+    // Borders, and what each zone is short of where nothing flows.
+    requires few { length borders.now ≤ MOST_BORDERS }
+    requires ends { All (IsBetween (length short.old)) borders.now }
+    requires limits { All AreSmallLimits borders.now }
+    requires near { (z : ℕ) → IsNear most_put_in (int_at short.old z) }
+    ensures within { IfOk result (λ v. AllZip IsWithinLimits borders.now v.items) }
+{
+    let mut flows = Vec::with_capacity(alloc, borders.len())?;
+    for border in borders {
+        let (from, to) = (border.from as usize, border.to as usize);
+        let flow = flow_between(border, short[from], short[to]);
+        carry_out(short, border, flow);
+        flows.push(flow)?;
+    }
+    Ok(flows)
+}
+
+/// What the orders' slots put in and what flows at the start: as near to an activation as may be, if one is given that
+/// fits the market, and else what runs at one price for the whole market, as far as borders let it, with flows between
+/// neighbours.
+pub fn first_run(
+    alloc: Global,
+    market: &Market,
+    slots: &[Slot],
+    places: &Places,
+    start: Option<&Activation>,
+) -> Result<(Vec<i64>, Vec<i64>), AllocError>
+    requires market { IsValid market.now }
+    requires slots { AreOrderSlots market.now.zones market.now.orders slots.now }
+    requires places { ArePlaces market.now.zones slots.now market.now.borders places.now }
+    requires order { All IsInOrder slots.now }
+    requires small { All IsSmallSlot slots.now }
+    ensures amounts { IfOk result (λ r. AllZip IsWithinSlot slots.now r.0.items) }
+    ensures flows { IfOk result (λ r. AllZip IsWithinLimits market.now.borders r.1.items) }
+{
+    let borders = market.borders.as_slice();
+    match start {
+        Some(activation) if market.has_lengths(activation) => {
+            let orders = market.orders.as_slice();
+            let amounts = amounts_near(alloc, slots, orders, activation.mw.as_slice())?;
+            let flows = flows_near(alloc, borders, activation.flow.as_slice())?;
+            Ok((amounts, flows))
+        }
+        _ => {
+            let ladders = places.ladders.as_slice();
+            let amounts = amounts_by_price(alloc, market, slots, ladders)?;
+            let mut short = shortages_alone(alloc, market, slots, &amounts)?;
+            let flows = flows_between(alloc, borders, &mut short)?;
+            Ok((amounts, flows))
+        }
+    }
 }
 
 /// The slots with a stand-in for each zone, and the amounts with what these put in.
@@ -235,10 +294,12 @@ pub fn start_from(
     alloc: Global,
     market: &Market,
     reals: Vec<Slot>,
+    places: &Places,
     activation: Option<&Activation>,
 ) -> Result<Start, AllocError>
     requires market { IsValid market.now }
     requires reals { AreOrderSlots market.now.zones market.now.orders reals.items }
+    requires places { ArePlaces market.now.zones reals.items market.now.borders places.now }
 
     // The slots, with amounts within them.
     ensures filled { IfOk result (λ s. AreFilled market.now s.slots.items s.amounts.items) }
@@ -250,7 +311,7 @@ pub fn start_from(
     ensures even { IfOk result (λ s. AreEven market.now s.slots.items s.amounts.items s.flows.items) }
 {
     let mut slots = reals;
-    let (mut amounts, flows) = first_run(alloc, market, &slots, activation)?;
+    let (mut amounts, flows) = first_run(alloc, market, &slots, places, activation)?;
     let short = shortages(alloc, market, &slots, &amounts, &flows)?;
     add_stand_ins(&mut slots, &mut amounts, &short)?;
     Ok(Start {

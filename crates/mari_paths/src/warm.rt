@@ -11,7 +11,7 @@ ghost use Rattle.mari_market.specs.Prefix.{word_of, bounds_at, IsFeasiblePrefix}
 ghost use Rattle.mari_market.specs.Price.{ArePrices};
 ghost use Rattle.mari_market.specs.Relaxation.{IsWithinBounds, IsRelaxedWelfare};
 ghost use Rattle.mari_network.specs.Solving.{IsFoundOptimum, NoneWithin, OfCut};
-ghost use Rattle.mari_paths.specs.Warm.{AreGated, IsWarmStart};
+ghost use Rattle.mari_paths.specs.Warm.{AreGated, AreOrderLadders, IsWarmStart};
 
 use crate::changes::set_bounds;
 use crate::margins::plain_margins;
@@ -59,7 +59,8 @@ pub fn gated_places(alloc: Global, market: &Market) -> Result<Vec<usize>, AllocE
 
 impl WarmStart {
     /// What runs in the market's network, in balance with what stands in. It is near to an activation, if one is given
-    /// that fits the market, and else to what runs at one price for the whole market; no clause says so.
+    /// that fits the market, and else to what runs at one price for the whole market as far as borders let it; no clause
+    /// says so.
     pub fn of(
         alloc: Global,
         market: &Market,
@@ -69,12 +70,12 @@ impl WarmStart {
         ensures { IfOk result (IsWarmStart market.now) }
     {
         let reals = order_slots(alloc, market, &empty_prefix())?;
-        let begun = start_from(alloc, market, reals, start)?;
+        let orders = market.orders.as_slice().len();
+        let places = places_of(alloc, market, &reals, orders)?;
+        let begun = start_from(alloc, market, reals, &places, start)?;
         let slots = begun.slots.as_slice();
         let amounts = begun.amounts.as_slice();
-        let orders = market.orders.as_slice().len();
         let worth = worth_of(slots, amounts);
-        let places = places_of(alloc, market, slots, orders)?;
         let plain = plain_margins(alloc, market, slots, amounts)?;
         let gated = gated_places(alloc, market)?;
         Ok(WarmStart {
@@ -175,5 +176,14 @@ impl WarmStart {
     {
         let optimum = self.optimum(alloc, market, prefix)?;
         Ok(optimum.solved(alloc, market)?)
+    }
+}
+
+impl WarmStart {
+    /// The places of the market's orders and borders by zone.
+    pub fn places(&self) -> &Places
+        ensures { (m : Market) → IsWarmStart m self.now → AreOrderLadders m result.now }
+    {
+        &self.places
     }
 }

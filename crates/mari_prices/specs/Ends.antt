@@ -4,9 +4,11 @@ use Rattle.mari_units.specs.declared.Cents.{Cents}
 use Rattle.mari_market.specs.declared.market.Market.{Market}
 use Rattle.mari_market.specs.declared.activation.Activation.{Activation}
 use Rattle.mari_market.specs.Conflict.{last_of}
+use Rattle.mari_market.specs.Optimal.{IsFeasible}
 use Rattle.mari_market.specs.Price.{IsPrice, price_at}
 use Rattle.mari_market.specs.declared.along.Along.{Along}
 use Rattle.mari_market.specs.declared.along.Along.TheVariants.{Rising, Falling}
+use Rattle.mari_prices.specs.declared.bounds.Bounds.{Bounds}
 use Rattle.mari_prices.specs.declared.bounds.End.{End}
 use Rattle.mari_prices.specs.declared.bounds.End.TheVariants.{Least, Greatest}
 use Rattle.mari_prices.specs.declared.spread.SettledZone.{SettledZone}
@@ -24,6 +26,25 @@ pub record IsEnd (end : End) (m : Market) (a : Activation) (bounds : List ℤ) (
   pub own : AreTightest end m.orders a.mw m.zones bounds
   pub one_each : length xs ≡ m.zones
   pub spread : SpreadsAlong (along_of end) m.borders a.flow bounds xs
+
+-- a feasible activation of these flows, whose tightest bounds at an end are these
+pub record IsBoundedAt (end : End) (m : Market) (flow bounds : List ℤ) (a : Activation) : Type 0 where
+  pub feasible : IsFeasible m a
+  pub flows : a.flow ≡ flow
+  pub own : AreTightest end m.orders a.mw m.zones bounds
+
+-- the same at both ends
+pub record IsBoundedBy (m : Market) (flow : List ℤ) (b : Bounds) (a : Activation) : Type 0 where
+  pub feasible : IsFeasible m a
+  pub flows : a.flow ≡ flow
+  pub least : AreTightest Least m.orders a.mw m.zones b.least.items
+  pub greatest : AreTightest Greatest m.orders a.mw m.zones b.greatest.items
+
+-- a feasible activation's tightest bounds at both ends, and what those at the least end become
+pub record AreEnds (m : Market) (a : Activation) (b : Bounds) (xs : List (Option SettledZone)) : Type 0 where
+  pub feasible : IsFeasible m a
+  pub least : IsEnd Least m a b.least.items xs
+  pub greatest : AreTightest Greatest m.orders a.mw m.zones b.greatest.items
 
 -- every zone is settled, with a price or one with its sign turned
 pub record ArePriced (xs : List (Option SettledZone)) : Type 0 where

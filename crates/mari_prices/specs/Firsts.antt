@@ -14,6 +14,7 @@ abbrev pub first_in : Option SettledZone → ℕ
 first_in None = 0
 first_in (Some s) = unsigned_abs s.value
 
+-- the first zone of the area of the zone of this number
 abbrev pub first_at : List (Option SettledZone) → ℕ → ℕ
 first_at xs z = first_in (entry_at xs z)
 

@@ -14,7 +14,7 @@ use std::alloc::{AllocError, Global};
 /// The end of a zone's interval of prices. At the greatest end all values are prices with their signs turned, so that
 /// lower bounds and upper bounds are handled alike.
 #[derive(Clone, Copy, Debug, Drop, PartialEq, Eq)]
-pub(crate) enum End {
+pub enum End {
     /// The least price.
     Least,
     /// The greatest price.
@@ -22,7 +22,7 @@ pub(crate) enum End {
 }
 
 impl End {
-    /// The value of a price, or the price of a value.
+    /// The value of a price.
     pub(crate) fn signed(self, price: Cents) -> i64
         requires { IsPrice price.0 }
         ensures { result ≡ signed self price.0 }
@@ -37,7 +37,7 @@ impl End {
     ///
     /// One that runs doesn't lose, and one that could run more would not gain. An order of a gate that runs nothing
     /// bounds nothing, since its gate is closed.
-    fn is_set_by(self, order: &Order, mw: u32) -> bool
+    pub fn is_set_by(self, order: &Order, mw: u32) -> bool
         ensures { IsTrue result ↔ SetsAtEnd self (own_standing order.now.gate mw) order.now.side order.now.greatest mw }
     {
         match (self, order.side) {
@@ -61,13 +61,32 @@ fn raise(bounds: &mut [i64], order: &Order, mw: u32, end: End)
     }
 }
 
-/// Each zone's tightest bounds at both ends.
+/// A bound of each zone's price at both ends.
 #[derive(Drop)]
-pub(crate) struct Bounds {
+pub struct Bounds {
     /// Those at the least end.
-    pub(crate) least: Vec<i64>,
+    pub least: Vec<i64>,
     /// Those at the greatest end, with their signs turned.
-    pub(crate) greatest: Vec<i64>,
+    pub greatest: Vec<i64>,
+}
+
+impl Bounds {
+    /// Raises the bounds of an order's zone to what the order sets at both ends, where it runs `mw` MW.
+    pub fn raise(&mut self, order: &Order, mw: u32)
+        // The zone is there at both ends, and the price within the cap.
+        requires least { order.now.zone < length self.old.least.items }
+        requires greatest { order.now.zone < length self.old.greatest.items }
+        requires price { IsPrice order.now.price.0 }
+
+        // As many zones as before, each with its bounds raised.
+        ensures lows { length self.new.least.items ≡ length self.old.least.items }
+        ensures highs { length self.new.greatest.items ≡ length self.old.greatest.items }
+        ensures least { (z : ℕ) → IsRaised End.Least order.now mw z (int_at self.old.least.items z) (int_at self.new.least.items z) }
+        ensures greatest { (z : ℕ) → IsRaised End.Greatest order.now mw z (int_at self.old.greatest.items z) (int_at self.new.greatest.items z) }
+    {
+        raise(&mut self.least, order, mw, End::Least);
+        raise(&mut self.greatest, order, mw, End::Greatest);
+    }
 }
 
 /// Each zone's tightest bounds at both ends, in one pass over the orders.
@@ -83,11 +102,11 @@ pub(crate) fn tightest(
     ensures least { IfOk result (λ b. AreTightest End.Least orders.now mw.now zones b.least.items) }
     ensures greatest { IfOk result (λ b. AreTightest End.Greatest orders.now mw.now zones b.greatest.items) }
 {
-    let mut least = vec![in alloc; -CAP; zones as usize]?;
-    let mut greatest = vec![in alloc; -CAP; zones as usize]?;
+    let least = vec![in alloc; -CAP; zones as usize]?;
+    let greatest = vec![in alloc; -CAP; zones as usize]?;
+    let mut bounds = Bounds { least, greatest };
     for (i, order) in orders.iter().enumerate() {
-        raise(&mut least, order, mw[i], End::Least);
-        raise(&mut greatest, order, mw[i], End::Greatest);
+        bounds.raise(order, mw[i]);
     }
-    Ok(Bounds { least, greatest })
+    Ok(bounds)
 }

@@ -2,10 +2,11 @@
 
 ghost use Rattle.std.specs.Prelude.{◌≡◌, ◌<◌, ◌≤◌, IsTrue, ◌↔◌, false, None, length, IfOk, IfSome, MatchOption, ◌<ℤ◌, neg_ℤ, Some};
 ghost use Rattle.std.specs.List.{All};
+ghost use Rattle.mari_market.specs.declared.activation.Activation.{Activation as TheActivation};
 ghost use Rattle.mari_market.specs.Market.{IsValid};
 ghost use Rattle.mari_market.specs.Optimal.{IsFeasible};
 ghost use Rattle.mari_market.specs.Price.{IsPrice};
-ghost use Rattle.mari_prices.specs.Ends.{along_of, ArePriced, ArePricesOf, AreTrails, AreUncontradicted, IsContradicted, IsEnd, IsTrailTo};
+ghost use Rattle.mari_prices.specs.Ends.{along_of, ArePriced, ArePricesOf, AreTrails, AreUncontradicted, IsBoundedAt, IsContradicted, IsEnd, IsTrailTo};
 ghost use Rattle.mari_prices.specs.Spread.{entry_at};
 ghost use Rattle.mari_prices.specs.Tightest.{AreTightest, signed};
 ghost use Rattle.mari_prices.specs.declared.spread.SettledZone.{SettledZone};
@@ -58,17 +59,15 @@ pub(crate) fn bounds_of(
 pub(crate) fn spread_of(
     alloc: Global,
     market: &Market,
-    activation: &Activation,
+    flow: &[i64],
     bounds: &[i64],
     end: End,
 ) -> Result<Vec<Option<SettledZone>>, AllocError>
     requires valid { IsValid market.now }
-    requires feasible { IsFeasible market.now activation.now }
-    requires bounds { AreTightest end market.now.orders activation.now.mw market.now.zones bounds.now }
-    ensures { IfOk result (λ v. IsEnd end market.now activation.now bounds.now v.items) }
+    requires bounded { (a : TheActivation) × IsBoundedAt end market.now flow.now bounds.now a }
+    ensures { (a : TheActivation) → IsBoundedAt end market.now flow.now bounds.now a → IfOk result (λ v. IsEnd end market.now a bounds.now v.items) }
 {
-    let (borders, flow) = (market.borders.as_slice(), activation.flow.as_slice());
-    spread(alloc, bounds, borders, flow, end.along())
+    spread(alloc, bounds, market.borders.as_slice(), flow, end.along())
 }
 
 /// The prices that the values stand for.

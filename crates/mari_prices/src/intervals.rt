@@ -72,11 +72,12 @@ pub fn price_test(
     ensures zones { IfErr result (λ e. OnConflict e (All (λ z. z < market.now.zones))) }
 {
     let bounds = bounds_of(alloc, market, activation)?;
-    let least = spread_of(alloc, market, activation, &bounds.least, End::Least)?;
-    if let Some(chain) = chain_by(alloc, market, activation, &bounds, &least)? {
+    let flow = activation.flow.as_slice();
+    let least = spread_of(alloc, market, flow, &bounds.least, End::Least)?;
+    if let Some(chain) = chain_by(alloc, market, &bounds, &least)? {
         return Err(PriceFault::Conflict(chain));
     }
-    let greatest = spread_of(alloc, market, activation, &bounds.greatest, End::Greatest)?;
+    let greatest = spread_of(alloc, market, flow, &bounds.greatest, End::Greatest)?;
     Ok(Intervals {
         least: prices_of_settled(alloc, &least, End::Least)?,
         greatest: prices_of_settled(alloc, &greatest, End::Greatest)?,

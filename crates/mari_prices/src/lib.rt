@@ -10,7 +10,8 @@ mod numbering;
 mod published;
 mod spread;
 
-pub use conflicts::contradiction;
+pub use bounds::{Bounds, End};
+pub use conflicts::{contradiction, contradiction_between};
 pub use intervals::{Intervals, PriceFault, price_test};
 pub use numbering::areas;
 pub use published::{Pricing, nearest, published_prices};

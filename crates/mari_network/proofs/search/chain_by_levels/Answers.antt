@@ -8,14 +8,17 @@ use Rattle.mari_market.specs.Market.{IsBetween}
 use Rattle.mari_network.specs.Chain.{hop_at}
 use Rattle.mari_network.specs.Margins.{IsDearestOf, IsDearest, NoneLess, IsCheaper, NoneCheaper}
 use Rattle.mari_network.proofs.Lists.{all_zip}
-use Rattle.mari_network.proofs.Levels.{levels_none, levels_more, levels_tight, low_at, cheaper_is_new}
+use Rattle.mari_network.proofs.Levels.{IsLevel, levels_none, levels_more, levels_tight, level_of, low_at, cheaper_is_new}
+use Rattle.mari_network.proofs.Marks.{none_count, marked_below}
 use Rattle.mari_network.proofs.Marginal.{dearest_is, dearest_none, cheaper_is, none_cheaper}
 use Rattle.mari_network.proofs.search.chain_by_levels.Goals as goal
 
 pub loop-sink-init : goal.loop-sink-init
 loop-sink-init c =
-    levels_none c.args.network.now.slots.now c.args.network.now.borders.now c.args.amounts.now c.args.flows.now c.args.marked.now
-    (int_at c.args.prices.now) (sym c.requires.runs.flows_long) c.requires.fresh
+    record {
+      levels = levels_none c.args.network.now.slots.now c.args.network.now.borders.now c.args.amounts.now c.args.flows.now c.args.marked.now (int_at c.args.prices.now) (sym c.requires.runs.flows_long) c.requires.fresh;
+      left = sym (none_count c.args.marked.now c.requires.fresh);
+    }
 
 pub dearest-requires-clause-there : goal.dearest-requires-clause-there
 dearest-requires-clause-there c = λ z i l e.
@@ -37,7 +40,7 @@ place_of_hop-at-requires c =
     let some = c.in-Some-cheapest.ensures.some c.in-Some-cheapest.source refl in
     let cheap : IsCheaper c.args.network.now.slots.now c.args.amounts.now c.spread.new.marked (price_of c.args.network.now.slots.now c.in-Some.sink) c.in-Some-cheapest.source = cheaper_is c.args.network.now.slots.now c.args.amounts.now (length c.args.network.now.meeting.now) c.args.margins.now c.spread.new.marked (price_of c.args.network.now.slots.now c.in-Some.sink) c.in-Some-cheapest.source some.1 mar (rw (to_z-of_z p) at some.0) (omega (arith, some.2, mar.long)) some.3 some.4 in
     subst (λ (hops : List Hop). (x : ℕ) × (x < length hops) × ((hop_at hops x).zone ≡ zone_of c.args.network.now.slots.now c.in-Some-cheapest.source)) (sym c.deref.ensures.value)
-    (cheaper_is_new c.args.network.now.slots.now c.args.network.now.borders.now c.args.amounts.now c.args.flows.now c.loop-sink.marked c.spread.new.marked (int_at c.loop-sink.prices) c.in_ok-hops.hops.items _ c.in-Some.sink c.in-Some-cheapest.source c.loop-sink.invariant d c.in_ok-hops.ensures.spread cheap)
+    (cheaper_is_new c.args.network.now.slots.now c.args.network.now.borders.now c.args.amounts.now c.args.flows.now c.loop-sink.marked c.spread.new.marked (int_at c.loop-sink.prices) c.spread.new.hops.items _ c.in-Some.sink c.in-Some-cheapest.source c.loop-sink.invariant.levels d c.in_ok-spread.ensures.spread cheap)
 
 pub returns-in-Some-cheapest : goal.returns-in-Some-cheapest
 returns-in-Some-cheapest c =
@@ -48,16 +51,16 @@ returns-in-Some-cheapest c =
     let p : FitsSigned w64 (price_of c.args.network.now.slots.now c.in-Some.sink) = omega (arith, ints, small.cheap, small.dear) in
     let some = c.in-Some-cheapest.ensures.some c.in-Some-cheapest.source refl in
     let cheap : IsCheaper c.args.network.now.slots.now c.args.amounts.now c.spread.new.marked (price_of c.args.network.now.slots.now c.in-Some.sink) c.in-Some-cheapest.source = cheaper_is c.args.network.now.slots.now c.args.amounts.now (length c.args.network.now.meeting.now) c.args.margins.now c.spread.new.marked (price_of c.args.network.now.slots.now c.in-Some.sink) c.in-Some-cheapest.source some.1 mar (rw (to_z-of_z p) at some.0) (omega (arith, some.2, mar.long)) some.3 some.4 in
-    let there : c.place_of_hop-at.result < length c.in_ok-hops.hops.items = rw c.deref.ensures.value at c.place_of_hop-at.ensures.there in
+    let there : c.place_of_hop-at.result < length c.spread.new.hops.items = rw c.deref.ensures.value at c.place_of_hop-at.ensures.there in
     record {
-      trace = c.in_ok-hops.ensures.spread.trace;
+      trace = c.in_ok-spread.ensures.spread.trace;
       there = there;
       less = d.less;
       more = cheap.more;
-      to = sym c.in_ok-hops.ensures.spread.first;
+      to = sym c.in_ok-spread.ensures.spread.first;
       from = sym (rw c.deref.ensures.value at c.place_of_hop-at.ensures.zone);
       dearer = cheap.below;
-      room = c.in_ok-hops.ensures.spread.room c.place_of_hop-at.result there;
+      room = c.in_ok-spread.ensures.spread.room c.place_of_hop-at.result there;
     }
 
 pub loop-sink-preserved : goal.loop-sink-preserved
@@ -69,10 +72,24 @@ loop-sink-preserved c =
     let p : FitsSigned w64 (price_of c.args.network.now.slots.now c.in-Some.sink) = omega (arith, ints, small.cheap, small.dear) in
     let none : NoneCheaper c.args.network.now.slots.now c.args.amounts.now c.spread.new.marked (price_of c.args.network.now.slots.now c.in-Some.sink) = none_cheaper c.args.network.now.slots.now c.args.amounts.now (length c.args.network.now.meeting.now) c.args.margins.now c.spread.new.marked (price_of c.args.network.now.slots.now c.in-Some.sink) zoned mar
     (λ z i l m e. rw (to_z-of_z p) at (c.in_default-cheapest.ensures.none refl z i (omega (arith, mar.long)) m e)) in
-    levels_more c.args.network.now.slots.now c.args.network.now.borders.now c.args.amounts.now c.args.flows.now c.loop-sink.marked c.spread.new.marked
-    (int_at c.loop-sink.prices) (int_at c.level.new.prices) c.in-Some.sink c.loop-sink.invariant d small.cheap
-    (record { keep = c.level.ensures.keep; level = λ z m l. c.level.ensures.level z m l ∙ to_z-of_z p }) c.in_ok-hops.ensures.spread.keeps
-    c.in_ok-hops.ensures.spread.long c.in_ok-hops.ensures.closed none
+    let priced : IsLevel c.loop-sink.marked c.spread.new.marked (int_at c.loop-sink.prices) (int_at c.level.new.prices) (price_of c.args.network.now.slots.now c.in-Some.sink) =
+    level_of c.args.network.now.borders.now c.args.flows.now c.loop-sink.marked c.spread.new.marked c.spread.new.hops.items _ c.loop-sink.prices c.level.new.prices (price_of c.args.network.now.slots.now c.in-Some.sink) c.in_ok-spread.ensures.spread
+    (subst (λ (hops : List Hop). (k : ℕ) → k < length hops → int_at c.level.new.prices (hop_at hops k).zone ≡ price_of c.args.network.now.slots.now c.in-Some.sink) c.deref-in-Some.ensures.value (λ k l. c.level.ensures.here k l ∙ to_z-of_z p))
+    (subst (λ (hops : List Hop). (z : ℕ) → ((k : ℕ) → k < length hops → (hop_at hops k).zone ≡ z → ⊥) → int_at c.level.new.prices z ≡ int_at c.loop-sink.prices z) c.deref-in-Some.ensures.value c.level.ensures.others) in
+    record {
+      levels =
+          levels_more c.args.network.now.slots.now c.args.network.now.borders.now c.args.amounts.now c.args.flows.now c.loop-sink.marked c.spread.new.marked
+          (int_at c.loop-sink.prices) (int_at c.level.new.prices) c.in-Some.sink c.loop-sink.invariant.levels d small.cheap priced
+          c.in_ok-spread.ensures.spread.keeps c.in_ok-spread.ensures.closed none;
+      left = omega (arith, c.in_ok-spread.ensures.spread.count, c.loop-sink.invariant.left);
+    }
+
+pub level-requires : goal.level-requires
+level-requires c = record {
+  zones =
+      subst (λ (hops : List Hop). (k : ℕ) → k < length hops → (hop_at hops k).zone < length c.loop-sink.prices) (sym c.deref-in-Some.ensures.value)
+      (λ k l. omega (arith, marked_below c.spread.new.marked (hop_at c.spread.new.hops.items k).zone (c.in_ok-spread.ensures.spread.zones k l).0));
+}
 
 pub returns : goal.returns
 returns c =
@@ -82,11 +99,11 @@ returns c =
     let marks : length c.loop-sink.marked ≡ length c.args.network.now.meeting.now = omega arith in
     record {
       one_each = omega arith;
-      least = λ z l. low_at c.loop-sink.marked (int_at c.loop-sink.prices) (int_at c.level-2.new.prices) _ (record { keep = c.level-2.ensures.keep; level = λ z m l. c.level-2.ensures.level z m l }) c.loop-sink.invariant.floored z (omega arith);
+      least = λ z l. low_at c.loop-sink.marked (int_at c.loop-sink.prices) (int_at c.level_rest.new.prices) _ (record { keep = c.level_rest.ensures.keep; level = λ z m l. c.level_rest.ensures.level z m l }) c.loop-sink.invariant.levels.floored z (omega arith);
       tight =
           levels_tight c.args.network.now.slots.now c.args.network.now.borders.now c.args.amounts.now c.args.flows.now c.loop-sink.marked
-          (int_at c.loop-sink.prices) (int_at c.level-2.new.prices) c.loop-sink.invariant
-          (record { keep = c.level-2.ensures.keep; level = λ z m l. c.level-2.ensures.level z m l }) none
+          (int_at c.loop-sink.prices) (int_at c.level_rest.new.prices) c.loop-sink.invariant.levels
+          (record { keep = c.level_rest.ensures.keep; level = λ z m l. c.level_rest.ensures.level z m l }) none
           (λ k h. subst (λ (n : ℕ). zone_of c.args.network.now.slots.now k < n) (sym marks) (zoned k h))
           (λ k h. (c.requires.network.small k no_slot h).cheap)
           (all_zip (IsBetween (length c.loop-sink.marked)) c.args.network.now.borders.now c.args.flows.now (sym c.requires.runs.flows_long) (subst (λ (n : ℕ). All (IsBetween n) c.args.network.now.borders.now) (sym marks) c.requires.network.ends));

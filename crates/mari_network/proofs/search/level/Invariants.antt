@@ -1,10 +1,5 @@
-use Rattle.std.proofs.Common.{◌≡◌, ℕ, ◌<◌, true, false}
-use Rattle.mari_market.specs.Sums.{int_at}
-use Rattle.mari_network.specs.Spread.{is_marked}
+use Rattle.mari_network.proofs.Levels.{ArePriced}
 use Rattle.mari_network.proofs.search.level.Given as goal
 
-abbrev pub invariant-loop-z : goal.invariant-loop-z
-invariant-loop-z l = record {
-  keep : (z : ℕ) → is_marked l.marked z ≡ true → int_at l.prices z ≡ int_at l.fn.prices z;
-  level : (z : ℕ) → is_marked l.marked z ≡ false → z < l.z → int_at l.prices z ≡ l.price;
-}
+abbrev pub invariant-loop-hop : goal.invariant-loop-hop
+invariant-loop-hop l = ArePriced l.hops l.fn.prices l.price l.hop-index l.prices

@@ -10,13 +10,8 @@ use Rattle.mari_network.specs.Slots.{slot_at, IsWithinSlot}
 use Rattle.mari_network.proofs.Lists.{zip_long}
 use Rattle.mari_paths.specs.Starts.{order_at}
 use Rattle.mari_paths.proofs.Bounded.{plain_bounds, slot_is}
-use Rattle.mari_paths.proofs.Starts.{filled_in_order}
+use Rattle.mari_paths.proofs.Merits.{started_places}
 use Rattle.mari_paths.proofs.warm.WarmStart.of.Goals as goal
-
-pub places_of-requires-clause-stand_ins : goal.places_of-requires-clause-stand_ins
-places_of-requires-clause-stand_ins c =
-    rw (ap (λ (os : List Order). length os) c.as_slice-orders.ensures, c.as_slice-slots.ensures.value)
-    (filled_in_order c.args.market.now c.in_ok-begun.begun.slots.items c.in_ok-begun.begun.amounts.items c.in_ok-begun.ensures.filled)
 
 pub worth_of-worth-requires-clause-lengths : goal.worth_of-worth-requires-clause-lengths
 worth_of-worth-requires-clause-lengths c =
@@ -36,7 +31,10 @@ returns c =
       even = c.in_ok-begun.ensures.even;
       near = c.in_ok-begun.ensures.near;
       worth = to_z-of_z fits ∙ (rw (c.as_slice-slots.ensures.value, c.as_slice-amounts.ensures.value) at c.worth_of-worth.ensures);
-      places = subst (λ (ss : List Slot). ArePlaces m.zones ss m.borders c.in_ok-places.places) c.as_slice-slots.ensures.value c.in_ok-places.ensures.places;
+      places =
+          started_places m c.in_ok-reals.reals.items slots c.in_ok-begun.begun.amounts.items c.in_ok-places.places c.in_ok-reals.ensures.fine c.in_ok-begun.ensures.reals c.in_ok-begun.ensures.filled
+          (c.in_ok-places.ensures.on_ladders ∙ ap (λ (os : List Order). length os) c.as_slice-orders.ensures)
+          (subst (λ (ss : List Slot). ArePlaces m.zones ss m.borders c.in_ok-places.places) c.deref.ensures.value c.in_ok-places.ensures.places);
       on_ladders = c.in_ok-places.ensures.on_ladders ∙ ap (λ (os : List Order). length os) c.as_slice-orders.ensures;
       margins = rw (sym c.as_slice-slots.ensures.value, sym c.as_slice-amounts.ensures.value) c.in_ok-plain.ensures;
       zones = λ k l. ap (λ (s : Slot). s.zone) (is k l);

@@ -1,0 +1,10 @@
+use Rattle.std.proofs.Common.{ℤ, pos, ◌-ℤ◌, ◌≤ℤ◌, arith, rules, FitsSigned, w64}
+use Rattle.std.proofs.lemmas.Int.{ints}
+use Rattle.mari_paths.proofs.merit.part_of.Goals as goal
+
+pub returns-clause-within : goal.returns-clause-within
+returns-clause-within c =
+    let fits : FitsSigned w64 c.min.result = search rules in
+    let most : c.min.result ≤ℤ (c.args.slot.high -ℤ c.args.slot.low) = omega (arith, ints, c.min.ensures.other_bound, c.requires.range.low, c.requires.range.in_order, c.requires.range.high) in
+    let some : pos 0 ≤ℤ c.min.result = search rules in
+    record { least = omega (arith, ints, some, fits); most = omega (arith, ints, most, fits) }

@@ -7,8 +7,8 @@ use Rattle.mari_workers.specs.declared.root.Ahead.TheVariants.{Known, Warm}
 use Rattle.mari_workers.specs.declared.root.Root.{Root as RootRecord}
 use Rattle.mari_workers.specs.Closed.{IsClosedOptimum}
 
--- what is known is what may be found at the one word of a market without gates; a start is made for the market, and of
--- which activation is left open
+-- what is known is what may be found at the one word of a market without gates; a start is made for the market, but
+-- nothing is said of the activation that it is made from
 abbrev pub IsAhead : Market → Ahead → Type 0
 IsAhead m (Known closed) = (m.gates ≡ []) × IsClosedOptimum m closed
 IsAhead m (Warm optimum start) = IsWarmStart m start

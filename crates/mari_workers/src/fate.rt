@@ -1,6 +1,6 @@
 //! What becomes of an early leaf in a walk that looks for earlier activations.
 
-ghost use Rattle.std.specs.Prelude.{◌≡◌, IfOk, pos};
+ghost use Rattle.std.specs.Prelude.{◌≡◌, ◌↔◌, ℤ, IfOk, IsTrue, pos};
 ghost use Rattle.mari_market.specs.Market.{IsValid};
 ghost use Rattle.mari_market.specs.Prefix.{word_of, IsFeasiblePrefix};
 ghost use Rattle.mari_market.specs.Tree.{LeafHolds};
@@ -77,6 +77,20 @@ fn quarter_cents_of(welfare: u64) -> Quarters
     Quarters(i128::from(welfare))
 }
 
+/// Whether a leaf that holds at some cutoff holds at this one too. A cut and a conflict hold at every cutoff.
+fn still_holds(market: &Market, prefix: &Prefix, leaf: &Leaf, cutoff: u64) -> bool
+    requires market { IsValid market.now }
+    requires prefix { IsFeasiblePrefix market.now prefix.now }
+    requires held { (w : ℤ) × LeafHolds market.now w (word_of prefix.now) leaf.now }
+    ensures { IsTrue result ↔ LeafHolds market.now (pos cutoff) (word_of prefix.now) leaf.now }
+{
+    match leaf {
+        Leaf::Bound(_) => check_leaf(market, prefix, leaf, quarter_cents_of(cutoff)),
+        Leaf::Cut(_) => true,
+        Leaf::Conflict(_) => true,
+    }
+}
+
 /// What becomes of a leaf that holds at the welfare. It stays where it isn't early, or holds at the welfare less 1;
 /// else its prefix is examined.
 pub(crate) fn fate_of(
@@ -98,7 +112,7 @@ pub(crate) fn fate_of(
         return Ok(Fate::Stays(leaf));
     }
     let most = aim.welfare - 1;
-    if check_leaf(market, prefix, &leaf, quarter_cents_of(most)) {
+    if still_holds(market, prefix, &leaf, most) {
         return Ok(Fate::Stays(leaf));
     }
     let finding = root.examine(alloc, market, prefix)?;

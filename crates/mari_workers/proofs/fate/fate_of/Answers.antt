@@ -1,8 +1,7 @@
-use Rattle.std.proofs.Common.{◌≡◌, ◌-◌, ◌<◌, ◌≤◌, ℕ, ℤ, subst, arith, false, length, ap, sym}
+use Rattle.std.proofs.Common.{◌≡◌, ◌-◌, ◌<◌, ◌≤◌, ℕ, pos, subst, arith, false, length, ap, sym}
 use Rattle.std.proofs.lemmas.Bool.Decides.{nat_tests}
 use Rattle.std.proofs.lemmas.Bool.{eqb-true}
 use Rattle.mari_market.specs.Prefix.{word_of}
-use Rattle.mari_market.specs.Tree.{LeafHolds}
 use Rattle.mari_gates.proofs.Decisions.{length-decisions}
 use Rattle.mari_gates.proofs.WaitingWords.{length_feasible}
 use Rattle.mari_workers.specs.Refine.{IsFate}
@@ -17,14 +16,16 @@ comes_before-requires-clause-few c = omega (arith, length_feasible c.args.market
 pub overflow_sub-most : goal.overflow_sub-most
 overflow_sub-most c = omega (arith, early_above c.args.market.now c.args.aim.now (word_of c.args.prefix.now) c.requires.aim (c.comes_before.ensures.0 c.if-not-comes_before.false))
 
-pub returns-then-check_leaf : goal.returns-then-check_leaf
-returns-then-check_leaf c =
+pub still_holds-requires-clause-held : goal.still_holds-requires-clause-held
+still_holds-requires-clause-held c = (pos c.args.aim.now.welfare, c.requires.leaf)
+
+pub returns-then-still_holds : goal.returns-then-still_holds
+returns-then-still_holds c =
     let m = c.args.market.now in
     let w = c.args.aim.now.welfare in
     let word = word_of c.args.prefix.now in
     let some = early_above m c.args.aim.now word c.requires.aim (c.comes_before.ensures.0 c.if-not-comes_before.false) in
-    low_stays m w (w - 1) (word_of c.args.aim.now.word) word c.args.leaf (omega (arith, some))
-    (subst (λ (z : ℤ). LeafHolds m z word c.args.leaf) c.quarter_cents_of.ensures (c.check_leaf.ensures.holds.0 c.if-check_leaf.true))
+    low_stays m w (w - 1) (word_of c.args.aim.now.word) word c.args.leaf (omega (arith, some)) (c.still_holds.ensures.0 c.if-still_holds.true)
 
 all_or_less : (n k : ℕ) → n ≤ k → eqb n k ≡ false → n < k
 all_or_less n k l e = grind (arith, nat_tests)

@@ -1,10 +1,11 @@
 -- What the scheduled runs of several quarters bring, where each quarter has one.
-use Rattle.std.proofs.Common.{◌≡◌, ◌∙◌, ◌+◌, ◌-◌, ◌<◌, ◌≤◌, ◌==◌, ℕ, Bool, true, false, [], Option, Some, None, filter, get_or, length, pos, refl, sym, subst, arith}
-use Rattle.std.specs.Prelude.{is_some, not, option_map, position, unwrap_or}
+use Rattle.std.proofs.Common.{◌≡◌, ◌∙◌, ◌+◌, ◌-◌, ◌<◌, ◌≤◌, ◌==◌, ℕ, Bool, true, false, [], Option, Some, None, Contains, ap, filter, get_or, length, pos, refl, sym, subst, arith}
+use Rattle.std.specs.Prelude.{is_some, nat_le, not, option_map, position, unwrap_or}
 use Rattle.std.specs.List.{All, range_with_len}
-use Rattle.std.proofs.lemmas.Bool.{and_parts, eq-eqb, eqb-true, not-false}
+use Rattle.std.proofs.lemmas.Bool.{and_parts, eq-eqb, eqb-true, le-leb, leb-true, not-false}
 use Rattle.std.proofs.lemmas.List.FromFn.{get_or-range_with_len, length-range_with_len}
 use Rattle.std.proofs.lemmas.List.Quantifiers.{position-Some}
+use Rattle.std.proofs.lemmas.Nat.{div-mul-add}
 use Rattle.mari_bids.specs.Bids.{bid_numbered}
 use Rattle.mari_demands.specs.declared.runs.Run.{Run}
 use Rattle.mari_market.specs.Market.{IsValid}
@@ -15,11 +16,33 @@ use Rattle.mari_remain.specs.RunMarket.{market_at, taken_before}
 use Rattle.mari_remain.specs.declared.books.Books.{Books}
 use Rattle.mari_remain.proofs.Choosing.{available, of_the_quarter, own-chosen, quarter-at}
 use Rattle.mari_remain.proofs.Validity.{parents, there, valid}
-use Rattle.mari_blocks.specs.Blocks.{quarter_at}
-use Rattle.mari_blocks.specs.Joint.{is_scheduled, lacks_run, offered, bids_brought, quarters_of, run_of_quarter, scheduled_run_of}
+use Rattle.mari_blocks.specs.Blocks.{is_within, quarter_at}
+use Rattle.mari_blocks.specs.Joint.{is_scheduled, lacks_run, offered, bids_brought, quarters_of, run_of_quarter, scheduled_run_of, zones_before}
+use Rattle.mari_blocks.specs.Prices.{zone_quarter}
 use Rattle.mari_blocks.proofs.Listing.{none-at}
 use Rattle.mari_blocks.proofs.Parents.{FollowParents, follow-filter, follow-flat, follow-range}
 use Rattle.mari_blocks.proofs.Ranges.{all-flat}
+
+-- a quarter that passes the test is in the list, and one in the list passes
+pub within-has : (first last quarter : ℕ) → is_within first last quarter ≡ true → Contains (quarters_of first last) quarter
+within-has first last quarter t =
+    let both = and_parts (nat_le first quarter) (nat_le quarter last) t in
+    let low = leb-true first quarter both.0 in
+    let high = leb-true quarter last both.1 in
+    let small : quarter - first < last + 1 - first = omega (arith, low, high) in
+    let at = get_or-range_with_len first (last + 1 - first) (quarter - first) quarter small in
+    (quarter - first, omega (arith, small, length-range_with_len first (last + 1 - first)), at ∙ omega (arith, low))
+
+pub has-within : (first last quarter : ℕ) → Contains (quarters_of first last) quarter → is_within first last quarter ≡ true
+has-within first last quarter c =
+    let small : c.0 < last + 1 - first = omega (arith, c.1, length-range_with_len first (last + 1 - first)) in
+    let at : quarter ≡ first + c.0 = sym c.2 ∙ get_or-range_with_len first (last + 1 - first) c.0 quarter small in
+    rw (le-leb first quarter (omega (arith, at)), le-leb quarter last (omega (arith, at, small))) refl
+
+-- the quarter of a zone that stands among those of a quarter
+pub zone-has-quarter : (books : Books) (first quarter zone : ℕ) → first ≤ quarter → zone < length books.zones.zones → zone_quarter books first (zones_before books first quarter + zone) ≡ quarter
+zone-has-quarter books first quarter zone low l =
+    ap (λ k. first + k) (div-mul-add (quarter - first) (length books.zones.zones) zone l) ∙ omega (arith, low)
 
 -- a run, where there is none
 abbrev no_run : Run

@@ -40,6 +40,7 @@ is_within first last quarter = nat_le first quarter && nat_le quarter last
 abbrev pub is_parent_of : ℕ → BidLinks → Bool
 is_parent_of bid child = option_map_or (λ parent. parent == bid) child.parent false
 
+-- whether a bid is the parent of some other
 abbrev pub is_parent : List BidLinks → ℕ → Bool
 is_parent links bid = list_any (is_parent_of bid) links
 

@@ -123,7 +123,7 @@ module _ (books : Books) (first last : ℕ) where
   abbrev pub is_of_quarters : (bid : ℕ) → Bool
   is_of_quarters bid = is_within first last (quarter_at books.bids bid)
 
-  -- links that name such a bid of an earlier quarter
+  -- links of other quarters that name such a bid
   abbrev pub names_of_quarters : BidLinks → Bool
   names_of_quarters links = list_any is_of_quarters links.needs || list_any is_of_quarters links.bars || list_any is_of_quarters links.technical
 
@@ -185,7 +185,7 @@ module _ (books : Books) (blocks : BlockBook) (first last : ℕ) where
   abbrev pub joint_of : Joint
   joint_of = record { market = joint_market_of; bids = joint_numbers; demands = length (joint_demands books first last) }
 
-  -- it has more of something than a market may have
+  -- it has more of something than a run's market may have
   abbrev pub is_too_large : Bool
   is_too_large =
       nat_lt MOST_ZONES joint_market_of.zones

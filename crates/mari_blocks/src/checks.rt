@@ -24,7 +24,7 @@ pub enum JointCheck {
     /// A bid needs a bid of another of the quarters, is barred by it, or has a technical link to it: reported of
     /// links.csv.
     AcrossQuarters,
-    /// The joint market has more of something than a market may have: reported of blocks.csv.
+    /// The joint market has more of something than a run's market may have: reported of blocks.csv.
     TooLarge,
 }
 

@@ -13,7 +13,7 @@ use std::alloc::{AllocError, Global};
 use std::process::Abort;
 use std::test::Fail;
 
-/// What a page is of; bids and runs are of a day of so many quarter hours.
+/// What a page is of; bids and runs are of a day of this number of quarter hours.
 #[derive(Clone, Copy)]
 pub(crate) enum Kind {
     /// Zones.

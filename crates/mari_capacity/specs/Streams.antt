@@ -108,8 +108,8 @@ pub record StatesValid (books : Books) (more : ℕ) (text : List ℕ) (published
   pub lines : IsValueText books more publication.blocks front
   pub text_is : text ≡ front ++ closing_line published unpublished
 
--- where a publication is valid there are all its lines and the last one, and else the lines of blocks that were checked,
--- or nothing where no page was opened
+-- where a publication is valid there are all its lines and the last one, and else the lines of blocks that were
+-- checked, or nothing where no page was opened
 abbrev pub LinesReport : Books → (more : ℕ) → (text : List ℕ) → ValueEnd → Type 0
 LinesReport books more text (Valid published unpublished) = StatesValid books more text published unpublished
 LinesReport books more text (Invalid run number) = StatesSome books more text
@@ -123,6 +123,7 @@ IsPageEnd why (Valid published unpublished) = ⊥
 IsPageEnd why (Invalid run number) = ⊥
 IsPageEnd why (OfText f) = ⊥
 
+-- the values end by this answer of the shelf
 abbrev pub IsPageFault : {E : Type 0} → Fetch → Result Valued E → Type 0
 IsPageFault why (Ok v) = IsPageEnd why v.end
 IsPageFault why (Err e) = ⊥

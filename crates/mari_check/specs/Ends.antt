@@ -26,6 +26,7 @@ abbrev pub along_of : End → Along
 along_of Least = Rising
 along_of Greatest = Falling
 
+-- the order sets a bound at this end: a lower one at the least end, an upper one at the greatest
 abbrev pub SetsAtEnd : End → Standing → Side → (greatest q : ℕ) → Type 0
 SetsAtEnd Least s side greatest q = SetsLower s side greatest q
 SetsAtEnd Greatest s side greatest q = SetsUpper s side greatest q
@@ -45,6 +46,7 @@ pub record IsTightestOf (end : End) (os : List Order) (qs : List ℕ) (z n : ℕ
   pub bound : IsBoundBy end os qs z n
   pub tightest : (k : ℕ) → IsBoundBy end os qs z k → k ≤ n
 
+-- the zone's entry in a list of bounds is the tightest
 abbrev pub IsTightest : End → List Order → List ℕ → (z : ℕ) → List ℕ → Type 0
 IsTightest end os qs z bounds = IsTightestOf end os qs z (slice_index bounds z)
 

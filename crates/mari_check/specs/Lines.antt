@@ -32,7 +32,7 @@ IsInOrder l = l.least.0 ≤ℤ l.greatest.0
 abbrev pub IsNearestLine : Cents → ZoneLine → Type 0
 IsNearestLine reference l = IsNearest l.least.0 l.greatest.0 reference.0 l.price.0
 
--- one price beside another
+-- one price beside another, of two lists
 abbrev pub IsSamePrice : Cents → Cents → Type 0
 IsSamePrice c own = c ≡ own
 
@@ -40,7 +40,7 @@ IsSamePrice c own = c ≡ own
 abbrev pub StatesRent : BorderLine → Quarters → Type 0
 StatesRent l rent = l.rent ≡ rent
 
--- a line is the one that it is to be
+-- a line is the one that it is to be, of two lists: of operators, and of providers
 abbrev pub IsSameMoneyLine : MoneyLine → MoneyLine → Type 0
 IsSameMoneyLine l own = l ≡ own
 

@@ -10,6 +10,7 @@ use Rattle.mari_market.specs.declared.along.Along.{Along}
 abbrev pub most_value : ℕ
 most_value = 2 * unsigned_abs CAP
 
+-- each value is at most the greatest height
 abbrev pub AreSmall : List ℕ → Type 0
 AreSmall values = All (λ v. v ≤ most_value) values
 
@@ -37,6 +38,7 @@ pub data Spreads (lead : ℕ → ℕ → Type 0) (old : List ℕ) : List ℕ →
 abbrev pub IsClosedOver : Along → List ℕ → Border → ℤ → Type 0
 IsClosedOver along vs b f = (y z : ℕ) → LeadsOver along y z b f → slice_index vs y ≤ slice_index vs z
 
+-- over no border a value is left to raise
 abbrev pub IsClosed : Along → List ℕ → List Border → List ℤ → Type 0
 IsClosed along vs bs fs = AllZip (IsClosedOver along vs) bs fs
 

@@ -142,6 +142,7 @@ IsOpen books (part.Totals operators providers ∷ rest) day = ⊥
 abbrev pub SettlesVerdict : Books → List Part → Verdict → Type 0
 SettlesVerdict books parts verdict = (p : Publication) (more : List Part) → parts_of p ≡ parts ++ more → IsVerdict books p verdict
 
+-- what is known of the verdict after these parts: it is open, or settled
 abbrev pub IsVerdictSoFar : Books → List Part → DayCheck → Option Verdict → Type 0
 IsVerdictSoFar books parts day None = IsOpen books parts day
 IsVerdictSoFar books parts day (Some verdict) = SettlesVerdict books parts verdict
@@ -158,6 +159,7 @@ pub record IsAllRead (books : Books) (text : List ℕ) (stream : Stream) : Type 
   pub waits : stream.reader.waits ≡ true
   pub no_fault : NoFault text
 
+-- a fault of the text is that of its first bad line
 abbrev pub LineStates : List ℕ → StreamFault → Type 0
 LineStates text (OfText f) = IsLineFault text f
 LineStates text (OfFetch f) = ⊥

@@ -84,8 +84,8 @@ fn spread_out(values: &mut [u64], borders: &[Border], flow: &[i64], along: Along
 
 /// Each zone's value, raised to the greatest of the zones that lead to it, directly or through others.
 ///
-/// It goes over the borders until a round raises nothing. That such rounds are at most the number of zones, and one
-/// more, no clause says.
+/// It goes over the borders until a round raises nothing. No clause says that there are at most as many such rounds as
+/// zones, and one more.
 pub(crate) fn spread(values: Vec<u64>, borders: &[Border], flow: &[i64], along: Along) -> Vec<u64>
     requires lengths { length flow.now ≡ length borders.now }
     requires ends { All (IsBetween (length values.items)) borders.now }

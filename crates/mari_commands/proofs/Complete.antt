@@ -36,7 +36,7 @@ use Rattle.mari_commands.specs.declared.outcome.Outcome.{Outcome}
 use Rattle.mari_commands.specs.declared.outcome.Outcome.TheVariants.{NoCommand, Day, Feed as Feeds, Blocks as Joins, Values, Text, Invalid, NoPage, Refused, Memory as NoMemory}
 use Rattle.mari_commands.specs.declared.status.Status.{Status}
 use Rattle.mari_commands.specs.declared.status.Status.TheVariants as status
-use Rattle.mari_commands.specs.Commands.{EndsValues, IsClearable, IsFeedable, IsMigratable, IsReadable, LacksPage, RefusesFeed, RefusesFiles, RefusesText, fetch_of, publication_path, text_refusal}
+use Rattle.mari_commands.specs.Commands.{EndsValues, HasBooksToClear, IsFeedable, IsMigratable, IsReadable, LacksPage, RefusesFeed, RefusesFiles, RefusesText, fetch_of, publication_path, text_refusal}
 use Rattle.mari_commands.specs.Headline.{HasBudget}
 use Rattle.mari_commands.specs.Outcome.{IsOfWords, IsReportedValues, Reported, Reports, ReportsFeed, ReportsParts, ReportsText, Says, day_status}
 use Rattle.mari_commands.specs.Outcome.Reports.{Printed, CutOff, Starved}
@@ -290,10 +290,10 @@ module _ (shown : Option Pages) (late : Type 0) (before after : Option (List ℕ
       | inr (inr ends) ↦ values-gap gap ends
     ]
 
-    clearable-comes : (h : IsClearable asked pages) → Comes (IsDayOf Whole h.books h.nodes) o
+    clearable-comes : (h : HasBooksToClear asked pages) → Comes (IsDayOf Whole h.books h.nodes) o
     clearable-comes h = let c = h.cleared in day-comes asked pages o Whole c.folder h.nodes c.workers h.books says c.clear c.gives
 
-    pub cleared-answer : IsClearable asked pages → OrFault IsDayStatus result
+    pub cleared-answer : HasBooksToClear asked pages → OrFault IsDayStatus result
     cleared-answer h = day-of-answer o Whole h.books h.nodes (clearable-comes h) reported
 
     pub complete-answer : HasBudget asked pages → OrFault (IsStatus status.Done) result

@@ -28,7 +28,7 @@ use Rattle.mari_commands.specs.declared.outcome.Outcome.TheVariants.{Blocks as J
 use Rattle.mari_commands.specs.declared.status.Status.{Status}
 use Rattle.mari_commands.specs.declared.status.Status.TheVariants as status
 use Rattle.mari_commands.specs.Joint.{Decides, IsJoinable}
-use Rattle.mari_commands.specs.Outcome.{Reported, Reports, ReportsBlocks, ReportsQuarters, Says, blocks_of}
+use Rattle.mari_commands.specs.Outcome.{Reported, Reports, ReportsBlocks, ReportsQuarters, Says, joint_command}
 use Rattle.mari_commands.specs.Outcome.Reports.{Printed, CutOff, Starved}
 use Rattle.mari_commands.specs.Outcome.Says.{OfUsage, OfRefusal, OfGap, OfClear, OfCheck, OfMigrate, OfGenerate, OfValues, OfFeed, OfBlocks, Fails, Starves}
 use Rattle.mari_commands.specs.Printing.{file_line, refused_line}
@@ -41,7 +41,7 @@ use Rattle.mari_commands.proofs.Folder.{no_other, reads_no_folder}
 record IsJoined (folder : List ℕ) (first last nodes workers : ℕ) (o : Outcome) : Type 0 where
   quarters : JointJob
   is : o ≡ Joins quarters
-  words : blocks_of quarters ≡ Blocks folder first last nodes workers
+  words : joint_command quarters ≡ Blocks folder first last nodes workers
 
 module _ (asked : Option Asked) (pages : Pages) where
   joins-comes : (o : Outcome) (folder : List ℕ) (first last nodes workers : ℕ) → Says asked pages o
@@ -57,7 +57,7 @@ module _ (asked : Option Asked) (pages : Pages) where
   joins-comes o folder first last nodes workers (OfValues g more books e k states) c = absurd (cc)
   joins-comes o folder first last nodes workers (OfFeed x e f) c = absurd (cc)
   joins-comes o folder first last nodes workers (OfBlocks q e f) c =
-      inl (record { quarters = q; is = f; words = let both : Some (blocks_of q) ≡ Some (Blocks folder first last nodes workers) = sym e ∙ c in cc })
+      inl (record { quarters = q; is = f; words = let both : Some (joint_command q) ≡ Some (Blocks folder first last nodes workers) = sym e ∙ c in cc })
   joins-comes o folder first last nodes workers (Fails x n y e) c = absurd (reads_no_folder asked _ x c refl y)
   joins-comes o folder first last nodes workers (Starves e) c = inr (subst IsExcused (sym e) tt)
 
@@ -138,7 +138,7 @@ module _ (shown : Option Pages) (late : Type 0) (before after : Option (List ℕ
   by-quarters Q folder first last nodes workers words ends = elim (joins-comes asked pages o folder first last nodes workers says words) [
     | inl found ↦
         let r : ReportsBlocks shown late found.quarters before after result = same-report shown late before after result o (Joins found.quarters) found.is reported in
-        let states : StatesOf pages (blocks_of found.quarters) r.given = r.states pages is_shown in
+        let states : StatesOf pages (joint_command found.quarters) r.given = r.states pages is_shown in
         ends r.given (subst (λ (x : Asked). StatesOf pages x r.given) found.words states) r.reports
     | inr e ↦ excused shown late before after result Q o e reported
   ]

@@ -21,7 +21,7 @@ use Rattle.mari_commands.specs.declared.status.Status.TheVariants as status
 use Rattle.mari_commands.specs.Commands.{AsksForBlocks}
 use Rattle.mari_commands.specs.Joint.{AnswersOf, AreCutOff, BlocksAnswers}
 use Rattle.mari_commands.specs.Joint.AreCutOff.{Text as CutText, Refuses, Lacks, Fails}
-use Rattle.mari_commands.specs.Outcome.{IsNoPage, IsOfWords, IsReportable, IsSayable, Reported, Reports, ReportsBlocks, ReportsQuarters, Says, WhereReported, blocks_of}
+use Rattle.mari_commands.specs.Outcome.{IsNoPage, IsOfWords, IsReportable, IsSayable, Reported, Reports, ReportsBlocks, ReportsQuarters, Says, WhereReported, joint_command}
 use Rattle.mari_commands.specs.Outcome.Reports.{Printed, CutOff, Starved}
 use Rattle.mari_commands.specs.Printing.{file_line, refused_line}
 use Rattle.mari_commands.proofs.Ending.{answers}
@@ -125,9 +125,9 @@ module _ (q : JointJob) (pages : Option Pages) (failed : Type 0) (before after :
 
 -- the words ask for quarters, and this is what is reported of them
 module _ (pages : Option Pages) (failed : Type 0) (before after : Option (List ℕ)) (result : Status) (late : Type 0) (later : late → failed) where
-  of-quarters : (x : Asked) (q : JointJob) → Some x ≡ Some (blocks_of q) → ReportsBlocks pages late q before after result → AnswersOf (Some x) pages failed before after result
+  of-quarters : (x : Asked) (q : JointJob) → Some x ≡ Some (joint_command q) → ReportsBlocks pages late q before after result → AnswersOf (Some x) pages failed before after result
   of-quarters x q e r =
-      let ends : AnswersOf (Some (blocks_of q)) pages failed before after result = by-given q pages failed before after r.given result r.states r.file r.sayable (λ h. later (r.cause h)) r.reports in
+      let ends : AnswersOf (Some (joint_command q)) pages failed before after result = by-given q pages failed before after r.given result r.states r.file r.sayable (λ h. later (r.cause h)) r.reports in
       subst (λ (o : Option Asked). AnswersOf o pages failed before after result) (sym e) ends
 
   blocks-answers : (folder : List ℕ) (first last nodes workers : ℕ) (o : Outcome) → IsOfWords (Some (Blocks folder first last nodes workers)) o → Reported pages late o before after result

@@ -78,7 +78,8 @@ IsAlone asked file = AsksForLines asked → file ≢ PUBLICATION
 abbrev pub AsksForBlocks : Option Asked → Type 0
 AsksForBlocks asked = (folder : List ℕ) × (first : ℕ) × (last : ℕ) × (nodes : ℕ) × (workers : ℕ) × (asked ≡ Some (Blocks folder first last nodes workers))
 
--- the words ask for what reads pages: a folder's market files, its publication alone, or its market files and blocks.csv
+-- the words ask for what reads pages: a folder's market files, its publication alone, or its market files and
+-- blocks.csv
 abbrev pub AsksForPages : Option Asked → Type 0
 AsksForPages asked = AsksForFiles asked ⊎ (AsksForFeed asked ⊎ AsksForBlocks asked)
 
@@ -116,7 +117,8 @@ pub record IsFeedable (asked : Option Asked) (pages : Pages) : Type 0 where
   pub short : length page ≤ most_given
   pub read : IsText page publication
 
--- the limits of the folder's borders are valued: its market files give books, and the valuing of its publication ends so
+-- the limits of the folder's borders are valued: its market files give books, and the valuing of its publication ends
+-- so
 pub record EndsValues (asked : Option Asked) (pages : Pages) (end : ValueEnd) : Type 0 where
   pub folder : List ℕ
   pub more : ℕ
@@ -227,8 +229,8 @@ pub record AreCleared (asked : Option Asked) (pages : Pages) (books : Books) (no
   pub clear : asked ≡ Some (Clear folder nodes workers)
   pub gives : HasBooks pages folder books
 
--- the folder's pages give books that may be cleared within this budget of nodes
-pub record IsClearable (asked : Option Asked) (pages : Pages) : Type 0 where
+-- the folder's pages give books, whose runs the words ask to clear within a budget of nodes
+pub record HasBooksToClear (asked : Option Asked) (pages : Pages) : Type 0 where
   pub books : Books
   pub nodes : ℕ
   pub cleared : AreCleared asked pages books nodes

@@ -14,7 +14,7 @@ use Rattle.mari_day.specs.Day.{HasEnough, IsDay, then_took}
 use Rattle.mari_day.specs.Keeps.{BlockSumsToZero}
 use Rattle.mari_progress.specs.Keeps.{KeepsOffers, net_sum}
 use Rattle.mari_words.specs.Asked.{Asked}
-use Rattle.mari_commands.specs.Commands.{AreCleared, IsClearable}
+use Rattle.mari_commands.specs.Commands.{AreCleared, HasBooksToClear}
 
 -- the text of a day of the folder that the words ask to clear: its pages are held and give books, and the text is that
 -- of their day within the budget of nodes, with a block for each run, in order. Each published run has a first
@@ -45,5 +45,5 @@ pub record WroteDay (asked : Option Asked) (pages : Pages) (whole : Bool) (befor
 
 -- the budget holds the search tree of each run's market, whatever blocks are printed before it
 pub record HasBudget (asked : Option Asked) (pages : Pages) : Type 0 where
-  pub clearable : IsClearable asked pages
+  pub clearable : HasBooksToClear asked pages
   pub enough : HasEnough clearable.books clearable.nodes

@@ -73,15 +73,15 @@ abbrev pub MayWant : Option Asked → (file : ℕ) → Type 0
 MayWant asked file = (AsksForFiles asked × IsFileNumber file) ⊎ ((AsksToCheck asked ⊎ AsksForLines asked) × (file ≡ PUBLICATION))
 
 -- the command that clears these quarters as one market
-abbrev pub blocks_of : JointJob → Asked
-blocks_of quarters = Blocks (string_bytes quarters.folder) quarters.first quarters.last quarters.nodes quarters.workers
+abbrev pub joint_command : JointJob → Asked
+joint_command quarters = Blocks (string_bytes quarters.folder) quarters.first quarters.last quarters.nodes quarters.workers
 
 -- the words ask for what may come to this outcome, whatever the pages are
 abbrev pub IsOfWords : Option Asked → Outcome → Type 0
 IsOfWords asked NoCommand = asked ≡ None
 IsOfWords asked (Day job) = (folder : List ℕ) × (asked ≡ Some (command_by job.way folder job.nodes job.workers))
 IsOfWords asked (Feeds folder) = asked ≡ Some (Feed (string_bytes folder))
-IsOfWords asked (Joins quarters) = asked ≡ Some (blocks_of quarters)
+IsOfWords asked (Joins quarters) = asked ≡ Some (joint_command quarters)
 IsOfWords asked (Values v) = AsksForValues asked × (IsWrapped v.end → ⊥)
 IsOfWords asked (Text text) = AsksForText asked text.items
 IsOfWords asked (Invalid run number) = AsksToCheck asked
@@ -108,7 +108,8 @@ pub record IsReady (job : Job) : Type 0 where
   pub nodes : IsBudget job.nodes
   pub workers : IsWorkerCount job.workers
 
--- quarters that can be cleared as one market, if their folder's pages let them: all numbers are within their limits
+-- quarters that can be cleared as one market, if their folder's pages let them: none comes after the day's last, and
+-- the other numbers are within their limits
 pub record AreJoinable (quarters : JointJob) : Type 0 where
   pub in_order : quarters.first ≤ quarters.last
   pub last : quarters.last ≤ MOST_QUARTERS
@@ -290,9 +291,9 @@ IsReportedValues books more page NoMemory = ⊤
 IsReportedValues books more page _ = ⊥
 
 -- what an outcome says of what the words ask for and of the pages: the words are no command; a folder's market files
--- are refused, or a page of them can't be had; or they give books, which are cleared, checked, migrated or valued; a day
--- is generated; a publication is printed as a feed; quarters are cleared as one market; or a fetch failed, or there was no
--- memory
+-- are refused, or a page of them can't be had; or they give books, which are cleared, checked, migrated or valued; a
+-- day is generated; a publication is printed as a feed; quarters are cleared as one market; or a fetch failed, or there
+-- was no memory
 pub data Says (asked : Option Asked) (pages : Pages) (o : Outcome) : Type 0 where
   OfUsage : asked ≡ None → o ≡ NoCommand → Says asked pages o
   OfRefusal : (folder : List ℕ) (refusal : Refusal) → ReadsFolder asked folder → HasRefusal pages folder refusal → o ≡ Refused refusal → Says asked pages o
@@ -305,7 +306,7 @@ pub data Says (asked : Option Asked) (pages : Pages) (o : Outcome) : Type 0 wher
       → HasBooks pages folder books → IsReportedValues books more (page_of pages (publication_path folder)) o
       → Says asked pages o
   OfFeed : (folder : String Global) → asked ≡ Some (Feed (string_bytes folder)) → o ≡ Feeds folder → Says asked pages o
-  OfBlocks : (quarters : JointJob) → asked ≡ Some (blocks_of quarters) → o ≡ Joins quarters → Says asked pages o
+  OfBlocks : (quarters : JointJob) → asked ≡ Some (joint_command quarters) → o ≡ Joins quarters → Says asked pages o
   Fails : (folder : List ℕ) (file : ℕ) → ReadsFolder asked folder → o ≡ NoPage file fetch.Failed → Says asked pages o
   Starves : o ≡ NoMemory → Says asked pages o
 

@@ -39,8 +39,8 @@ abbrev pub TookOf : (List ℕ → Option (List ℕ) → Option (List ℕ) → Ty
 TookOf Took None before after = after ≡ before
 TookOf Took (Some page) before after = Took page before after
 
--- how the valuing of a publication ends where its text is refused, where a call of the shelf failed, where its page can't
--- be had, and where a fault of the check is the first
+-- how the valuing of a publication ends where its text is refused, where a call of the shelf failed, where its page
+-- can't be had, and where a fault of the check is the first
 abbrev pub IsRefusedEnd : Refusal → ValueEnd → Type 0
 IsRefusedEnd refusal end = (fault : TextFault) × (end ≡ values.Text fault) × (refusal ≡ text_refusal fault)
 
@@ -58,8 +58,8 @@ abbrev pub SaysValues : Option Asked → Pages → (Ends : ValueEnd → Type 0) 
 SaysValues asked pages Ends lines = (end : ValueEnd) × Ends end × StatesValues asked pages end lines
 
 -- what is printed before a line that names this file: nothing, where the words ask for no lines of a publication or the
--- file isn't that; or lines of its parts, where they ask for a feed; or the lines of the blocks that were checked, where
--- they ask for the values of limits
+-- file isn't that; or lines of its parts, where they ask for a feed; or the lines of the blocks that were checked,
+-- where they ask for the values of limits
 pub data TookAhead (asked : Option Asked) (pages : Option Pages) (file : ℕ) (Took : List ℕ → Option (List ℕ) → Option (List ℕ) → Type 0) (Ends : ValueEnd → Type 0) (before after : Option (List ℕ)) : Type 0 where
   Nothing : IsAlone asked file → after ≡ before → TookAhead asked pages file Took Ends before after
   Lines : (folder : List ℕ) → asked ≡ Some (Feed folder) → file ≡ PUBLICATION
@@ -69,20 +69,20 @@ pub data TookAhead (asked : Option Asked) (pages : Option Pages) (file : ℕ) (T
       → WhereReported pages (λ reported. SaysValues asked reported Ends lines) → after ≡ then_took before lines
       → TookAhead asked pages file Took Ends before after
 
--- and then this line was taken, or a first part of it
+-- and then this line was taken
 pub record TookLine (asked : Option Asked) (pages : Option Pages) (file : ℕ) (Took : List ℕ → Option (List ℕ) → Option (List ℕ) → Type 0) (Ends : ValueEnd → Type 0) (line : List ℕ) (before after : Option (List ℕ)) : Type 0 where
   pub between : Option (List ℕ)
   pub ahead : TookAhead asked pages file Took Ends before between
   pub took : after ≡ then_took between line
 
--- of a feed
+-- and then a first part of this line was taken
 pub record BeganLine (asked : Option Asked) (pages : Pages) (Took : List ℕ → Option (List ℕ) → Option (List ℕ) → Type 0) (line : List ℕ) (before after : Option (List ℕ)) : Type 0 where
   pub between : Option (List ℕ)
   pub ahead : TookAhead asked (Some pages) PUBLICATION Took (λ end. ⊥) before between
   pub began : TookPart between after line
 
--- the lines of the values and the line of their status, or a first part of these; that a call of the shelf failed is said
--- only where one did
+-- the lines of the values and the line of their status, or a first part of these; that a call of the shelf failed is
+-- said only where one did
 pub record BeganValues (asked : Option Asked) (pages : Pages) (failed : Type 0) (before after : Option (List ℕ)) : Type 0 where
   pub end : ValueEnd
   pub lines : List ℕ
@@ -100,8 +100,8 @@ pub data IsDone (asked : Option Asked) (pages : Pages) (before after : Option (L
   Split : WroteSplit asked pages true before after → IsDone asked pages before after
   Printed : (text : List ℕ) → Prints asked pages text → after ≡ then_took before text → IsDone asked pages before after
 
--- a text that may be printed where no day or feed is and no values, by what it states; that a fetch failed is reported only
--- where one did
+-- a text that may be printed where no day or feed is and no values, by what it states; that a fetch failed is reported
+-- only where one did
 pub data IsLine (asked : Option Asked) (pages : Pages) (failed : Type 0) (text : List ℕ) : Type 0 where
   OfUsage : asked ≡ None → text ≡ usage_line → IsLine asked pages failed text
   OfRefusal : (refusal : Refusal) → IsRefused asked pages refusal → IsAlone asked refusal.file → text ≡ refused_line refusal → IsLine asked pages failed text

@@ -31,8 +31,8 @@ fn already_two_files() -> Refusal
     }
 }
 
-/// The new form of a file.
-fn page_of(alloc: Global, books: &Books, part: FilePart) -> Result<Vec<u8>, Memory>
+/// The page of a file in its new form.
+fn new_page(alloc: Global, books: &Books, part: FilePart) -> Result<Vec<u8>, Memory>
     requires { IsAccepted books.now }
     ensures { IfOk result (λ text. text.items ≡ page_of_part part books.now) }
 {
@@ -50,7 +50,7 @@ fn migrated_books(alloc: Global, books: &Books, part: FilePart) -> Outcome
     if books.limits.is_some() {
         return Outcome::Refused(already_two_files());
     }
-    match page_of(alloc, books, part) {
+    match new_page(alloc, books, part) {
         Ok(text) => Outcome::Text(text),
         Err(Memory) => Outcome::Memory,
     }

@@ -9,7 +9,7 @@ ghost use Rattle.mari_day.specs.Files.{Gap};
 ghost use Rattle.mari_capacity.specs.declared.ending.ValueEnd.{ValueEnd as TheValueEnd};
 ghost use Rattle.mari_words.specs.Asked.Asked.{Generate};
 ghost use Rattle.mari_words.specs.Words.{command_at};
-ghost use Rattle.mari_commands.specs.Commands.{AsksForFiles, AsksForPages, EndsValues, IsClearable, IsFeedable, IsMigratable, IsReadable, LacksPage, RefusesFeed, RefusesFiles, RefusesText, text_refusal};
+ghost use Rattle.mari_commands.specs.Commands.{AsksForFiles, AsksForPages, EndsValues, HasBooksToClear, IsFeedable, IsMigratable, IsReadable, LacksPage, RefusesFeed, RefusesFiles, RefusesText, text_refusal};
 ghost use Rattle.mari_commands.specs.Headline.{HasBudget};
 ghost use Rattle.mari_commands.specs.Outcome.{IsNoPage, IsOfWords, IsOwn, IsReportable, IsSummarised, Reported, Says};
 ghost use Rattle.mari_commands.specs.Values.{value_status};
@@ -137,7 +137,7 @@ fn finish<S: Shelf, K: Sink, G: Turnstile, R: Threads + Wait + Sync>(
 /// - `generate NUMBER` clears a generated day and prints its summary.
 /// - `migrate FOLDER borders` and `migrate FOLDER limits` print these files in the form that states limits for each
 ///   run.
-/// - `feed FOLDER` prints the folder's publication.txt, of which alone it reads, as JSON: a line for each part.
+/// - `feed FOLDER` prints the folder's publication.txt as JSON, a line for each part. It reads no other file.
 /// - `split FOLDER [--nodes N] [--workers K]` clears the runs of the folder's day island by island, each island within N
 ///   nodes, and prints the day as it is made.
 /// - `value FOLDER K` prints what K MW more, 1 to `MOST_RAISE`, on each limit of a border would bring each run of the
@@ -186,7 +186,7 @@ pub fn run_program<S: Shelf, K: Sink, G: Turnstile, R: Threads + Wait + Sync>(
     // of each island where they are cleared island by island; a publication that is read is checked, or printed as a
     // feed; the values of limits end as the publication does, with their last line exactly where it is valid; files
     // that state their limits for the day are migrated; and days are generated.
-    ensures cleared { (reported : Pages) → S.pages shelf.old ≡ Some reported → IsClearable (command_at (map string_bytes words.now)) reported → OrFault IsDayStatus result }
+    ensures cleared { (reported : Pages) → S.pages shelf.old ≡ Some reported → HasBooksToClear (command_at (map string_bytes words.now)) reported → OrFault IsDayStatus result }
     ensures complete { (reported : Pages) → S.pages shelf.old ≡ Some reported → HasBudget (command_at (map string_bytes words.now)) reported → OrFault (IsStatus Status.Done) result }
     ensures split { (reported : Pages) → S.pages shelf.old ≡ Some reported → IsSplittable (command_at (map string_bytes words.now)) reported → OrFault IsDayStatus result }
     ensures islands { (reported : Pages) → S.pages shelf.old ≡ Some reported → HasIslandBudget (command_at (map string_bytes words.now)) reported → OrFault (IsStatus Status.Done) result }

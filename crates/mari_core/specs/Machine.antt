@@ -18,7 +18,7 @@ use Rattle.mari_core.specs.Growth.{Grown, seed, grown, settling, MaySettle, take
 use Rattle.mari_core.specs.Growth.Entry.{Take as TakeEntry, GiveBack as GiveBackEntry}
 
 -- a search: its tree; the incumbent, which is the greatest welfare that is known; what each actor saw, offered and has
--- as its best; and the first activation, the best of those with all gates closed
+-- as its best; and the first activation, an admissible one of the closed welfare
 pub record Machine : Type 0 where
   pub tree : Grown
   pub incumbent : ℕ

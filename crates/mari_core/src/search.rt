@@ -103,8 +103,8 @@ impl Actor {
 }
 
 impl<'m> Search<'m> {
-    /// A search whose one node waits, by `actors` actors, that knows `first`, the best activation with all gates
-    /// closed.
+    /// A search whose one node waits, by `actors` actors, that knows `first`, an admissible activation of the closed
+    /// welfare.
     pub fn start(
         alloc: Global,
         market: &'m Market,
@@ -112,7 +112,7 @@ impl<'m> Search<'m> {
         first: Attained,
         budget: u32,
     ) -> Result<Search<'m>, Memory>
-        // A market, somebody to search it, and its best activation with all gates closed.
+        // A market, somebody to search it, and an admissible activation of its closed welfare.
         requires market { IsValid market.now }
         requires actors { 1 ≤ actors }
         requires attained { IsAttained market.now first }

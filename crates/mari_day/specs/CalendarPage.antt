@@ -45,6 +45,7 @@ day_of_rows [] = Err (not_one 1)
 day_of_rows (row ∷ []) = day_of_row row
 day_of_rows (row ∷ second ∷ more) = Err (not_one second.line)
 
+-- the day of the rows that were read
 abbrev pub day_of_read : Result (List Row) RowFault → Result CalendarDay BookFault
 day_of_read (Ok rows) = day_of_rows rows
 day_of_read (Err fault) = Err (refusal_of fault)

@@ -24,7 +24,7 @@ abbrev pub IsOfFile : {T : Type 0} → File → Result T PagesFault → Type 0
 IsOfFile file (Ok x) = ⊤
 IsOfFile file (Err fault) = IsFaultOfFile file fault
 
--- how many fetches the page of one file takes: one, and without memory one at most
+-- the number of fetches that the page of one file takes: one, and when out of memory one at most
 abbrev pub FetchedOne : (before now : ℕ) → PagesFault → Type 0
 FetchedOne before now NoMemory = (now ≡ before) ⊎ (now ≡ counted before)
 FetchedOne before now (OfFetch file why) = now ≡ counted before
@@ -69,8 +69,8 @@ PageStates file page (Err (OfFetch f Missing)) = (f ≡ file) × (gap_of page �
 PageStates file page (Err (OfFetch f TooLong)) = (f ≡ file) × (gap_of page ≡ Some OverLimit)
 PageStates file page (Err (OfFetch f Memory)) = f ≡ file
 
--- what fetching these files says of the pages, where they are reported: all of them, or the first that isn't held or is too
--- long
+-- what fetching these files says of the pages, where they are reported: all of them, or the first that isn't held or is
+-- too long
 abbrev pub FetchingStates : Pages → List ℕ → List File → Result (List (List ℕ)) PagesFault → Type 0
 FetchingStates pages folder fs (Ok texts) = ArePages pages folder fs texts
 FetchingStates pages folder fs (Err NoMemory) = ⊤

@@ -17,7 +17,7 @@ const COLUMNS: &str = "date,rule";
 /// A check of day.csv.
 #[derive(Clone, Copy, Debug, PartialEq, Eq)]
 pub enum DateCheck {
-    /// The file hasn't exactly one record.
+    /// The file doesn't have exactly one record.
     NotOneRecord,
     /// The text is no date.
     BadDate,
@@ -82,7 +82,7 @@ impl CalendarDay {
     }
 }
 
-/// The refusal of a page that hasn't exactly one record.
+/// The refusal of a page that doesn't have exactly one record.
 fn not_one(line: u32) -> BookFault
     ensures { result ≡ not_one_at line }
 {

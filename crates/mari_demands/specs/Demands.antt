@@ -53,7 +53,7 @@ demand_checks zones runs row =
     ∷ (not (is_some (mw_in row) && (is_inelastic row || is_some (cents_in (field_of row 3)))), demand_check_number Range)
     ∷ []
 
--- and after MOST_DEMANDS demands of its run
+-- and after `MOST_DEMANDS` demands of its run
 abbrev pub line_checks : ZoneBook → ℕ → List Row → Row → Checks
 line_checks zones runs earlier row = demand_checks zones runs row ++ (nat_le MOST_DEMANDS (count_of runs earlier (run_at runs row)), demand_check_number TooMany) ∷ []
 

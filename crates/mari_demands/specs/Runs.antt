@@ -52,7 +52,7 @@ comes_too_late None row = false
 comes_too_late (Some quarter) row =
     is_number_below quarter (whole_of (field_of row 1)) || (not (unwrap_or (is_direct row) false) && is_some (number_in quarter quarter (field_of row 1)))
 
--- a line is refused after MOST_RUNS others, for a bad field, for a run out of order, for a quarter that the day
+-- a line is refused after `MOST_RUNS` others, for a bad field, for a run out of order, for a quarter that the day
 -- doesn't have, and for a reference price out of range
 abbrev pub run_checks : ℕ → List Row → Row → Checks
 run_checks quarters earlier row =

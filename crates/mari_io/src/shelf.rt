@@ -72,7 +72,8 @@ pub trait Shelf {
         ensures rest_stays { rest self.new ≡ rest self.old }
         ensures given_stays { given self.new ≡ given self.old };
 
-    /// Opens the page of that name, which is then given in pieces. After an error what was open before is.
+    /// Opens the page of that name, which is then given in pieces. After an error the page that was open before is
+    /// still open.
     fn open_page(&mut self, name: &str) -> Result<(), Fetch>
         ensures same { pages self.new ≡ pages self.old }
         ensures fetched { fetches self.new ≡ counted (fetches self.old) }

@@ -14,7 +14,7 @@ ghost use Rattle.mari_islands.specs.Part.{activation_in as activation_there};
 use crate::islands::Island;
 use mari_gates::gate_word;
 use mari_market::{Activation, Market, TreeItem};
-use mari_prices::{PriceFault, price_test};
+use mari_prices::contradiction;
 use mari_proofs::{TreeVerdict, check_tree};
 use mari_units::{Items, Memory};
 use mari_welfare::{is_feasible, welfare};
@@ -62,17 +62,15 @@ fn activation_in(
     })
 }
 
-/// Whether some prices are consistent with a feasible activation: where `contradiction` of `mari_prices` finds no chain.
+/// Whether some prices are consistent with a feasible activation: where `contradiction` of `mari_prices` finds no
+/// chain.
 fn has_prices(alloc: Global, market: &Market, activation: &Activation) -> Result<bool, Memory>
     requires valid { IsValid market.now }
     requires feasible { IsFeasible market.now activation.now }
     ensures { IfOk result (λ is. IsTrue is ↔ IsAdmissible market.now activation.now) }
 {
-    match price_test(alloc, market, activation) {
-        Ok(_) => Ok(true),
-        Err(PriceFault::Conflict(_)) => Ok(false),
-        Err(PriceFault::Memory) => Err(Memory),
-    }
+    let chain = contradiction(alloc, market, activation)?;
+    Ok(chain.is_none())
 }
 
 /// Whether a tree holds at the welfare of a feasible activation, for its gate word.

@@ -30,6 +30,7 @@ is_date text =
 abbrev pub IsDate : List ℕ → Type 0
 IsDate text = IsName text × (is_date text ≡ true)
 
+-- an amount of money within the greatest of a line
 abbrev pub IsMoney : Quarters → Type 0
 IsMoney q = Within MOST_MONEY q.0
 
@@ -41,9 +42,11 @@ IsZone zone = zone < MOST_ZONES
 abbrev pub IsHeading : Heading → Type 0
 IsHeading h = Between 1 MOST_RUNS h.run × Between 1 MOST_QUARTERS h.quarter
 
+-- the numbers of a line of an operator are in range
 abbrev pub IsMoneyLine : MoneyLine → Type 0
 IsMoneyLine m = IsName m.name × IsMoney m.payment × IsMoney m.rent × IsMoney m.net
 
+-- the numbers of a line of a provider are in range
 abbrev pub IsAmountLine : AmountLine → Type 0
 IsAmountLine a = IsName a.name × IsMoney a.amount
 

@@ -81,6 +81,7 @@ is_same_kind Bars Bars = true
 is_same_kind Technical Technical = true
 is_same_kind _ _ = false
 
+-- whether two links say the same
 abbrev pub is_same_link : Link → Link → Bool
 is_same_link a b = is_same_kind a.kind b.kind && ((a.first == b.first) && (a.second == b.second))
 
@@ -164,8 +165,8 @@ names_no_bid bids row Group = not (is_some (bid_named bids (second_of row)))
 names_no_bid bids row _ = not (is_some (bid_named bids (first_of row)) && is_some (bid_named bids (second_of row)))
 
 -- whether a line's bids are of quarters that cannot be so linked: a group has one quarter, that of its first member,
--- and parent and child have the same; one is needed or barred by a bid of one or two quarters before, or technically of
--- one before
+-- and parent and child have the same; a bid needs, or is barred by, one of one or two quarters before, and technically
+-- one of the quarter before
 abbrev pub has_wrong_quarter : BidBook → Said → Row → LinkKind → Bool
 has_wrong_quarter bids said row Group =
     option_map_or (λ quarter. not (quarter == quarter_of bids (bid_of bids (second_of row)))) (quarter_of_group bids said.members (first_of row)) false

@@ -31,7 +31,7 @@ pub enum LinkKind {
 pub struct Link {
     /// Its kind.
     pub kind: LinkKind,
-    /// The place of its first bid, from 0, or of its group.
+    /// The place of its first bid, from 0; in a line of a group it says nothing.
     pub first: u32,
     /// The place of its second bid, from 0.
     pub second: u32,

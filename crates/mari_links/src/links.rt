@@ -62,9 +62,9 @@ impl FileCheck for LinkCheck {
 
 /// What the links say of one bid.
 ///
-/// A gated bid is taken from its least quantity on or not at all; a plain one from 0 on. At most one bid of a group is
-/// taken, and a bid with a parent only where its parent is. It is available only where each bid that it needs was
-/// activated, none that bars it was, and none of the technical ones was in a direct run.
+/// A gated bid is taken from its least quantity on, 1 MW at least, or not at all; a plain one from 0 on. At most one
+/// bid of a group is taken, and a bid with a parent only where its parent is. It is available only where each bid that
+/// it needs was activated, none that bars it was, and none of the technical ones was in a direct run.
 #[derive(Debug, Drop)]
 pub struct BidLinks {
     /// Whether it has a gate.

@@ -8,11 +8,11 @@ use crate::market::Border;
 /// Which way something spreads along borders.
 #[derive(Clone, Copy, Debug, Drop, PartialEq, Eq)]
 pub enum Along {
-    /// To where prices are at least as high: so spread lower bounds.
+    /// To zones whose prices are at least as high: lower bounds spread this way.
     Rising,
-    /// To where prices are at least as low: so spread upper bounds.
+    /// To zones whose prices are at least as low: upper bounds spread this way.
     Falling,
-    /// Over uncongested borders: so spreads a price area.
+    /// Over uncongested borders: price areas spread this way.
     Joined,
 }
 

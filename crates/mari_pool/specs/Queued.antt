@@ -45,6 +45,7 @@ pub record IsAhead (keys : List ℕ) (x other : ℕ) : Type 0 where
 abbrev pub Waiting : Type 0
 Waiting = ℕ × Reverse ℕ
 
+-- the number of a waiting node
 abbrev pub number_in : Waiting → ℕ
 number_in w = w.1.0
 

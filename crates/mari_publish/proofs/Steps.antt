@@ -26,7 +26,7 @@ use Rattle.mari_publish.specs.declared.held.Held.{Held}
 use Rattle.mari_publish.specs.declared.held.Held.TheVariants as held
 use Rattle.mari_publish.specs.Lines.{item_lines, demand_lines, front_lines}
 use Rattle.mari_lines.specs.Ranges.{Between}
-use Rattle.mari_publish.specs.Order.{pending_lines, listing_lines, growing_lines, ending_part, held_lines, is_nothing, empty, with_item, with_pending, conflict_item, after_listing, after_growing, after_ending, after_totals, lines_so_far}
+use Rattle.mari_publish.specs.Order.{pending_lines, listing_lines, growing_lines, ending_part, held_lines, is_nothing, is_empty, with_item, with_pending, conflict_item, after_listing, after_growing, after_ending, after_totals, lines_so_far}
 
 abbrev pub some : {A : Type 0} → A → Option A
 some x = Some x
@@ -73,7 +73,7 @@ Moves p old l new = (lines_so_far p new ≡ lines_so_far p old ++ l ∷ []) × H
 one_more : (F new old : List Line) (l : Line) → new ≡ old ++ l ∷ [] → F ++ new ≡ (F ++ old) ++ l ∷ []
 one_more F new old l e = ap (λ (xs : List Line). F ++ xs) e ∙ sym (append_assoc F old (l ∷ []))
 
-none : {X : Type 0} (xs : List X) → empty xs ≡ true → xs ≡ []
+none : {X : Type 0} (xs : List X) → is_empty xs ≡ true → xs ≡ []
 none xs e = nil_from_length xs (eqb-true (length xs) 0 e)
 
 -- lists with one more at the end
@@ -121,10 +121,10 @@ demand_more h w zs bs ds ms place m e =
 pub listing_step : (p : Publication) (b : Listing) (l : Line) (h : Held) → HeldFits p (held.Listing b) → after_listing b l ≡ Some h → Moves p (held.Listing b) l h
 listing_step p b (line.Zone z) h fits e =
     let made = held.Listing (record { heading = b.heading; welfare = b.welfare; zones = b.zones ++ z ∷ []; borders = b.borders; bids = b.bids; demands = b.demands }) in
-    let t = cond_some (empty b.borders && empty b.bids && empty b.demands && ltb (length b.zones) 64) made h e in
-    let s1 = and_parts (empty b.borders && empty b.bids && empty b.demands) (ltb (length b.zones) 64) t.0 in
-    let s2 = and_parts (empty b.borders && empty b.bids) (empty b.demands) s1.0 in
-    let s3 = and_parts (empty b.borders) (empty b.bids) s2.0 in
+    let t = cond_some (is_empty b.borders && is_empty b.bids && is_empty b.demands && ltb (length b.zones) 64) made h e in
+    let s1 = and_parts (is_empty b.borders && is_empty b.bids && is_empty b.demands) (ltb (length b.zones) 64) t.0 in
+    let s2 = and_parts (is_empty b.borders && is_empty b.bids) (is_empty b.demands) s1.0 in
+    let s3 = and_parts (is_empty b.borders) (is_empty b.bids) s2.0 in
     let room : length b.zones < 64 = ltb-true _ _ s1.1 in
     let len = length_push b.zones z in
     let f = fits.1 in
@@ -133,10 +133,10 @@ listing_step p b (line.Zone z) h fits e =
     (one_more (front_lines p) _ (listing_lines b) (line.Zone z) (zone_more b.heading b.welfare b.zones z b.borders b.bids b.demands (none b.borders s3.0) (none b.bids s3.1) (none b.demands s2.1)), new)
 listing_step p b (line.Border x) h fits e =
     let made = held.Listing (record { heading = b.heading; welfare = b.welfare; zones = b.zones; borders = b.borders ++ x ∷ []; bids = b.bids; demands = b.demands }) in
-    let t = cond_some (ltb 0 (length b.zones) && empty b.bids && empty b.demands && ltb (length b.borders) 256) made h e in
-    let s1 = and_parts (ltb 0 (length b.zones) && empty b.bids && empty b.demands) (ltb (length b.borders) 256) t.0 in
-    let s2 = and_parts (ltb 0 (length b.zones) && empty b.bids) (empty b.demands) s1.0 in
-    let s3 = and_parts (ltb 0 (length b.zones)) (empty b.bids) s2.0 in
+    let t = cond_some (ltb 0 (length b.zones) && is_empty b.bids && is_empty b.demands && ltb (length b.borders) 256) made h e in
+    let s1 = and_parts (ltb 0 (length b.zones) && is_empty b.bids && is_empty b.demands) (ltb (length b.borders) 256) t.0 in
+    let s2 = and_parts (ltb 0 (length b.zones) && is_empty b.bids) (is_empty b.demands) s1.0 in
+    let s3 = and_parts (ltb 0 (length b.zones)) (is_empty b.bids) s2.0 in
     let some : 0 < length b.zones = ltb-true _ _ s3.0 in
     let room : length b.borders < 256 = ltb-true _ _ s1.1 in
     let len = length_push b.borders x in
@@ -146,9 +146,9 @@ listing_step p b (line.Border x) h fits e =
     (one_more (front_lines p) _ (listing_lines b) (line.Border x) (border_more b.heading b.welfare b.zones b.borders x b.bids b.demands (none b.bids s3.1) (none b.demands s2.1)), new)
 listing_step p b (line.Bid d) h fits e =
     let made = held.Listing (record { heading = b.heading; welfare = b.welfare; zones = b.zones; borders = b.borders; bids = b.bids ++ d ∷ []; demands = b.demands }) in
-    let t = cond_some (ltb 0 (length b.zones) && empty b.demands && ltb (length b.bids) 4096) made h e in
-    let s1 = and_parts (ltb 0 (length b.zones) && empty b.demands) (ltb (length b.bids) 4096) t.0 in
-    let s2 = and_parts (ltb 0 (length b.zones)) (empty b.demands) s1.0 in
+    let t = cond_some (ltb 0 (length b.zones) && is_empty b.demands && ltb (length b.bids) 4096) made h e in
+    let s1 = and_parts (ltb 0 (length b.zones) && is_empty b.demands) (ltb (length b.bids) 4096) t.0 in
+    let s2 = and_parts (ltb 0 (length b.zones)) (is_empty b.demands) s1.0 in
     let some : 0 < length b.zones = ltb-true _ _ s2.0 in
     let room : length b.bids < 4096 = ltb-true _ _ s1.1 in
     let len = length_push b.bids d in
@@ -247,8 +247,8 @@ growing_step p g _ _ h is fits e = absurd cc
 pub ending_step : (p : Publication) (n : Ending) (l : Line) (h : Held) → HeldFits p (held.Ending n) → after_ending n l ≡ Some h → Moves p (held.Ending n) l h
 ending_step p n (line.Operator o) h fits e =
     let made = held.Ending (record { listing = n.listing; tree = n.tree; operators = n.operators ++ o ∷ []; providers = n.providers }) in
-    let t = cond_some (empty n.providers && ltb (length n.operators) 64) made h e in
-    let s = and_parts (empty n.providers) (ltb (length n.operators) 64) t.0 in
+    let t = cond_some (is_empty n.providers && ltb (length n.operators) 64) made h e in
+    let s = and_parts (is_empty n.providers) (ltb (length n.operators) 64) t.0 in
     let room : length n.operators < 64 = ltb-true _ _ s.1 in
     let len = length_push n.operators o in
     let lines : (ps : List AmountLine) → ps ≡ [] → listing_lines n.listing ++ line.Tree (length n.tree) ∷ (flat_map item_lines n.tree ++ (map line.Operator (n.operators ++ o ∷ []) ++ map line.Provider ps))
@@ -281,8 +281,8 @@ ending_step p n _ h fits e = absurd cc
 pub totals_step : (p : Publication) (os : List MoneyLine) (ps : List AmountLine) (l : Line) (h : Held)
     → HeldFits p (held.Totals os ps) → after_totals os ps l ≡ Some h → Moves p (held.Totals os ps) l h
 totals_step p os ps (line.TotalOperator o) h fits e =
-    let t = cond_some (empty ps && ltb (length os) 64) (held.Totals (os ++ o ∷ []) ps) h e in
-    let s = and_parts (empty ps) (ltb (length os) 64) t.0 in
+    let t = cond_some (is_empty ps && ltb (length os) 64) (held.Totals (os ++ o ∷ []) ps) h e in
+    let s = and_parts (is_empty ps) (ltb (length os) 64) t.0 in
     let room : length os < 64 = ltb-true _ _ s.1 in
     let len = length_push os o in
     let lines : (qs : List AmountLine) → qs ≡ [] → map line.TotalOperator (os ++ o ∷ []) ++ map line.TotalProvider qs ≡ (map line.TotalOperator os ++ map line.TotalProvider qs) ++ line.TotalOperator o ∷ []

@@ -16,6 +16,7 @@ use Rattle.mari_publish.specs.Order.{after}
 use Rattle.mari_lines.specs.Ranges.{InRange}
 use Rattle.mari_lines.specs.Spelling.{spelling}
 
+-- what has been gathered, as a publication
 abbrev pub seen : Gathered → Publication
 seen g = record { date = unwrap_or g.date []; quarters = g.quarters; budget = g.budget; blocks = g.blocks.items; operators = g.operators; providers = g.providers }
 

@@ -58,28 +58,32 @@ held_lines (held.Ending e) = ending_part e
 held_lines (held.Totals os ps) = map line.TotalOperator os ++ map line.TotalProvider ps
 held_lines held.Done = []
 
+-- whether no conflict has begun
 abbrev pub is_nothing : Pending → Bool
 is_nothing Nothing = true
 is_nothing (Zones zones) = false
 is_nothing (At zones prices) = false
 is_nothing (Flows zones prices flows) = false
 
+-- the block with one more item of its tree
 abbrev pub with_item : Growing → TreeItem → Held
 with_item g i = held.Growing (record { listing = g.listing; count = g.count; tree = g.tree ++ i ∷ []; pending = Nothing })
 
+-- the block with what has come of a conflict
 abbrev pub with_pending : Growing → Pending → Held
 with_pending g p = held.Growing (record { listing = g.listing; count = g.count; tree = g.tree; pending = p })
 
-abbrev pub empty : {X : Type 0} → List X → Bool
-empty xs = length xs == 0
+-- whether a list has no item
+abbrev pub is_empty : {X : Type 0} → List X → Bool
+is_empty xs = length xs == 0
 
 -- in a block before its tree: zones, borders, bids, demands, and then the tree
 abbrev pub after_listing : Listing → Line → Option Held
-after_listing b (line.Zone z) = if empty b.borders && empty b.bids && empty b.demands && nat_lt (length b.zones) MOST_ZONES
+after_listing b (line.Zone z) = if is_empty b.borders && is_empty b.bids && is_empty b.demands && nat_lt (length b.zones) MOST_ZONES
     then Some (held.Listing (record { heading = b.heading; welfare = b.welfare; zones = b.zones ++ z ∷ []; borders = b.borders; bids = b.bids; demands = b.demands })) else None
-after_listing b (line.Border x) = if nat_lt 0 (length b.zones) && empty b.bids && empty b.demands && nat_lt (length b.borders) MOST_BORDERS
+after_listing b (line.Border x) = if nat_lt 0 (length b.zones) && is_empty b.bids && is_empty b.demands && nat_lt (length b.borders) MOST_BORDERS
     then Some (held.Listing (record { heading = b.heading; welfare = b.welfare; zones = b.zones; borders = b.borders ++ x ∷ []; bids = b.bids; demands = b.demands })) else None
-after_listing b (line.Bid x) = if nat_lt 0 (length b.zones) && empty b.demands && nat_lt (length b.bids) MOST_BIDS
+after_listing b (line.Bid x) = if nat_lt 0 (length b.zones) && is_empty b.demands && nat_lt (length b.bids) MOST_BIDS
     then Some (held.Listing (record { heading = b.heading; welfare = b.welfare; zones = b.zones; borders = b.borders; bids = b.bids ++ x ∷ []; demands = b.demands })) else None
 after_listing b (line.Demand place mw) = if nat_lt 0 (length b.zones) && place == length b.demands + 1
     then Some (held.Listing (record { heading = b.heading; welfare = b.welfare; zones = b.zones; borders = b.borders; bids = b.bids; demands = b.demands ++ mw ∷ [] })) else None
@@ -105,6 +109,7 @@ after_growing g (Flows zones prices flows) (line.Mws mws) =
     Some (with_item g (conflict_item zones prices flows mws))
 after_growing g _ _ = None
 
+-- the published block whose lines have all come
 abbrev pub full_block : Ending → Block
 full_block e = block.Published (record {
   heading = e.listing.heading;
@@ -120,7 +125,7 @@ full_block e = block.Published (record {
 
 -- after a tree: operators, and then providers
 abbrev pub after_ending : Ending → Line → Option Held
-after_ending e (line.Operator o) = if empty e.providers && nat_lt (length e.operators) MOST_ZONES
+after_ending e (line.Operator o) = if is_empty e.providers && nat_lt (length e.operators) MOST_ZONES
     then Some (held.Ending (record { listing = e.listing; tree = e.tree; operators = e.operators ++ o ∷ []; providers = e.providers })) else None
 after_ending e (line.Provider p) = if nat_lt (length e.providers) MOST_BIDS
     then Some (held.Ending (record { listing = e.listing; tree = e.tree; operators = e.operators; providers = e.providers ++ p ∷ [] })) else None
@@ -133,6 +138,7 @@ one_published c = record { published = c.published + 1; unpublished = c.unpublis
 abbrev pub one_unpublished : Counts → Counts
 one_unpublished c = record { published = c.published; unpublished = c.unpublished + 1 }
 
+-- what is kept of the block that is being read, where its line fits; no part is whole yet
 abbrev pub keeps : Kept → Option Held → Option (Kept × Option Part)
 keeps k None = None
 keeps k (Some h) = Some (record { held = h; counts = k.counts }, None)
@@ -148,7 +154,7 @@ starts_block k _ = None
 
 -- in the totals: operators, and then providers
 abbrev pub after_totals : List MoneyLine → List AmountLine → Line → Option Held
-after_totals os ps (line.TotalOperator o) = if empty ps && nat_lt (length os) MOST_ZONES then Some (held.Totals (os ++ o ∷ []) ps) else None
+after_totals os ps (line.TotalOperator o) = if is_empty ps && nat_lt (length os) MOST_ZONES then Some (held.Totals (os ++ o ∷ []) ps) else None
 after_totals os ps (line.TotalProvider p) = if nat_lt (length ps) MOST_PROVIDERS then Some (held.Totals os (ps ++ p ∷ [])) else None
 after_totals os ps _ = None
 

@@ -52,6 +52,7 @@ pub record ComeState : Type 0 where
   pub ahead : Ahead
   pub unread : List ℕ
 
+-- what has come, without the bytes of handled lines
 abbrev pub come_of : Coming → ComeState
 come_of c = record { kept = c.kept; lines = c.lines; ahead = c.ahead; unread = drop c.handled c.bytes.items }
 
@@ -88,6 +89,7 @@ NoLineIn mark.Whole unread = Lacks 10 unread
 NoLineIn mark.TooLong unread = ⊤
 NoLineIn mark.Ended unread = ⊥
 
+-- no further line is whole
 abbrev pub HasNoLine : ComeState → Type 0
 HasNoLine r = NoLineIn r.ahead r.unread
 
@@ -136,6 +138,7 @@ abbrev pub with_part : List Part → Option Part → List Part
 with_part parts None = parts
 with_part parts (Some x) = parts ++ x ∷ []
 
+-- the parts with the one that was given, if one was
 abbrev pub with_answer : List Part → Result (Option Part) TextFault → List Part
 with_answer parts (Ok x) = with_part parts x
 with_answer parts (Err e) = parts

@@ -19,9 +19,9 @@ use std::alloc::Global;
 pub enum Ahead {
     /// All of them.
     Whole,
-    /// Of a line that is too long a mark; it has not ended.
+    /// A mark in place of a line that is too long, and whose end hasn't come.
     TooLong,
-    /// Of a line that is too long a mark; it has ended.
+    /// A mark in place of a line that is too long, and whose end has come.
     Ended,
 }
 

@@ -17,10 +17,10 @@ use mari_units::Memory;
 use std::alloc::Global;
 use std::marker::Model;
 
-/// A text that comes in pieces. The reader keeps what has come of the part that is being read, and the bytes after
-/// the lines that are handled: neither the text nor the parts that were given. Where `next` finds no further part, it
-/// holds at most 2 times `MOST_LINE` bytes: half of them of handled lines, and of a line that is longer than `MOST_LINE`
-/// only that it is too long.
+/// A text that comes in pieces. The reader keeps what has come of the part that is being read, and the bytes after the
+/// lines that are handled: neither the text nor the parts that were given. Where `next` finds no further part, it holds
+/// at most 2 times `MOST_LINE` bytes: half of them of handled lines, and of a line that is longer than `MOST_LINE` only
+/// that it is too long.
 #[derive(Drop)]
 pub struct TextReader {
     coming: Coming,
@@ -63,7 +63,7 @@ impl TextReader {
         self.waits
     }
 
-    /// Appends to the text. Without memory for it the reader stays as it is.
+    /// Appends to the text. When out of memory the reader stays as it is.
     pub fn push(&mut self, piece: &[u8]) -> Result<(), Memory>
         ensures pushed { (text : List ℕ) (parts : List PartValue) → ComesFrom self.old.come text parts → OnOk result (ComesFrom self.new.come (text ++ piece.now) parts) }
         ensures waits { OnOk result (self.new.waits ≡ false) }

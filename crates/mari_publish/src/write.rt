@@ -1,8 +1,8 @@
 //! The texts of a publication's parts.
 //!
 //! Each kind of line of a list is written by a loop of its own, whose invariant names what has been written; one loop
-//! for all kinds would need a law of every kind in its place. So are lists of a line read (`reading/lists.rt` of
-//! `mari_lines`).
+//! for all kinds would need a law of every kind in its place. The lists of a line are read in the same way
+//! (`reading/lists.rt` of `mari_lines`).
 
 ghost use Rattle.std.specs.Prelude.{◌≡◌, ◌++◌, ◌+◌, ◌≤◌, ◌<◌, OnOk, IfOk, map, length};
 ghost use Rattle.std.specs.List.{All, flat_map};

@@ -69,7 +69,7 @@ abbrev pub kept_flow : Tally → (quarter border : ℕ) → ℤ
 kept_flow kept quarter border = if is_kept_of kept quarter then get_or kept.flow border (pos 0) else pos 0
 
 -- what is kept stands for a list of blocks: they are those of the first runs, and the MW, the marks, the quarter and
--- the flows are theirs
+-- the flows are theirs; and the lists of bids and demands are those of the books
 pub record StandsFor (books : Books) (blocks : List PastBlock) (kept : Tally) : Type 0 where
   pub first : AreFirstBlocks books blocks
   pub mw : kept.mw ≡ map (mw_of blocks) (range_with_len 0 (length books.bids.bids))
@@ -88,8 +88,8 @@ taken_in books kept quarter = record {
   flow = λ k. kept_flow kept quarter k;
 }
 
--- what is kept after one more published block: its MW and marks are added, its quarter is the last, and its flows are
--- added to those of its quarter
+-- what is kept after one more published block: its MW and marks are added, its quarter is the last, its flows are added
+-- to those of its quarter, and the lists of bids and demands stay
 pub record IsKeptAfter (b : PastBlock) (kept after : Tally) : Type 0 where
   pub mws : length after.mw ≡ length kept.mw
   pub mw : (i : ℕ) → get_or after.mw i 0 ≡ get_or kept.mw i 0 + mw_in_block i b

@@ -42,7 +42,7 @@ greatest_left (Some gate) offer taken = offer
 abbrev pub bid_order : Bid → Option ℕ → ℕ → Order
 bid_order b gate taken = record { zone = b.zone; side = side_of b.up; price = b.price; least = least_left gate b.least; greatest = greatest_left gate b.greatest taken; gate = gate }
 
--- a demand that states no price is met at any: it takes at the cap, or gives at its negative
+-- a demand that states no price is met at any within the cap: it takes at the cap, or gives at its negative
 abbrev pub inelastic_price : ℤ → Cents
 inelastic_price mw = if int_lt mw (pos 0) then record { 0 = neg_ℤ CAP } else record { 0 = CAP }
 
@@ -50,6 +50,7 @@ inelastic_price mw = if int_lt mw (pos 0) then record { 0 = neg_ℤ CAP } else r
 abbrev pub demand_side : ℤ → Side
 demand_side mw = side_of (int_lt mw (pos 0))
 
+-- the order of a demand
 abbrev pub demand_order : Demand → Order
 demand_order d = record { zone = d.zone; side = demand_side d.mw; price = unwrap_or d.price (inelastic_price d.mw); least = 0; greatest = unsigned_abs d.mw; gate = None }
 

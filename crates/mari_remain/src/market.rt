@@ -107,7 +107,7 @@ pub fn bid_order(bid: Bid, gate: Option<u32>, taken: u32) -> Order
     }
 }
 
-/// The price of a demand that states none: it is met at any price.
+/// The price of a demand that states none: it is met at any price within the cap.
 fn inelastic_price(mw: i64) -> Cents
     ensures { result ≡ inelastic_price_of mw }
 {

@@ -130,7 +130,8 @@ impl Remaining {
         self.quarter == Some(quarter)
     }
 
-    /// The sum of a border's flows in the published blocks of a quarter.
+    /// The sum of a border's flows in the published blocks of a quarter, in MW: 0 of any quarter but that of the last
+    /// published block.
     pub(crate) fn flow_of(&self, quarter: u32, border: u32) -> i64
         ensures flow { result ≡ kept_flow self.now quarter border }
         ensures small { All (λ flow. unsigned_abs flow ≤ MOST_MW) self.now.flow → unsigned_abs result ≤ MOST_MW }

@@ -51,6 +51,7 @@ module _ {Book : Type 0} (g : Grammar Book) where
   abbrev pub book_of_rows : List Row → Result Book BookFault
   book_of_rows rows = unless_fault (first_refusal rows) (g.book rows)
 
+  -- the same of rows that were read, or could not be
   abbrev pub book_of_read : Result (List Row) RowFault → Result Book BookFault
   book_of_read (Ok rows) = book_of_rows rows
   book_of_read (Err fault) = Err (refusal_of fault)

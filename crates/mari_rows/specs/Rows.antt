@@ -65,6 +65,7 @@ abbrev pub rows_after_header : List (List ℕ) → List (List (List ℕ)) → Re
 rows_after_header columns [] = Err BadHeader
 rows_after_header columns (header ∷ records) = if is_header columns header then Ok (rows_from 2 records) else Err BadHeader
 
+-- the rows, where there is no fault and each has the width
 abbrev pub rows_checked : ℕ → Result (List Row) RowFault → Result (List Row) RowFault
 rows_checked width (Ok rows) = rows_of_width width rows
 rows_checked width (Err fault) = Err fault

@@ -59,9 +59,11 @@ border_line i x = record {
   state = after 2 x;
 }
 
+-- the word of a direction
 abbrev pub direction : Bool → List ℕ
 direction up = if up then codes "up" else codes "down"
 
+-- the word of the runs that a bid is for
 abbrev pub kind : Bool → List ℕ
 kind both = if both then codes "both" else codes "scheduled"
 

@@ -33,9 +33,9 @@ fn scheduled_or<'a>(prices: &'a [Cents], also: Option<&'a Prices>) -> &'a [Cents
 /// Writes the ledger of a run over whatever stands there.
 ///
 /// The market's first orders are those of the bids with these numbers, one order each; its others are demands. The
-/// activation is feasible and the prices are consistent with it. The rents, and who gets which
-/// half of them, are this project's own rule. Where the quarter has scheduled prices, an
-/// upward bid is paid at the greater of them and the run's, and a downward bid pays the lesser.
+/// activation is feasible and the prices are consistent with it. The rents, and who gets which half of them, are this
+/// project's own rule. Where the quarter has scheduled prices, an upward bid is paid at the greater of them and the run's,
+/// and a downward bid pays the lesser.
 pub fn settle_run(
     zones: &ZoneBook,
     bids: &BidBook,

@@ -48,6 +48,7 @@ split_run_text names r =
 abbrev pub unpublished_text : Heading → (island count : ℕ) → List ℕ
 unpublished_text heading island count = codes "run" ++ spaced (heading_fields heading) ++ spaced (published_text false ∷ decimal island ∷ decimal count ∷ []) ++ 10 ∷ []
 
+-- the text of a block
 abbrev pub split_block_text : (names : List (List ℕ)) → SplitBlock → List ℕ
 split_block_text names (split.Published r) = split_run_text names r
 split_block_text names (split.Unpublished heading island count) = unpublished_text heading island count

@@ -4,20 +4,19 @@ use Rattle.std.specs.List.{All}
 use Rattle.mari_io.specs.Taken.{TookPart, then_took}
 use Rattle.mari_day.specs.declared.step.Stop.{Stop}
 use Rattle.mari_day.specs.declared.step.Stop.TheVariants.{Sink, Memory as NoMemory}
+use Rattle.mari_day.specs.Progress.{IsSettledIn}
 use Rattle.mari_market.specs.declared.clearing.Clearing.{Clearing}
 use Rattle.mari_publish.specs.Ranges.{MarketFits}
 use Rattle.mari_remain.specs.declared.books.Books.{Books}
 use Rattle.mari_progress.specs.declared.progress.Progress.{Progress}
 use Rattle.mari_progress.specs.declared.progress.SettledRun.{SettledRun}
-use Rattle.mari_progress.specs.After.{also_after, market_after}
 use Rattle.mari_progress.specs.Progress.{IsProgress}
-use Rattle.mari_progress.specs.Runs.{IsRunOf}
 use Rattle.mari_split.specs.declared.run.SplitDone.{SplitDone}
 use Rattle.mari_split.specs.declared.split.SplitBlock.{SplitBlock}
 use Rattle.mari_split.specs.declared.split.SplitBlock.TheVariants as split
 use Rattle.mari_split.specs.declared.split.SplitRun.{SplitRun}
 use Rattle.mari_split.specs.Lines.{split_block_text, split_part_text}
-use Rattle.mari_split.specs.Split.{IsSplitBlock, IsSplitPart, blocks_of}
+use Rattle.mari_split.specs.Split.{IsSplitBlock, IsSplitPart, block_of, blocks_of}
 use Rattle.mari_units.specs.declared.limits.TheConstants.{MOST_NODES, MOST_ZONES}
 
 -- the numbers of a published run are in range, so that its text can be written
@@ -36,12 +35,9 @@ pub record IsSplitProgress (books : Books) (budget : ℕ) (blocks : List SplitBl
   pub part : IsSplitPart books budget blocks
   pub kept : IsProgress books (blocks_of blocks) p
 
--- what a block adds to its day, which is nothing unless it is published
+-- what a block adds to its day: the same as the block that the later runs read
 abbrev pub AddsToDay : Books → (before : List SplitBlock) → SplitBlock → Option SettledRun → Type 0
-AddsToDay books before (split.Published r) (Some settled) = IsRunOf books (market_after books (blocks_of before)) (also_after books (blocks_of before)) r.block settled
-AddsToDay books before (split.Published r) None = ⊥
-AddsToDay books before (split.Unpublished heading island count) (Some settled) = ⊥
-AddsToDay books before (split.Unpublished heading island count) None = ⊤
+AddsToDay books before b settled = IsSettledIn books (blocks_of before) (block_of b) settled
 
 -- the block of the run after these blocks, with what it adds
 pub record IsSplitDone (books : Books) (budget : ℕ) (before : List SplitBlock) (done : SplitDone) : Type 0 where

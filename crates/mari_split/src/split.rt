@@ -23,7 +23,7 @@ pub struct SplitRun {
 pub enum SplitBlock {
     /// The run is published.
     Published(SplitRun),
-    /// The run isn't published: its heading, the number from 1 of the first island whose search tree is larger than the
-    /// budget, and how many of its nodes were made.
+    /// The run isn't published: its heading, the number from 1 of the first island that isn't published, since its
+    /// search tree is larger than the budget, and the number of nodes that were made of it.
     Unpublished(Heading, u32, u32),
 }

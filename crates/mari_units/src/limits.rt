@@ -13,16 +13,17 @@ pub const MOST_QUARTERS: u32 = 400;
 /// The most runs of a day.
 pub const MOST_RUNS: usize = 1_000;
 
-/// The most bids of a quarter hour.
+/// The most bids of a quarter hour, and of a joint market.
 pub const MOST_BIDS: usize = 4_096;
 
 /// The most providers of a day: one for each bid, `MOST_BIDS` in each of `MOST_QUARTERS` quarter hours.
 pub const MOST_PROVIDERS: usize = MOST_BIDS * MOST_QUARTERS as usize;
 
-/// The most gates of a quarter hour, hence of a run's market.
+/// The most gates of a quarter hour, hence of a run's market: 64 for each number of `bits` in a `Prefix` of
+/// `mari_market`.
 pub const MOST_GATES: usize = 512;
 
-/// The most demands of a run.
+/// The most demands of a run, and of a joint market.
 pub const MOST_DEMANDS: usize = 512;
 
 /// The greatest quantity of a bid, in MW.

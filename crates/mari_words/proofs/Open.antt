@@ -2,7 +2,7 @@
 use Rattle.std.proofs.Common.{◌≡◌, ◌∙◌, ◌≤◌, true, false, List, [], ◌∷◌, length, Option, Some, None, option_map, bytes_eq, codes, refl, sym, ap, subst}
 use Rattle.clap.specs.Lexer.{long_of, short_of}
 use Rattle.clap.specs.Walk.{Row, arg_by_long, settled_rows, used, walked}
-use Rattle.mari_words.specs.Seen.{Choice, Seen, Text, after, choice_of, option_in, with_word}
+use Rattle.mari_words.specs.Seen.{Choice, Seen, Text, after, choice_of, option_in, with_plain_word}
 use Rattle.mari_words.specs.Seen.{Choice as choice}
 use Rattle.mari_words.specs.Words.{Verb, form_of}
 use Rattle.mari_words.proofs.Keys.{filled_not, held, id, key_of, rule, rules, use_fails, use_passes}
@@ -22,7 +22,7 @@ module _ (verb : Verb) (rows : List Row) (pending : Pending) (words : List Text)
   pub ended : (nodes workers : Option Text) → State verb rows pending (mk words nodes workers None true) None
       → Turns verb (at rows pending (mk words nodes workers None true)) word (after (form_of verb) (mk words nodes workers None true) word)
   unfolding walked
-  ended nodes workers st = go (with_word (form_of verb) (mk words nodes workers None true) word) (puts verb rows pending words nodes workers true word few st)
+  ended nodes workers st = go (with_plain_word (form_of verb) (mk words nodes workers None true) word) (puts verb rows pending words nodes workers true word few st)
     where
       go : (o : Option _) → Puts verb rows pending (mk words nodes workers None true) word o → Turns verb (at rows pending (mk words nodes workers None true)) word o
       go None p = λ rest sp turn walk end. p turn
@@ -31,9 +31,9 @@ module _ (verb : Verb) (rows : List Row) (pending : Pending) (words : List Text)
   -- a word that is no flag
   unflagged : (nodes workers : Option Text) → State verb rows pending (mk words nodes workers None false) None
       → bytes_eq word (codes "--") ≡ false → long_of word ≡ None → short_of word ≡ None
-      → Turns verb (at rows pending (mk words nodes workers None false)) word (with_word (form_of verb) (mk words nodes workers None false) word)
+      → Turns verb (at rows pending (mk words nodes workers None false)) word (with_plain_word (form_of verb) (mk words nodes workers None false) word)
   unfolding walked
-  unflagged nodes workers st e l s = go (with_word (form_of verb) (mk words nodes workers None false) word) (puts verb rows pending words nodes workers false word few st)
+  unflagged nodes workers st e l s = go (with_plain_word (form_of verb) (mk words nodes workers None false) word) (puts verb rows pending words nodes workers false word few st)
     where
       go : (o : Option _) → Puts verb rows pending (mk words nodes workers None false) word o → Turns verb (at rows pending (mk words nodes workers None false)) word o
       go None p = λ rest sp turn walk end. p (rw (e, l, s) at turn)
@@ -165,4 +165,4 @@ module _ (verb : Verb) (rows : List Row) (pending : Pending) (words : List Text)
       (λ rest sp turn walk end. short_bad verb (held rows pending) y c ys cs refl ch (none_first _ _ (rw (e, l, s) at turn)))
   opened nodes workers st (plain e l s d) =
       let none : option_in word ≡ None = l in
-      as_turn nodes workers (with_word (form_of verb) (mk words nodes workers None false) word) (rw (e, none, d) refl) (unflagged nodes workers st e l s)
+      as_turn nodes workers (with_plain_word (form_of verb) (mk words nodes workers None false) word) (rw (e, none, d) refl) (unflagged nodes workers st e l s)

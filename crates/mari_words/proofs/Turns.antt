@@ -3,7 +3,7 @@ use Rattle.std.proofs.Common.{◌≡◌, ◌∙◌, ◌≤◌, ℕ, Bool, suc, t
 use Rattle.clap.specs.Walk.{Row, Rule, arg_by_index, is_pending, settled, settled_rows, takes_several, to_positional, used}
 use Rattle.clap.specs.Walk.{Step as step}
 use Rattle.clap.specs.Faults.{settle_fault, step_fault, use_fault}
-use Rattle.mari_words.specs.Seen.{Choice, Seen, Text, with_word}
+use Rattle.mari_words.specs.Seen.{Choice, Seen, Text, with_plain_word}
 use Rattle.mari_words.specs.Words.{Verb, form_of}
 use Rattle.mari_words.specs.Words.Verb.{Clears, Checks, Generates, Migrates, Feeds, Splits, Joins, Values}
 use Rattle.mari_words.proofs.Keys.{Finds, Key, empty_use, filled_not, held, id, row, rule, rules, upd, use_passes, used_finds}
@@ -124,7 +124,7 @@ module _ (verb : Verb) (rows : List Row) (pending : Pending) (nodes workers : Op
 
 pub puts : (verb : Verb) (rows : List Row) (pending : Pending) (words : List Text) (nodes workers : Option Text) (ended : Bool) (word : Text)
     → length words ≤ (form_of verb).words → State verb rows pending (mk words nodes workers None ended) None
-    → Puts verb rows pending (mk words nodes workers None ended) word (with_word (form_of verb) (mk words nodes workers None ended) word)
+    → Puts verb rows pending (mk words nodes workers None ended) word (with_plain_word (form_of verb) (mk words nodes workers None ended) word)
 puts Clears rows pending [] n w ended word few st = put_first Clears rows pending n w ended word refl refl (omega arith) st
 puts Clears rows pending (one ∷ []) n w ended word few st = puts_none Clears rows pending 2 refl
 puts Clears rows pending (one ∷ two ∷ more) n w ended word few st = absurd (omega (arith, few))

@@ -6,11 +6,11 @@ use Rattle.mari_words.specs.declared.command.FilePart.{FilePart}
 use Rattle.mari_words.specs.declared.asking.Asked.{Asked as Lent}
 use Rattle.mari_words.specs.declared.asking.Asked.TheVariants as lent
 
--- a folder to clear, with how many nodes each run's search may make and how many workers; a folder to check; the number
--- of a generated day; a folder of which a file's new form is printed; a folder whose publication is printed as JSON; a
--- folder to clear island by island, with how many nodes each island's search may make and how many workers; a folder of
--- whose quarter hours those from a first to a last one are cleared as one market, with how many nodes and workers; and a
--- folder of whose borders it is printed what `more` MW more on each limit are worth
+-- a folder to clear, with the most nodes of each run's search and the number of workers; a folder to check; the number
+-- of a generated day; a folder of which one file is printed in its new form; a folder whose publication is printed as
+-- JSON; a folder to clear island by island, with the most nodes of each island's search and the number of workers; a
+-- folder of whose quarter hours those from a first to a last one are cleared as one market, with the most nodes and the
+-- number of workers; and a folder of which it is printed what `more` MW more on each border's limits are worth
 pub data Asked : Type 0 where
   Clear : (folder : List ℕ) (nodes workers : ℕ) → Asked
   Check : (folder : List ℕ) → Asked

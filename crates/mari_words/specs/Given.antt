@@ -5,6 +5,7 @@ use Rattle.clap.specs.Words.{Row, first_of}
 use Rattle.mari_words.specs.Asked.{Asked}
 use Rattle.mari_words.specs.Words.{Given, asked_for, verb_named}
 
+-- what rows give
 abbrev pub given_of : List Row → Given
 given_of rows = record {
   first = first_of (codes "first") rows;

@@ -13,6 +13,7 @@ required_word id = record (new_rule id) { required = true; action = Some Set }
 abbrev pub option_rule : Text → Rule
 option_rule name = record (new_rule name) { long = Some name; action = Some Set }
 
+-- a command of this name with one word after it, with two, and with three
 abbrev pub one_word : Text → App
 one_word name = with_rule (new_app name) (required_word (codes "first"))
 
@@ -30,6 +31,7 @@ with_options app = with_rule (with_rule app (option_rule (codes "nodes"))) (opti
 abbrev pub IsSubcommand : App → Command → Type 0
 IsSubcommand line command = (old new : Command) → AddsSubcommand old command new → app_of new ≡ with_subcommand (app_of old) line.top
 
+-- the command line before its subcommands are added
 abbrev pub bare_line : App
 bare_line = record (new_app (codes "mari")) {
   top = record (new_app (codes "mari")).top {
@@ -41,6 +43,7 @@ bare_line = record (new_app (codes "mari")) {
   };
 }
 
+-- the whole command line
 abbrev pub line : App
 line =
     with_subcommand

@@ -4,6 +4,7 @@ use lib.Chars.{codes}
 use Rattle.std.specs.List.{after_first, before_first, list_any}
 use Rattle.std.specs.Str.{bytes_eq}
 
+-- a word, as bytes
 abbrev pub Text : Type 0
 Text = List ℕ
 
@@ -12,6 +13,7 @@ pub record Form : Type 0 where
   pub words : ℕ
   pub has_options : Bool
 
+-- the options that a command may have
 pub data Choice : Type 0 where
   Nodes : Choice
   Workers : Choice
@@ -25,6 +27,7 @@ pub record Seen : Type 0 where
   pub waiting : Option Choice
   pub ended : Bool
 
+-- before the first word
 abbrev pub nothing : Seen
 nothing = record { words = []; nodes = None; workers = None; waiting = None; ended = false }
 
@@ -51,6 +54,7 @@ named_value (x ∷ xs) = Some (
 abbrev pub option_in : Text → Option (Text × Option Text)
 option_in word = option_and_then named_value (option_and_then after_dash (after_dash word))
 
+-- the option of this name
 abbrev pub choice_named : Text → Option Choice
 choice_named name = if bytes_eq (codes "nodes") name then Some Nodes else (if bytes_eq (codes "workers") name then Some Workers else None)
 
@@ -59,8 +63,8 @@ abbrev pub choice_of : Form → Text → Option Choice
 choice_of form name = if form.has_options then choice_named name else None
 
 -- a word that belongs to no option
-abbrev pub with_word : Form → Seen → Text → Option Seen
-with_word form seen word = if nat_lt (length seen.words) form.words then Some (record seen { words = seen.words ++ word ∷ [] }) else None
+abbrev pub with_plain_word : Form → Seen → Text → Option Seen
+with_plain_word form seen word = if nat_lt (length seen.words) form.words then Some (record seen { words = seen.words ++ word ∷ [] }) else None
 
 -- an option's value; each option comes once
 abbrev pub with_value : Seen → Choice → Text → Option Seen
@@ -73,21 +77,23 @@ with_option seen None value = None
 with_option seen (Some choice) None = Some (record seen { waiting = Some choice })
 with_option seen (Some choice) (Some text) = with_value seen choice text
 
+-- what is seen after a word, by the option that it names, if it names one
 abbrev pub with_named : Form → Seen → Text → Option (Text × Option Text) → Option Seen
 with_named form seen word (Some p) = with_option seen (choice_of form p.0) p.1
-with_named form seen word None = if is_dashed word then None else with_word form seen word
+with_named form seen word None = if is_dashed word then None else with_plain_word form seen word
 
 -- a word where no value is waited for and `--` hasn't come
 abbrev pub with_open : Form → Seen → Text → Option Seen
 with_open form seen word = if bytes_eq word (codes "--") then Some (record seen { ended = true }) else with_named form seen word (option_in word)
 
+-- what is seen after a word, by the option whose value is to come, if there is one
 abbrev pub with_next : Form → Seen → Text → Option Choice → Option Seen
 with_next form seen word (Some choice) = if is_dashed word then None else with_value seen choice word
 with_next form seen word None = with_open form seen word
 
 -- one more word: after `--` it belongs to no option; after an option's name it is its value
 abbrev pub after : Form → Seen → Text → Option Seen
-after form seen word = if seen.ended then with_word form seen word else with_next form seen word seen.waiting
+after form seen word = if seen.ended then with_plain_word form seen word else with_next form seen word seen.waiting
 
 -- all words, one after the other
 unfoldable pub seen_from : Form → Seen → List Text → Option Seen

@@ -19,6 +19,7 @@ use Rattle.mari_words.specs.Seen.{Form, Seen, Text, nothing, seen_from, whole}
 abbrev pub is_folder : Text → Bool
 is_folder word = not (bytes_eq word []) && not (bytes_eq word (codes "-"))
 
+-- the folder that a word names
 abbrev pub folder_in : Text → Option Text
 folder_in word = if is_folder word then Some word else None
 
@@ -31,9 +32,11 @@ abbrev pub number_or : (usual low high : ℕ) → Option Text → Option ℕ
 number_or usual low high None = Some usual
 number_or usual low high (Some text) = natural_in low high text
 
+-- the file whose new form is asked for by this word
 abbrev pub part_named : Text → Option FilePart
 part_named word = if bytes_eq word (codes "borders") then Some Borders else (if bytes_eq word (codes "limits") then Some Limits else None)
 
+-- the commands, by what they do
 pub data Verb : Type 0 where
   Clears : Verb
   Checks : Verb
@@ -44,6 +47,7 @@ pub data Verb : Type 0 where
   Joins : Verb
   Values : Verb
 
+-- the command of this name
 abbrev pub verb_named : Text → Option Verb
 verb_named name =
     if bytes_eq (codes "clear") name then Some Clears
@@ -74,6 +78,7 @@ pub record Given : Type 0 where
   pub nodes : Option Text
   pub workers : Option Text
 
+-- what has been seen of the words, as it is given
 abbrev pub given_in : Seen → Given
 given_in seen = record {
   first = slice_get seen.words 0;
@@ -83,6 +88,7 @@ given_in seen = record {
   workers = seen.workers;
 }
 
+-- the most nodes of a search, and the number of workers
 abbrev pub nodes_in : Given → Option ℕ
 nodes_in given = number_or USUAL_NODES 1 MOST_NODES given.nodes
 

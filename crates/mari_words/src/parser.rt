@@ -1,4 +1,4 @@
-//! The program's command line: one command with eight subcommands, one level, without help or version.
+//! The program's command line: one command with subcommands, one level, without help or version.
 
 ghost use Rattle.std.specs.Prelude.{◌≡◌, IfOk, false};
 ghost use Rattle.clap.specs.Words.{App, app_of, rule_of, with_subcommand as with_more};

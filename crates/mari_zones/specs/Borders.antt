@@ -30,6 +30,7 @@ bare_columns = codes "from,to"
 abbrev pub version_in : List ℕ → ℕ
 version_in page = if has_header bare_columns page then 2 else 1
 
+-- the columns of borders.csv in a version
 abbrev pub columns_in : (version : ℕ) → List ℕ
 columns_in version = if version == 2 then bare_columns else border_columns
 

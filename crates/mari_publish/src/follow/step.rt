@@ -32,7 +32,7 @@ impl From<Memory> for FollowFault {
     }
 }
 
-/// Appends an item. Without memory for it the list stays as it is.
+/// Appends an item. When out of memory the list stays as it is.
 pub fn push<T: Drop>(alloc: Global, items: &mut Items<T>, item: T) -> Result<(), Memory>
     ensures pushed { OnOk result (items.new ≡ items.old ++ item ∷ []) }
     ensures same { OnErr result (items.new ≡ items.old) }
@@ -50,8 +50,8 @@ pub fn empty<T>(alloc: Global) -> Items<T>
     Items::of(Vec::new(alloc))
 }
 
-/// Holds this from now on, with the same counts. What was held is let go of here alone, so that this is proved once: other
-/// functions (`close_block`, `close_tree` and so on) only take out what is held.
+/// Holds this from now on, with the same counts. What was held is let go of here alone, so that this is proved once:
+/// other functions (`close_block`, `close_tree` and so on) only take out what is held.
 pub fn hold(kept: &mut Kept, held: Held)
     ensures { kept.new ≡ kept_with kept.old held }
 {

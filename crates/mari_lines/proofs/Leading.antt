@@ -1,5 +1,6 @@
 -- Numbers that stand first in a text.
 use Rattle.std.proofs.Common.{◌≡◌, ◌≤◌, ◌<◌, ◌^◌, ◌/◌, ◌%◌, ◌+◌, ◌*◌, ◌-◌, ℕ, true, List, [], ◌∷◌, ◌++◌, length, take, drop, get_or, eqb, pos, Result, Ok, Err, sym, ap, ◌∙◌, refl, arith}
+use Rattle.std.specs.Prelude.{codes}
 use Rattle.std.proofs.lemmas.Int.{ints}
 use Rattle.std.specs.List.{slice_split}
 use Rattle.std.proofs.lemmas.List.{append-nil, append_assoc, take_all, take_more, take-append-drop, length-take-le, length-drop, get_or-take}
@@ -12,8 +13,10 @@ use Rattle.mari_units.specs.Prices.{IsPrice}
 use Rattle.mari_units.proofs.Digits.{AreDigits}
 use Rattle.mari_lines.specs.declared.fault.FormFault.{FormFault}
 use Rattle.mari_lines.specs.declared.fault.FormFault.TheVariants as form_fault
+use Rattle.mari_lines.specs.declared.line.Line.TheVariants as line
 use Rattle.mari_lines.specs.Ranges.{Between}
 use Rattle.mari_lines.specs.Reading.{Lacks, Reads}
+use Rattle.mari_lines.specs.Spelling.{line_text, spelling}
 use Rattle.mari_lines.proofs.Graphic.{graphic_cents, lacks_space}
 use Rattle.mari_lines.proofs.Naturals.{digits_are}
 use Rattle.mari_lines.proofs.Printed.{not_below}
@@ -58,6 +61,17 @@ written_price n = price_of_parts (pos n) _ n (hundredths_text n) (hundredths_tex
 
 pub hundredths_lack : (n : ℕ) → n ≤ 9999900 → Lacks 32 (hundredths_text n)
 hundredths_lack n le = lacks_space (hundredths_text n) (rw (sym (written_price n)) (graphic_cents (pos n) (omega arith)))
+
+-- a name and a number after the first word, and the line's end after them, are a bid's line
+bid_parts : (name number after : List ℕ) → ((name ++ 32 ∷ (number ++ [])) ++ 10 ∷ []) ++ after ≡ name ++ 32 ∷ (number ++ 10 ∷ after)
+bid_parts name number after = simp (append_assoc, append-nil)
+
+pub bid_then : (id text fields name number end after : List ℕ) (mw : ℕ) → text ≡ codes "bid " ++ fields → fields ≡ name ++ 32 ∷ number → id ≡ name → number ≡ decimal mw ++ end → end ≡ 10 ∷ after
+    → text ≡ line_text (line.Bid (record { id = id; mw = mw })) ++ after
+unfolding spelling
+bid_then id text fields name number end after mw first words same digits last =
+    let parts : fields ≡ id ++ 32 ∷ (decimal mw ++ 10 ∷ after) = cc in
+    first ∙ ap (λ (bs : List ℕ). codes "bid " ++ bs) (parts ∙ sym (bid_parts id (decimal mw) after))
 
 -- the words of a text that begins with a word that ends there
 pub word_alone : (word text : List ℕ) → text ≡ [] → Lacks 32 word → slice_split (λ b. eqb b 32) (word ++ text) ≡ word ∷ []

@@ -15,7 +15,7 @@ pub use line::{
     AmountLine, BidLine, BorderLine, Heading, Keyword, Line, MOST_LINE, MOST_MONEY, MoneyLine,
     ZoneLine,
 };
-pub use reading::{is_date, read_line, split_once};
+pub use reading::{is_date, leading_bid, read_line, split_once};
 pub use writing::{
     put_at, put_bid, put_border, put_bound, put_branch, put_conflict, put_cut, put_demand,
     put_done, put_end, put_field, put_flow_line, put_head, put_heading, put_money, put_mw_line,

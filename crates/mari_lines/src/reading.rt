@@ -6,6 +6,7 @@ ghost use Rattle.mari_lines.specs.Spelling.{fields, money_fields, amount_fields,
 ghost use Rattle.mari_lines.specs.Reading.{Reads};
 ghost use Rattle.mari_lines.specs.declared.line.Line.TheVariants as line;
 
+mod bids;
 mod canonical;
 mod keyword;
 mod leading;
@@ -16,6 +17,7 @@ mod words;
 
 use crate::fault::FormFault;
 use crate::line::{AmountLine, BidLine, BorderLine, Heading, Keyword, Line, MoneyLine, ZoneLine};
+pub use bids::leading_bid;
 use keyword::keyword_of;
 use lists::{read_flows, read_mws, read_prices, read_zones};
 use mari_market::{Cut, are_rising};

@@ -14,3 +14,4 @@ pub mod FirstParts
 pub mod PartCounts
 pub mod Paging
 pub mod Refusals
+pub mod Bids

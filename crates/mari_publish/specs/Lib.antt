@@ -4,6 +4,7 @@ pub mod Texts
 pub mod Order
 pub mod Faults
 pub mod Gathering
+pub mod Bids
 pub mod Pieces
 pub mod Handling
 pub mod Paged

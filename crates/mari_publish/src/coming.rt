@@ -1,12 +1,13 @@
 //! A text as far as it has come: what is kept of the handled lines, and the bytes after them.
 
-ghost use Rattle.std.specs.Prelude.{◌≡◌, ◌≤◌, ◌<◌, ◌+◌, ◌*◌, ◌++◌, ◌^◌, ℕ, List, Ok, None, OnOk, OnErr, true, false, vec_len};
+ghost use Rattle.std.specs.Prelude.{◌≡◌, ◌≤◌, ◌<◌, ◌+◌, ◌*◌, ◌++◌, ◌^◌, ℕ, List, Ok, None, OnOk, OnErr, true, false, vec_len, length};
 ghost use Rattle.mari_publish.specs.declared.publication.Part.{Part as PartValue};
 ghost use Rattle.mari_publish.specs.Order.{HasRoom};
 ghost use Rattle.mari_publish.specs.Pieces.{ComesFrom, IsCome, IsNext, HasNoLine, IsWhole, KeepsFew, with_answer, come_of};
 ghost use Rattle.mari_publish.specs.Handling.{Handles};
 
 use crate::fault::TextFault;
+use crate::follow::list_bids;
 use crate::held::{Held, Kept};
 use crate::publication::Part;
 use crate::taking::take_line;
@@ -80,6 +81,25 @@ fn handle_line(alloc: Global, coming: &mut Coming) -> Result<Handled, TextFault>
     }
 }
 
+/// Takes the lines of bids that come next in a block, in place. It stops at any other line, at one that isn't whole,
+/// and where there is no memory for a bid: `handle_line` says which.
+fn take_bids(alloc: Global, coming: &mut Coming)
+    requires handled { coming.old.handled ≤ vec_len coming.old.bytes }
+    requires lines { coming.old.lines < 2 ^ 31 }
+    ensures handled { coming.new.handled ≤ vec_len coming.new.bytes }
+    ensures stands { (text : List ℕ) (parts : List PartValue) → ComesFrom (come_of coming.old) text parts → ComesFrom (come_of coming.new) text parts }
+    ensures no_more { length (come_of coming.new).unread ≤ length (come_of coming.old).unread }
+{
+    let Ahead::Whole = coming.ahead else {
+        return;
+    };
+    if let Held::Listing(block) = &mut coming.kept.held {
+        let (after, count) = list_bids(alloc, block, &coming.bytes[coming.handled..]);
+        coming.handled = coming.bytes.len() - after.len();
+        coming.lines += count;
+    }
+}
+
 /// Handles lines up to the next part, or as far as whole lines have come.
 pub fn next_part(alloc: Global, coming: &mut Coming) -> Result<Option<Part>, TextFault>
     requires handled { coming.old.handled ≤ vec_len coming.old.bytes }
@@ -90,6 +110,7 @@ pub fn next_part(alloc: Global, coming: &mut Coming) -> Result<Option<Part>, Tex
     ensures no_line { result ≡ Ok None → HasNoLine (come_of coming.new) }
 {
     'lines: loop {
+        take_bids(alloc, coming);
         match handle_line(alloc, coming) {
             Ok(Handled::Line(None)) => {}
             Ok(Handled::Line(Some(part))) => return Ok(Some(part)),

@@ -6,6 +6,7 @@
 ghost use Rattle.std.specs.Prelude.{◌≤◌, ◌+◌};
 ghost use Rattle.mari_publish.specs.Order.{after, Follows, HasRoom};
 
+mod bids;
 mod ending;
 mod heading;
 mod listing;
@@ -15,6 +16,7 @@ mod tree;
 
 use crate::held::{Held, Kept};
 use crate::publication::Part;
+pub use bids::list_bids;
 use ending::{close_block, list_party};
 use heading::{after_heading, at_start, between_blocks};
 use listing::{list_line, open_tree};

@@ -1,11 +1,11 @@
 -- A printed whole number is read as itself.
-use Rattle.std.proofs.Common.{◌≡◌, ◌<◌, ◌+◌, ◌-◌, ◌*◌, ◌^◌, ◌∙◌, ◌==◌, ℕ, true, false, List, [], ◌∷◌, ◌++◌, Some, pos, decimal, length, refl, ap, arith, rules}
+use Rattle.std.proofs.Common.{◌≡◌, ◌<◌, ◌≤◌, ◌+◌, ◌-◌, ◌*◌, ◌/◌, ◌%◌, ◌^◌, ◌∙◌, ◌==◌, ℕ, true, false, List, [], ◌∷◌, ◌++◌, Some, pos, decimal, length, refl, sym, ap, arith, rules}
 use Rattle.std.specs.Prelude.{fold}
 use Rattle.std.specs.Char.{is_ascii_digit}
 use Rattle.std.specs.List.{list_all}
 use Rattle.std.proofs.lemmas.Bool.{and_parts}
 use Rattle.std.proofs.lemmas.Bool.Decides.{nat_tests}
-use Rattle.std.proofs.lemmas.Fmt.{digits_decimal, digits_value-decimal, decimal_nonempty}
+use Rattle.std.proofs.lemmas.Fmt.{digits_decimal, digits_value-decimal, decimal_digit, decimal_nonempty, decimal_step}
 use Rattle.std.proofs.lemmas.Str.Parse.{IsNumeralModel, numerals_by_fold}
 use Rattle.mari_units.specs.Names.{is_name_byte}
 use Rattle.mari_units.specs.Numbers.{has_minus, natural_of, value_of_digits, whole_of, without_minus}
@@ -50,3 +50,24 @@ digit_byte x lt = grind (arith, nat_tests)
 -- a digit may stand in a name
 pub digit_name : (d : ℕ) → is_ascii_digit d ≡ true → is_name_byte d ≡ true
 digit_name d e = rw e refl
+
+-- numbers of one to four digits, digit by digit
+pub one_digit : (n : ℕ) → n < 10 → decimal n ≡ (48 + n % 10) ∷ []
+one_digit n lt = let same : n % 10 ≡ n = omega arith in rw same (decimal_digit n lt)
+
+pub two_digits : (n : ℕ) → 10 ≤ n → n < 100 → decimal n ≡ (48 + n / 10 % 10) ∷ (48 + n % 10) ∷ []
+two_digits n ge lt = decimal_step n ge (omega arith) ∙ ap (λ ds. ds ++ (48 + n % 10) ∷ []) (one_digit (n / 10) (omega arith))
+
+pub three_digits : (n : ℕ) → 100 ≤ n → n < 1000 → decimal n ≡ (48 + n / 100 % 10) ∷ (48 + n / 10 % 10) ∷ (48 + n % 10) ∷ []
+three_digits n ge lt =
+    let hundreds : n / 10 / 10 ≡ n / 100 = omega arith in
+    let front : decimal (n / 10) ≡ (48 + n / 100 % 10) ∷ (48 + n / 10 % 10) ∷ [] = rw (sym hundreds) (two_digits (n / 10) (omega arith) (omega arith)) in
+    decimal_step n (omega arith) (omega arith) ∙ ap (λ ds. ds ++ (48 + n % 10) ∷ []) front
+
+pub four_digits : (n : ℕ) → 1000 ≤ n → n < 10000 → decimal n ≡ (48 + n / 1000) ∷ (48 + n / 100 % 10) ∷ (48 + n / 10 % 10) ∷ (48 + n % 10) ∷ []
+four_digits n ge lt =
+    let thousands : n / 10 / 100 % 10 ≡ n / 1000 = omega arith in
+    let hundreds : n / 10 / 10 ≡ n / 100 = omega arith in
+    let front : decimal (n / 10) ≡ (48 + n / 1000) ∷ (48 + n / 100 % 10) ∷ (48 + n / 10 % 10) ∷ [] =
+    rw (sym thousands, sym hundreds) (three_digits (n / 10) (omega arith) (omega arith)) in
+    decimal_step n (omega arith) (omega arith) ∙ ap (λ ds. ds ++ (48 + n % 10) ∷ []) front

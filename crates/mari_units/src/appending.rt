@@ -1,9 +1,11 @@
 //! Texts that grow piece by piece.
 
-ghost use Rattle.std.specs.Prelude.{◌≡◌, ◌++◌, OnOk, OnErr};
-ghost use Rattle.std.specs.Fmt.{decimal};
+ghost use Rattle.std.specs.Prelude.{◌≡◌, ◌≤◌, ◌<◌, ◌^◌, ◌++◌, OnOk, OnErr, unsigned_abs};
+ghost use Rattle.std.specs.Fmt.{decimal, signed_decimal};
+ghost use Rattle.mari_units.specs.Numbers.{printed_cents, printed_euros, sign_of};
 
 use crate::faults::Memory;
+use crate::numbers::{Cents, Quarters};
 use itoa::Buffer;
 use std::alloc::Global;
 
@@ -15,8 +17,29 @@ pub fn put(text: &mut Vec<u8>, piece: &[u8]) -> Result<(), Memory>
     Ok(text.extend_from_slice(piece)?)
 }
 
-/// Appends a number to a text, in digits, without leading zeros. Out of memory, the text stays as it is.
-pub fn put_number(alloc: Global, text: &mut Vec<u8>, number: u128) -> Result<(), Memory>
+/// Appends a number of up to four digits to a text, as one piece. Most numbers are such, and need no buffer.
+fn put_short(text: &mut Vec<u8>, number: u32) -> Result<(), Memory>
+    requires short { number < 10_000 }
+    ensures put { OnOk result (text.new.items ≡ text.old.items ++ decimal number) }
+    ensures same { OnErr result (text.new.items ≡ text.old.items) }
+{
+    let ones = b'0' + (number % 10) as u8;
+    if number < 10 {
+        return put(text, &[ones]);
+    }
+    let tens = b'0' + (number / 10 % 10) as u8;
+    if number < 100 {
+        return put(text, &[tens, ones]);
+    }
+    let hundreds = b'0' + (number / 100 % 10) as u8;
+    if number < 1_000 {
+        return put(text, &[hundreds, tens, ones]);
+    }
+    put(text, &[b'0' + (number / 1_000) as u8, hundreds, tens, ones])
+}
+
+/// Appends a number of any size to a text, in digits.
+fn put_long(alloc: Global, text: &mut Vec<u8>, number: u128) -> Result<(), Memory>
     ensures put { OnOk result (text.new.items ≡ text.old.items ++ decimal number) }
     ensures same { OnErr result (text.new.items ≡ text.old.items) }
 {
@@ -25,4 +48,69 @@ pub fn put_number(alloc: Global, text: &mut Vec<u8>, number: u128) -> Result<(),
         return put(text, buffer.format(short).as_bytes());
     }
     put(text, number.to_string(alloc)?.as_bytes())
+}
+
+/// Appends a number to a text, in digits, without leading zeros. Out of memory, the text stays as it is.
+pub fn put_number(alloc: Global, text: &mut Vec<u8>, number: u128) -> Result<(), Memory>
+    ensures put { OnOk result (text.new.items ≡ text.old.items ++ decimal number) }
+    ensures same { OnErr result (text.new.items ≡ text.old.items) }
+{
+    if number < 10_000 {
+        put_short(text, number as u32)
+    } else {
+        put_long(alloc, text, number)
+    }
+}
+
+/// Appends a minus to a text, or nothing.
+fn put_sign(text: &mut Vec<u8>, negative: bool) -> Result<(), Memory>
+    ensures { OnOk result (text.new.items ≡ text.old.items ++ sign_of negative) }
+{
+    if negative { put(text, b"-") } else { Ok(()) }
+}
+
+/// Appends a whole number to a text, in digits, without leading zeros, after a minus where it is negative. Out of memory,
+/// a first part of it may stay, here and below.
+pub fn put_whole(alloc: Global, text: &mut Vec<u8>, n: i128) -> Result<(), Memory>
+    ensures { OnOk result (text.new.items ≡ text.old.items ++ signed_decimal n) }
+{
+    put_sign(text, n < 0)?;
+    put_number(alloc, text, n.unsigned_abs())
+}
+
+/// Appends a price to a text, in euro per MWh with two decimals, as `-0.05` for -5 cents.
+pub fn put_cents(alloc: Global, text: &mut Vec<u8>, cents: Cents) -> Result<(), Memory>
+    ensures { OnOk result (text.new.items ≡ text.old.items ++ printed_cents cents.0) }
+{
+    let size = cents.0.unsigned_abs();
+    put_sign(text, cents.0 < 0)?;
+    put_number(alloc, text, u128::from(size / 100))?;
+    put(
+        text,
+        &[
+            b'.',
+            b'0' + (size % 100 / 10) as u8,
+            b'0' + (size % 10) as u8,
+        ],
+    )
+}
+
+/// Appends money to a text, in euros with four decimals, as `0.0025` for one quarter-cent.
+pub fn put_euros(alloc: Global, text: &mut Vec<u8>, quarters: Quarters) -> Result<(), Memory>
+    requires { unsigned_abs quarters.0 ≤ 10 ^ 30 }
+    ensures { OnOk result (text.new.items ≡ text.old.items ++ printed_euros quarters.0) }
+{
+    let size = 25 * quarters.0.unsigned_abs();
+    put_sign(text, quarters.0 < 0)?;
+    put_number(alloc, text, size / 10_000)?;
+    put(
+        text,
+        &[
+            b'.',
+            b'0' + (size % 10_000 / 1_000) as u8,
+            b'0' + (size % 1_000 / 100) as u8,
+            b'0' + (size % 100 / 10) as u8,
+            b'0' + (size % 10) as u8,
+        ],
+    )
 }

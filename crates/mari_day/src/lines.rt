@@ -25,11 +25,10 @@ pub fn money_lines(
     requires small { All (LineIsWithin (10 ^ 30)) lines.now }
     ensures { IfOk result (λ money. money.items ≡ money_lines_of operators.now lines.now) }
 {
-    let mut money = Vec::new(alloc);
+    let mut money = Vec::with_capacity(alloc, lines.len())?;
     for (operator, line) in lines.iter().enumerate() {
-        let name = copied_name(alloc, operators, operator as u32)?;
         money.push(MoneyLine {
-            name,
+            name: copied_name(operators, operator as u32),
             payment: line.payment,
             rent: line.rent,
             net: line.net(),
@@ -50,11 +49,10 @@ pub fn amount_lines(
     requires there { All (λ place. place < length providers.now) places.now }
     ensures { IfOk result (λ lines. lines.items ≡ map (amount_line providers.now amounts.now) places.now) }
 {
-    let mut lines = Vec::new(alloc);
+    let mut lines = Vec::with_capacity(alloc, places.len())?;
     for place in places {
-        let name = copied_name(alloc, providers, *place)?;
         lines.push(AmountLine {
-            name,
+            name: copied_name(providers, *place),
             amount: amounts[*place as usize],
         })?;
     }

@@ -11,23 +11,19 @@ ghost use Rattle.mari_rows.specs.Names.{name_at};
 
 use mari_publish::{BidLine, BorderLine, ZoneLine};
 use mari_rows::NameIndex;
-use mari_units::{Cents, MOST_ZONES, Memory, Name, NameFault, Quarters, read_name};
+use mari_units::{Cents, MOST_ZONES, Memory, Name, Quarters, name_of};
 use mari_zones::BorderEnds;
 use std::alloc::Global;
 
 /// A copy of the name at a place.
-pub fn copied_name(alloc: Global, names: &NameIndex, place: u32) -> Result<Name, Memory>
+pub fn copied_name(names: &NameIndex, place: u32) -> Name
     requires names { All IsName names.now }
     requires there { place < length names.now }
-    ensures { IfOk result (λ name. name ≡ name_at names.now place) }
+    ensures { result ≡ name_at names.now place }
 {
-    let Some(name) = names.name_at(place) else {
-        unreachable!()
-    };
-    match read_name(alloc, name) {
-        Ok(name) => Ok(name),
-        Err(NameFault::Memory) => Err(Memory),
-        Err(NameFault::NotAName) => unreachable!(),
+    match names.name_at(place) {
+        Some(name) => name_of(name),
+        None => unreachable!(),
     }
 }
 
@@ -57,11 +53,10 @@ pub fn zone_lines(
     ensures greatest { IfOk result (λ lines. map (λ (l : ZoneLineOf). l.greatest) lines.items ≡ greatest.now) }
     ensures areas { IfOk result (λ lines. map (λ (l : ZoneLineOf). l.area) lines.items ≡ areas.now) }
 {
-    let mut lines = Vec::new(alloc);
+    let mut lines = Vec::with_capacity(alloc, areas.len())?;
     for (zone, area) in areas.iter().enumerate() {
-        let name = copied_name(alloc, zones, zone as u32)?;
         lines.push(ZoneLine {
-            name,
+            name: copied_name(zones, zone as u32),
             price: published[zone],
             least: least[zone],
             greatest: greatest[zone],
@@ -94,13 +89,11 @@ pub fn border_lines(
     ensures flow { IfOk result (λ lines. map (λ (l : BorderLineOf). l.flow) lines.items ≡ flow.now) }
     ensures rents { IfOk result (λ lines. map (λ (l : BorderLineOf). l.rent) lines.items ≡ rents.now) }
 {
-    let mut lines = Vec::new(alloc);
+    let mut lines = Vec::with_capacity(alloc, borders.len())?;
     for (border, ends) in borders.iter().enumerate() {
-        let from = copied_name(alloc, zones, ends.from)?;
-        let to = copied_name(alloc, zones, ends.to)?;
         lines.push(BorderLine {
-            from,
-            to,
+            from: copied_name(zones, ends.from),
+            to: copied_name(zones, ends.to),
             flow: flow[border],
             rent: rents[border],
         })?;
@@ -121,10 +114,12 @@ pub fn bid_lines(
     ensures ids { IfOk result (λ lines. map (λ (l : BidLineOf). l.id) lines.items ≡ map (name_at ids.now) numbers.now) }
     ensures mw { IfOk result (λ lines. map (λ (l : BidLineOf). l.mw) lines.items ≡ take (length numbers.now) mw.now) }
 {
-    let mut lines = Vec::new(alloc);
+    let mut lines = Vec::with_capacity(alloc, numbers.len())?;
     for (order, number) in numbers.iter().enumerate() {
-        let id = copied_name(alloc, ids, *number)?;
-        lines.push(BidLine { id, mw: mw[order] })?;
+        lines.push(BidLine {
+            id: copied_name(ids, *number),
+            mw: mw[order],
+        })?;
     }
     Ok(lines)
 }

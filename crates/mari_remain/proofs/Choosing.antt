@@ -1,16 +1,17 @@
 -- What the choice of a run's bids reads off what is kept is what its definition says.
-use Rattle.std.proofs.Common.{◌≡◌, ◌∙◌, ℕ, zero, suc, ◌+◌, ◌<◌, ◌≤◌, ◌==◌, Bool, true, false, cond, if◌then◌else◌, List, [], ◌∷◌, ◌++◌, Option, Some, None, refl, ap, sym, arith, length, get_or, filter, take, drop, zero-add, add-one, map, inl, inr}
-use Rattle.std.specs.Prelude.{not, ◌&&◌, ◌||◌, nat_lt, is_some}
+use Rattle.std.proofs.Common.{◌≡◌, ◌∙◌, ℕ, zero, suc, ◌+◌, ◌<◌, ◌≤◌, ◌==◌, Bool, true, false, cond, if◌then◌else◌, List, [], ◌∷◌, ◌++◌, Option, Some, None, refl, ap, sym, arith, length, get_or, filter, take, drop, length-append, zero-add, add-one, map, inl, inr}
+use Rattle.std.specs.Prelude.{not, ◌&&◌, ◌||◌, nat_lt, is_some, slice_get}
 use Rattle.std.specs.List.{All, AllPairs, list_any, range_with_len}
-use Rattle.std.specs.Option.{option_map_or}
+use Rattle.std.specs.Option.{option_and_then, option_map_or}
 use Rattle.std.proofs.lemmas.Bool.{eqb-true, eq-eqb}
 use Rattle.std.proofs.lemmas.Bool.{cases_lt}
 use Rattle.std.proofs.lemmas.Bool.Decides.{nat_tests}
-use Rattle.std.proofs.lemmas.List.{append-nil, get_or_default, get_or-drop, length-drop, take-append-drop}
+use Rattle.std.proofs.lemmas.List.{append-nil, map-append, get_or_default, get_or-drop, length-drop, take-append-drop}
+use Rattle.std.proofs.lemmas.List.Kept.{AllPairs-filter}
 use Rattle.std.proofs.lemmas.List.Folds.{list_any-append, list_any_none}
 use Rattle.std.proofs.lemmas.List.Elements.{All-filter, All-weaker, filter-append, filter_passes}
 use Rattle.std.proofs.lemmas.List.FromFn.{get_or-map-range_with_len, length-map-range_with_len}
-use Rattle.std.proofs.Math.Seq.{take-suc}
+use Rattle.std.proofs.Math.Seq.{drop-cons, get_or-append_seam, take-suc}
 use Rattle.std.proofs.lemmas.Option.{slice_get-get_or, slice_get_past}
 use Rattle.std.proofs.Math.ListN.{get_or-eq_default}
 use Rattle.std.proofs.lemmas.Map.Views.{any-filter_same}
@@ -18,16 +19,19 @@ use Rattle.mari_bids.specs.Bids.{bid_numbered, no_bid}
 use Rattle.mari_bids.specs.declared.bids.Bid.{Bid}
 use Rattle.mari_bids.specs.declared.bids.BidBook.{BidBook}
 use Rattle.mari_links.specs.Links.{has_gate, quarter_of}
+use Rattle.mari_links.specs.declared.links.BidLinks.{BidLinks}
 use Rattle.mari_links.proofs.LinkEq.{list_any-alike}
 use Rattle.mari_demands.specs.declared.demands.Demand.{Demand}
 use Rattle.mari_demands.specs.declared.runs.Run.{Run}
+use Rattle.mari_market.specs.declared.market.Order.{Order}
 use Rattle.mari_remain.specs.declared.books.Books.{Books}
 use Rattle.mari_remain.specs.Accepted.{IsAccepted}
-use Rattle.mari_remain.specs.Available.{Taken, is_available, is_available_up, is_used, may_run, parent_allows, share_group}
-use Rattle.mari_remain.specs.Choice.{rivals_in}
+use Rattle.mari_remain.specs.Available.{Taken, has_free_group, is_available, is_available_up, is_used, may_run, parent_allows, share_group}
+use Rattle.mari_remain.specs.Choice.{is_alone, keeps_links_in, rivals_in}
 use Rattle.mari_remain.specs.FirstBlocks.{Tally, taken_in}
 use Rattle.mari_remain.specs.Lists.{bids_of_quarter, demand_at, group_at, numbers_of_run, parent_at}
-use Rattle.mari_remain.specs.RunMarket.{demands_of_run}
+use Rattle.mari_remain.specs.RunMarket.{bid_order, demands_of_run, gate_of}
+use Rattle.mari_remain.proofs.Gates.{gate-at, gate-is}
 use Rattle.mari_remain.proofs.Places.{places-filter, places-items, places-rise, places-within}
 use Rattle.mari_remain.proofs.Validity.{few_of_quarter, parents}
 
@@ -74,6 +78,65 @@ free books kept quarter i ok =
     (λ j. not (j == i) && (share_group books.links.links i j && is_used (taken_in books kept quarter) j)) (range_with_len 0 (length books.bids.bids))
     (λ j. rival (own j) (not (j == i)) (get_or kept.mw j 0) (group_at books.links.links i) (group_at books.links.links j))
     ∙ ap (λ n. list_any (λ j. not (j == i) && (share_group books.links.links i j && is_used (taken_in books kept quarter) j)) (range_with_len 0 n)) (sym all)
+
+and-false : (b : Bool) → (b && false) ≡ false
+and-false true = refl
+and-false false = refl
+
+-- a bid in no group has no rival
+pub no-rival : (links : List BidLinks) (i : ℕ) (numbers : List ℕ) → is_some (group_at links i) ≡ false → list_any (λ j. not (j == i) && share_group links i j) numbers ≡ false
+no-rival links i numbers e = by (group_at links i) e
+  where
+    by : (group : Option ℕ) → is_some group ≡ false
+        → list_any (λ j. not (j == i) && option_map_or (λ g. option_map_or (λ h. h == g) (group_at links j) false) group false) numbers ≡ false
+    by None e = list_any_none _ numbers (λ k d l. and-false _)
+    by (Some g) e = absurd (cc e)
+
+-- what the test of a bid that is alone says of its links
+no-number : (number : Option ℕ) (rest : Bool) → (not (is_some number) && rest) ≡ true → number ≡ None
+no-number None rest e = refl
+no-number (Some n) rest e = absurd (cc e)
+
+no-items : (xs : List ℕ) → (length xs == 0) ≡ true → xs ≡ []
+no-items [] e = refl
+no-items (x ∷ xs) e = let none : suc (length xs) ≡ 0 = eqb-true (suc (length xs)) 0 e in absurd (omega (arith, none))
+
+and-first : (a b : Bool) → (a && b) ≡ true → a ≡ true
+and-first true b e = refl
+and-first false b e = absurd (cc e)
+
+and-rest : (a b : Bool) → (a && b) ≡ true → b ≡ true
+and-rest true b e = e
+and-rest false b e = absurd (cc e)
+
+-- no other bid keeps a bid that is alone from a run
+module _ (links : List BidLinks) (i : ℕ) (own : BidLinks) (at : slice_get links i ≡ Some own) (alone : is_alone own ≡ true) where
+  after_group : (not (is_some own.parent) && (length own.needs == 0 && (length own.bars == 0 && length own.technical == 0))) ≡ true
+  after_group = and-rest _ _ alone
+
+  after_parent : (length own.needs == 0 && (length own.bars == 0 && length own.technical == 0)) ≡ true
+  after_parent = and-rest _ _ after_group
+
+  after_needs : (length own.bars == 0 && length own.technical == 0) ≡ true
+  after_needs = and-rest _ _ after_parent
+
+  pub alone-free : (taken : Taken) → has_free_group links taken i ≡ true
+  alone-free taken = by (group_at links i) (ap (option_and_then (λ (l : BidLinks). l.group)) at ∙ no-number own.group _ alone)
+    where
+      by : (group : Option ℕ) → group ≡ None
+          → not (list_any (λ j. not (j == i) && (option_map_or (λ g. option_map_or (λ h. h == g) (group_at links j) false) group false && is_used taken j)) (range_with_len 0 (length links))) ≡ true
+      by None e = ap not (list_any_none _ (range_with_len 0 (length links)) (λ k d l. and-false _))
+      by (Some g) e = absurd (cc e)
+
+  pub alone-keeps : (kept : Tally) → option_map_or (keeps_links_in kept) (slice_get links i) true ≡ true
+  alone-keeps kept =
+      let needs : own.needs ≡ [] = no-items own.needs (and-first _ _ after_parent) in
+      let bars : own.bars ≡ [] = no-items own.bars (and-first _ _ after_needs) in
+      let technical : own.technical ≡ [] = no-items own.technical (and-rest _ _ after_needs) in
+      rw at (rw (needs, bars, technical) refl)
+
+  pub alone-parent : (allows : ℕ → Bool) → option_map_or allows (parent_at links i) true ≡ true
+  alone-parent allows = ap (λ (parent : Option ℕ). option_map_or allows parent true) (ap (option_and_then (λ (l : BidLinks). l.parent)) at ∙ no-number own.parent _ after_group)
 
 -- the MW that is kept of a bid of the quarter is what was taken of it in the quarter
 pub own-mw : (books : Books) (kept : Tally) (quarter i : ℕ) → (bid_numbered books.bids.bids i).quarter ≡ quarter → (taken_in books kept quarter).mw i ≡ get_or kept.mw i 0
@@ -236,27 +299,6 @@ has-run books kept run index l =
 pub demands-are : (demands : List Demand) (run : ℕ) → map (demand_at demands) (numbers_of_run demands run) ≡ demands_of_run demands run
 demands-are demands run = places-items (λ (d : Demand). d.run == run) (demand_at demands) 0 demands (λ i d l. rw (zero-add i) (get_or_default demands i _ d l))
 
--- what is chosen of one number more: where it passes it is put after, and among the gated ones where it has a gate
-pub record IsChosen (avail gate : ℕ → Bool) (all : List ℕ) (k : ℕ) (numbers gated : List ℕ) : Type 0 where
-  pub all_there : numbers ≡ filter avail (take k all)
-  pub all_gated : gated ≡ filter gate numbers
-
-module _ (avail gate : ℕ → Bool) (all : List ℕ) (k i : ℕ) (numbers gated : List ℕ) (l : k < length all) (here : get_or all k i ≡ i) (so_far : IsChosen avail gate all k numbers gated) where
-  pub chosen-not : avail i ≡ false → IsChosen avail gate all (k + 1) numbers gated
-  chosen-not e = record { all_there = so_far.all_there ∙ sym (filter-take avail all k i l here ∙ rw e (append-nil _)); all_gated = so_far.all_gated }
-
-  pub chosen-plain : avail i ≡ true → gate i ≡ false → IsChosen avail gate all (k + 1) (numbers ++ i ∷ []) gated
-  chosen-plain e f = record {
-    all_there = ap (λ ns. ns ++ i ∷ []) so_far.all_there ∙ sym (filter-take avail all k i l here ∙ rw e refl);
-    all_gated = so_far.all_gated ∙ sym (filter-push gate numbers i ∙ rw f (append-nil _));
-  }
-
-  pub chosen-gated : avail i ≡ true → gate i ≡ true → IsChosen avail gate all (k + 1) (numbers ++ i ∷ []) (gated ++ i ∷ [])
-  chosen-gated e f = record {
-    all_there = ap (λ ns. ns ++ i ∷ []) so_far.all_there ∙ sym (filter-take avail all k i l here ∙ rw e refl);
-    all_gated = ap (λ ns. ns ++ i ∷ []) so_far.all_gated ∙ sym (filter-push gate numbers i ∙ rw f refl);
-  }
-
 -- what passes a test of a quarter's bids is of the quarter
 pub own-chosen : (books : Books) (p : ℕ → Bool) (quarter : ℕ) (numbers : List ℕ)
     → numbers ≡ filter p (bids_of_quarter books.bids.bids quarter)
@@ -264,6 +306,92 @@ pub own-chosen : (books : Books) (p : ℕ → Bool) (quarter : ℕ) (numbers : L
 own-chosen books p quarter numbers e =
     rw e (All-filter p (λ i. (bid_numbered books.bids.bids i).quarter ≡ quarter) (bids_of_quarter books.bids.bids quarter)
     (All-weaker (IsOwn books quarter) (λ i. (bid_numbered books.bids.bids i).quarter ≡ quarter) (λ i own. own.own) (bids_of_quarter books.bids.bids quarter) (own-numbers books quarter)))
+
+-- all the gated bids that are chosen for a run, and the order of a bid among them
+abbrev pub gated_chosen : Books → Tally → Run → List ℕ
+gated_chosen books kept run = filter (has_gate books.links) (filter (is_available books (taken_in books kept run.quarter) run) (bids_of_quarter books.bids.bids run.quarter))
+
+abbrev pub order_chosen : Books → Tally → Run → ℕ → Order
+order_chosen books kept run i = bid_order (bid_numbered books.bids.bids i) (gate_of (gated_chosen books kept run) i) ((taken_in books kept run.quarter).mw i)
+
+-- what is chosen of one number more: where it passes it is put after with its order, and among the gated ones where it
+-- has a gate
+pub record IsChosen (avail gate : ℕ → Bool) (order : ℕ → Order) (all : List ℕ) (k : ℕ) (numbers gated : List ℕ) (orders : List Order) : Type 0 where
+  pub all_there : numbers ≡ filter avail (take k all)
+  pub all_gated : gated ≡ filter gate numbers
+  pub all_ordered : orders ≡ map order numbers
+
+module _ (avail gate : ℕ → Bool) (order : ℕ → Order) (all : List ℕ) (k i : ℕ) (numbers gated : List ℕ) (orders : List Order)
+    (l : k < length all) (here : get_or all k i ≡ i) (so_far : IsChosen avail gate order all k numbers gated orders) where
+  pub chosen-not : avail i ≡ false → IsChosen avail gate order all (k + 1) numbers gated orders
+  chosen-not e = record {
+    all_there = so_far.all_there ∙ sym (filter-take avail all k i l here ∙ rw e (append-nil _));
+    all_gated = so_far.all_gated;
+    all_ordered = so_far.all_ordered;
+  }
+
+  pub chosen-next : avail i ≡ true → IsChosen avail gate order all (k + 1) (numbers ++ i ∷ []) (cond (gate i) (gated ++ i ∷ []) gated) (orders ++ order i ∷ [])
+  chosen-next e = record {
+    all_there = ap (λ ns. ns ++ i ∷ []) so_far.all_there ∙ sym (filter-take avail all k i l here ∙ rw e refl);
+    all_gated = by (gate i) refl;
+    all_ordered = ap (λ os. os ++ order i ∷ []) so_far.all_ordered ∙ sym (map-append order numbers (i ∷ []));
+  }
+    where
+      by : (b : Bool) → gate i ≡ b → cond b (gated ++ i ∷ []) gated ≡ filter gate (numbers ++ i ∷ [])
+      by true f = ap (λ ns. ns ++ i ∷ []) so_far.all_gated ∙ sym (filter-push gate numbers i ∙ rw f refl)
+      by false f = so_far.all_gated ∙ sym (filter-push gate numbers i ∙ rw f (append-nil _))
+
+-- the gate of the next bid that is chosen: where it has one, the gates of the gated bids before it are before it
+module _ (books : Books) (kept : Tally) (run : Run) (ok : IsAccepted books) (k : ℕ) where
+  abbrev is_open : ℕ → Bool
+  is_open = is_available books (taken_in books kept run.quarter) run
+
+  abbrev numbers_all : List ℕ
+  numbers_all = bids_of_quarter books.bids.bids run.quarter
+
+  abbrev gated_before : List ℕ
+  gated_before = filter (has_gate books.links) (filter is_open (take k numbers_all))
+
+  gated_split : gated_chosen books kept run ≡ gated_before ++ filter (has_gate books.links) (filter is_open (drop k numbers_all))
+  gated_split = ap (λ ns. filter (has_gate books.links) (filter is_open ns)) (sym (take-append-drop k numbers_all))
+      ∙ ap (filter (has_gate books.links)) (filter-append is_open (take k numbers_all) (drop k numbers_all))
+      ∙ filter-append (has_gate books.links) (filter is_open (take k numbers_all)) (filter is_open (drop k numbers_all))
+
+  pub few-before : length gated_before ≤ 512
+  few-before = omega (arith, ap length gated_split, length-append gated_before (filter (has_gate books.links) (filter is_open (drop k numbers_all))), few_of_quarter books ok is_open run.quarter)
+
+  gated_rise : AllPairs (λ i j. i < j) (gated_chosen books kept run)
+  gated_rise = AllPairs-filter (λ i j. i < j) (has_gate books.links) (filter is_open numbers_all) (AllPairs-filter (λ i j. i < j) is_open numbers_all (places-rise (λ (b : Bid). b.quarter == run.quarter) 0 books.bids.bids))
+
+  next-gate : (i : ℕ) → k < length numbers_all → get_or numbers_all k i ≡ i → is_open i ≡ true
+      → cond (has_gate books.links i) (Some (length gated_before)) None ≡ gate_of (gated_chosen books kept run) i
+  next-gate i l here e = by (has_gate books.links i) refl
+    where
+      by : (b : Bool) → has_gate books.links i ≡ b → cond b (Some (length gated_before)) None ≡ gate_of (gated_chosen books kept run) i
+      by true f =
+          let rest : List ℕ = filter (has_gate books.links) (filter is_open (drop (suc k) numbers_all)) in
+          let cut : drop k numbers_all ≡ i ∷ drop (suc k) numbers_all = drop-cons numbers_all k i l ∙ ap (λ n. n ∷ drop (suc k) numbers_all) here in
+          let kept_i : filter (has_gate books.links) (filter is_open (i ∷ drop (suc k) numbers_all)) ≡ i ∷ rest = rw e (rw f refl) in
+          let whole : gated_chosen books kept run ≡ gated_before ++ i ∷ rest = gated_split ∙ ap (λ ns. gated_before ++ filter (has_gate books.links) (filter is_open ns)) cut ∙ ap (λ ns. gated_before ++ ns) kept_i in
+          let at : get_or (gated_chosen books kept run) (length gated_before) 0 ≡ i = ap (λ ns. get_or ns (length gated_before) 0) whole ∙ get_or-append_seam gated_before i rest 0 in
+          let less : length gated_before < length (gated_chosen books kept run) = omega (arith, ap length whole, length-append gated_before (i ∷ rest)) in
+          sym (rw at at (gate-is (gated_chosen books kept run) (length gated_before) gated_rise less))
+      by false f = none (gate_of (gated_chosen books kept run) i) refl
+        where
+          none : (gate : Option ℕ) → gate_of (gated_chosen books kept run) i ≡ gate → None ≡ gate_of (gated_chosen books kept run) i
+          none None g = sym g
+          none (Some place) g =
+              let found = gate-at (gated_chosen books kept run) i place g in
+              let passes = filter_passes (has_gate books.links) (filter is_open numbers_all) place 0 found.0 in
+              let has : has_gate books.links i ≡ true = sym (ap (has_gate books.links) found.1) ∙ passes in
+              absurd (cc (has, f))
+
+  -- so its order is the one that it has among all
+  pub next-order : (i : ℕ) (gated : List ℕ) → k < length numbers_all → get_or numbers_all k i ≡ i → (bid_numbered books.bids.bids i).quarter ≡ run.quarter → is_open i ≡ true → gated ≡ gated_before
+      → bid_order (bid_numbered books.bids.bids i) (cond (has_gate books.links i) (Some (length gated)) None) (get_or kept.mw i 0) ≡ order_chosen books kept run i
+  next-order i gated l here own e same =
+      ap (λ gate. bid_order (bid_numbered books.bids.bids i) gate (get_or kept.mw i 0)) (ap (λ (gs : List ℕ). cond (has_gate books.links i) (Some (length gs)) None) same ∙ next-gate i l here e)
+      ∙ ap (λ mw. bid_order (bid_numbered books.bids.bids i) (gate_of (gated_chosen books kept run) i) mw) (sym (own-mw books kept run.quarter i own))
 
 -- no more gated bids are chosen than a market has gates
 pub few-chosen : (books : Books) (p : ℕ → Bool) (quarter : ℕ) (numbers gated : List ℕ) → IsAccepted books

@@ -170,6 +170,10 @@ module _ (books : Books) (ok : IsAccepted books) where
     kept-small = rw stands.flow (All-map (λ (flow : ℤ). unsigned_abs flow ≤ 99999) (flow_of (of_quarter (unwrap_or kept.quarter 0) blocks)) (range_with_len 0 (length books.borders.borders))
         (λ k d l. bounded books ok blocks stands.first (unwrap_or kept.quarter 0) (get_or (range_with_len 0 (length books.borders.borders)) k d)))
 
+    -- and there is a number of MW for each bid
+    pub kept-mws : length kept.mw ≡ length books.bids.bids
+    kept-mws = ap length stands.mw ∙ length-map-range_with_len (mw_of blocks) 0 (length books.bids.bids)
+
     the_quarter : (quarter : ℕ) (o : Option ℕ) → option_map_or (λ last. last == quarter) o false ≡ true → o ≡ Some quarter
     the_quarter quarter None e = cc e
     the_quarter quarter (Some q) e = ap Some (eqb-true q quarter e)

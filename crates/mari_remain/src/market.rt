@@ -15,7 +15,7 @@ ghost use Rattle.mari_remain.specs.RunMarket.{bid_order as bid_order_of, demand_
 use crate::adding::{add_mw, keep_and_add, mark_if};
 use crate::books::Books;
 use crate::borders::borders_of;
-use crate::choice::{Choice, choose, group_of, parent_of};
+use crate::choice::{choose, group_of, parent_of};
 use crate::remaining::Remaining;
 use mari_bids::Bid;
 use mari_demands::{Demand, Run};
@@ -136,28 +136,6 @@ pub fn bid_of(bids: &[Bid], number: u32) -> Bid
     bids.get(number as usize).copied().unwrap_or(NO_BID)
 }
 
-/// The orders of these bids of a quarter, by their numbers.
-fn bid_orders(
-    alloc: Global,
-    books: &Books,
-    remaining: &Remaining,
-    quarter: u32,
-    numbers: &[u32],
-    gated: &[u32],
-) -> Result<Vec<Order>, Memory>
-    requires gates { length gated.now ≤ MOST_GATES }
-    requires own { All (λ i. (bid_numbered books.now.bids.bids i).quarter ≡ quarter) numbers.now }
-    ensures { IfOk result (λ orders. orders.items ≡ map (λ i. bid_order_of (bid_numbered books.now.bids.bids i) (gate_in gated.now i) ((taken_in books.now remaining.now quarter).mw i)) numbers.now) }
-{
-    let mut orders = Vec::new(alloc);
-    for number in numbers {
-        let bid = bid_of(books.bids.bids.as_slice(), *number);
-        let gate = gate_of(gated, *number);
-        orders.push(bid_order(bid, gate, remaining.mw_of(*number)))?;
-    }
-    Ok(orders)
-}
-
 /// The demand of a number.
 fn demand_numbered(demands: &[Demand], number: u32) -> Demand
     ensures { result ≡ demand_at demands.now number }
@@ -169,7 +147,7 @@ fn demand_numbered(demands: &[Demand], number: u32) -> Demand
 fn demands_at(alloc: Global, demands: &[Demand], numbers: &[u32]) -> Result<Vec<Demand>, Memory>
     ensures { IfOk result (λ own. own.items ≡ map (demand_at demands.now) numbers.now) }
 {
-    let mut own = Vec::new(alloc);
+    let mut own = Vec::with_capacity(alloc, numbers.len())?;
     for number in numbers {
         own.push(demand_numbered(demands, *number))?;
     }
@@ -196,7 +174,7 @@ fn gates_of(alloc: Global, links: &[BidLinks], gated: &[u32]) -> Result<Vec<Gate
     requires { length gated.now ≤ MOST_GATES }
     ensures { IfOk result (λ gates. gates.items ≡ gates_in links.now gated.now) }
 {
-    let mut gates = Vec::new(alloc);
+    let mut gates = Vec::with_capacity(alloc, gated.len())?;
     for number in gated {
         gates.push(gate_info(links, gated, *number))?;
     }
@@ -218,27 +196,10 @@ fn gate_info(links: &[BidLinks], gated: &[u32], number: u32) -> GateInfo
 }
 
 /// The orders of a run's bids, and then those of its demands.
-fn orders_of(
-    alloc: Global,
-    books: &Books,
-    remaining: &Remaining,
-    quarter: u32,
-    choice: &Choice,
-    demands: &[Demand],
-) -> Result<Vec<Order>, Memory>
-    requires gates { length choice.now.gated.items ≤ MOST_GATES }
-    requires own { All (λ i. (bid_numbered books.now.bids.bids i).quarter ≡ quarter) choice.now.numbers.items }
-    requires small { All (λ d. unsigned_abs d.mw ≤ MOST_MW) demands.now }
-    ensures { IfOk result (λ orders. orders.items ≡ orders_in books.now.bids.bids (taken_in books.now remaining.now quarter).mw choice.now.numbers.items choice.now.gated.items demands.now) }
+fn with_demands(mut orders: Vec<Order>, demands: &[Demand]) -> Result<Vec<Order>, Memory>
+    requires { All (λ d. unsigned_abs d.mw ≤ MOST_MW) demands.now }
+    ensures { IfOk result (λ all. all.items ≡ orders.items ++ map demand_order_of demands.now) }
 {
-    let mut orders = bid_orders(
-        alloc,
-        books,
-        remaining,
-        quarter,
-        &choice.numbers,
-        &choice.gated,
-    )?;
     for demand in demands {
         orders.push(demand_order(demand))?;
     }
@@ -268,6 +229,7 @@ fn run_market(
 
     // What the blocks before it left, and the index of what may run.
     requires small { All (λ flow. unsigned_abs flow ≤ MOST_MW) remaining.now.flow }
+    requires mws { length remaining.now.mw ≡ length books.now.bids.bids }
     requires index { remaining.now.of_quarter ≡ map (bids_of_quarter books.now.bids.bids) (range_with_len 0 (books.now.quarters + 1)) }
     requires demands { remaining.now.of_run ≡ map (numbers_of_run books.now.demands.demands) (range_with_len 0 (length books.now.runs.runs + 1)) }
 
@@ -275,10 +237,10 @@ fn run_market(
     ensures { IfOk result (λ made. made ≡ run_market_left books.now (taken_in books.now remaining.now (run_numbered books.now run).quarter) run) }
 {
     let entry = run_entry(books, run);
-    let choice = choose(alloc, books, remaining, entry)?;
     let demands = run_demands(alloc, books, remaining, run)?;
-    let orders = orders_of(alloc, books, remaining, entry.quarter, &choice, &demands)?;
+    let choice = choose(alloc, books, remaining, entry, demands.len())?;
     let gates = gates_of(alloc, books.links.links.as_slice(), &choice.gated)?;
+    let orders = with_demands(choice.orders, &demands)?;
     let borders = borders_of(alloc, books, remaining, run, entry.quarter)?;
     Ok(RunMarket {
         market: Market {

@@ -109,6 +109,14 @@ impl Remaining {
         self.mw.get(bid as usize).copied().unwrap_or(0)
     }
 
+    /// The MW so far of a bid that is there.
+    pub(crate) fn mw_at(&self, bid: u32) -> u32
+        requires { bid < length self.now.mw }
+        ensures { result ≡ get_or self.now.mw bid 0 }
+    {
+        self.mw[bid as usize]
+    }
+
     /// Whether a bid was activated.
     pub(crate) fn is_activated(&self, bid: u32) -> bool
         ensures { result ≡ activated_in self.now bid }

@@ -3,12 +3,15 @@ use Rattle.std.specs.Prelude.{IfOk}
 use Rattle.mari_remain.specs.declared.market.RunMarket.{RunMarket}
 use Rattle.mari_remain.specs.Available.{Taken}
 use Rattle.mari_remain.specs.RunMarket.{run_market_left, taken_before}
-use Rattle.mari_remain.proofs.Standing.{kept-small, same-taken}
+use Rattle.mari_remain.proofs.Standing.{kept-mws, kept-small, same-taken}
 use Rattle.mari_remain.proofs.Validity.{valid, valid-made}
 use Rattle.mari_remain.proofs.remaining.Remaining.market_alone.Goals as goal
 
 pub run_market-requires-clause-small : goal.run_market-requires-clause-small
 run_market-requires-clause-small c = kept-small c.args.books.now c.requires.accepted [] c.args.self.now c.requires.nothing
+
+pub run_market-requires-clause-mws : goal.run_market-requires-clause-mws
+run_market-requires-clause-mws c = kept-mws c.args.books.now c.requires.accepted [] c.args.self.now c.requires.nothing
 
 pub returns-clause-market : goal.returns-clause-market
 returns-clause-market c =

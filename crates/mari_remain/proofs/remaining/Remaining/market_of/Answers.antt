@@ -6,12 +6,15 @@ use Rattle.mari_remain.specs.FirstBlocks.{taken_in}
 use Rattle.mari_remain.specs.Lists.{run_numbered}
 use Rattle.mari_remain.specs.RunMarket.{run_market_left}
 use Rattle.mari_remain.proofs.History.{bounded}
-use Rattle.mari_remain.proofs.Standing.{kept-small, same-taken}
+use Rattle.mari_remain.proofs.Standing.{kept-mws, kept-small, same-taken}
 use Rattle.mari_remain.proofs.Validity.{valid, valid-made}
 use Rattle.mari_remain.proofs.remaining.Remaining.market_of.Goals as goal
 
 pub run_market-requires-clause-small : goal.run_market-requires-clause-small
 run_market-requires-clause-small c = kept-small c.args.books.now c.requires.accepted c.requires.stands.0 c.args.self.now c.requires.stands.1
+
+pub run_market-requires-clause-mws : goal.run_market-requires-clause-mws
+run_market-requires-clause-mws c = kept-mws c.args.books.now c.requires.accepted c.requires.stands.0 c.args.self.now c.requires.stands.1
 
 pub returns-clause-market : goal.returns-clause-market
 returns-clause-market c = λ blocks stands next.

@@ -1,5 +1,5 @@
 -- One level of prices more, and the last.
-use Rattle.std.proofs.Common.{◌≡◌, ◌≢◌, ◌∙◌, Bool, true, false, ℕ, ◌+◌, ◌<◌, ℤ, pos, neg_ℤ, ◌≤ℤ◌, ◌<ℤ◌, List, [], ◌∷◌, length, set, arith, inl, inr, ap, sym, subst}
+use Rattle.std.proofs.Common.{◌≡◌, ◌≢◌, ◌∙◌, Bool, true, false, ℕ, ◌+◌, ◌<◌, ℤ, pos, neg_ℤ, ◌≤ℤ◌, ◌<ℤ◌, List, [], ◌∷◌, length, get_or, set, arith, inl, inr, ap, sym, subst}
 use Rattle.std.proofs.lemmas.List.{get_or-set_same, get_or-set_other}
 use Rattle.std.proofs.lemmas.Bool.{cases_lt, cases_eq}
 use Rattle.std.proofs.lemmas.Int.{ints}
@@ -12,7 +12,7 @@ use Rattle.mari_market.specs.Sums.{int_at}
 use Rattle.mari_network.specs.Slots.{zone_of, price_of}
 use Rattle.mari_network.specs.Chain.{tail_of, head_of, room_of, hop_at}
 use Rattle.mari_network.specs.Spread.{is_marked, AreClosed, Keeps, IsSpread}
-use Rattle.mari_network.specs.Margins.{IsDearest, NoneLess, IsCheaper, NoneCheaper}
+use Rattle.mari_network.specs.Margins.{IsDearest, NoneLess, NoneCheaper}
 use Rattle.mari_network.specs.Levels.{OrderedOver, AreLevels, AreTight}
 use Rattle.mari_market.specs.Consistent.{IsConsistentFlow}
 use Rattle.mari_network.proofs.Marks.{is_false, not_both, marked_or}
@@ -27,25 +27,25 @@ pub record IsLast (old : List Bool) (p q : ℕ → ℤ) (v : ℤ) : Type 0 where
   pub keep : (z : ℕ) → is_marked old z ≡ true → q z ≡ p z
   pub level : (z : ℕ) → is_marked old z ≡ false → z < length old → q z ≡ v
 
--- the zones of the first n hops have the price, and others keep theirs
-pub record ArePriced (hops : List Hop) (old : List ℤ) (v : ℤ) (n : ℕ) (new : List ℤ) : Type 0 where
-  pub here : (k : ℕ) → k < n → int_at new (hop_at hops k).zone ≡ v
-  pub others : (z : ℕ) → ((k : ℕ) → k < n → (hop_at hops k).zone ≡ z → ⊥) → int_at new z ≡ int_at old z
+-- the zones of the first n hops have the value, and others keep theirs
+pub record AreGiven {X : Type 0} (d : X) (hops : List Hop) (old : List X) (v : X) (n : ℕ) (new : List X) : Type 0 where
+  pub here : (k : ℕ) → k < n → get_or new (hop_at hops k).zone d ≡ v
+  pub others : (z : ℕ) → ((k : ℕ) → k < n → (hop_at hops k).zone ≡ z → ⊥) → get_or new z d ≡ get_or old z d
 
 -- one zone more
-pub priced_more : (hops : List Hop) (old new : List ℤ) (v : ℤ) (n : ℕ) → (hop_at hops n).zone < length new
-    → ArePriced hops old v n new → ArePriced hops old v (n + 1) (set new (hop_at hops n).zone v)
-priced_more hops old new v n there a = record {
+pub given_more : {X : Type 0} (d : X) (hops : List Hop) (old new : List X) (v : X) (n : ℕ) → (hop_at hops n).zone < length new
+    → AreGiven d hops old v n new → AreGiven d hops old v (n + 1) (set new (hop_at hops n).zone v)
+given_more {X = X} d hops old new v n there a = record {
   here = λ k l. elim (cases_eq (hop_at hops k).zone (hop_at hops n).zone) [
-    | inl same ↦ subst (λ (z : ℕ). int_at (set new (hop_at hops n).zone v) z ≡ v) (sym same) (get_or-set_same new (hop_at hops n).zone v (pos 0) there)
+    | inl same ↦ subst (λ (z : ℕ). get_or (set new (hop_at hops n).zone v) z d ≡ v) (sym same) (get_or-set_same new (hop_at hops n).zone v d there)
     | inr apart ↦ elim (cases_lt k n) [
-      | inl b ↦ get_or-set_other new (hop_at hops n).zone (hop_at hops k).zone v (pos 0) apart ∙ a.here k b
+      | inl b ↦ get_or-set_other new (hop_at hops n).zone (hop_at hops k).zone v d apart ∙ a.here k b
       | inr b ↦ let is : k ≡ n = omega arith in absurd (apart (ap (λ (j : ℕ). (hop_at hops j).zone) is))
     ]
   ];
   others = λ z none.
       let apart : z ≢ (hop_at hops n).zone = λ e. none n (omega arith) (sym e) in
-      get_or-set_other new (hop_at hops n).zone z v (pos 0) apart ∙ a.others z (λ k l e. none k (omega arith) e);
+      get_or-set_other new (hop_at hops n).zone z v d apart ∙ a.others z (λ k l e. none k (omega arith) e);
 }
 
 -- the prices of the zones that a stage marked
@@ -109,16 +109,6 @@ levels_more slots bs xs fs old marked p q i a d low l keeps closed none = record
         | inr h ↦ omega (arith, ints, l.level z h m, d.top k can was)
       ];
 }
-
--- a cheaper slot is of a zone that this stage marked
-pub cheaper_is_new : (slots : List Slot) (bs : List Border) (xs fs : List ℤ) (old marked : List Bool) (p : ℕ → ℤ) (hops : List Hop) (start i j : ℕ)
-    → AreLevels slots bs xs fs old p → IsDearest slots xs old i → IsSpread bs fs old start marked hops
-    → IsCheaper slots xs marked (price_of slots i) j
-    → (k : ℕ) × (k < length hops) × ((hop_at hops k).zone ≡ zone_of slots j)
-cheaper_is_new slots bs xs fs old marked p hops start i j a d s cheap = elim (s.news (zone_of slots j) cheap.reached) [
-  | inl h ↦ absurd (omega (arith, ints, a.sources j cheap.more h, a.later (zone_of slots j) i h d.less d.unmarked, cheap.below))
-  | inr k ↦ k
-]
 
 tight_over : (bs : List Border) (fs : List ℤ) (old : List Bool) (p q : ℕ → ℤ) (floor : ℤ) → IsLast old p q floor
     → ((z : ℕ) → z < length old → floor ≤ℤ q z) → AllZip (λ b f. (b.from < length old) × (b.to < length old)) bs fs

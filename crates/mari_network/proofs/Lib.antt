@@ -8,6 +8,7 @@ pub mod Marks
 pub mod Meetings
 pub mod Outcomes
 pub mod Readings
+pub mod Resumed
 pub mod Rungs
 pub mod Settles
 pub mod Shortfalls

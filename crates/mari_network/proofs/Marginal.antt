@@ -1,5 +1,5 @@
 -- The marginal slots with one slot more, and what they say of all slots.
-use Rattle.std.proofs.Common.{◌≡◌, ℕ, ◌<◌, ℤ, ◌≤ℤ◌, List, length, get_or, arith, refl, sym, ap, subst, ◌∙◌, inl, inr, Bool, true, false, Option, Some, None, ◌⊎◌, ◌<ℤ◌}
+use Rattle.std.proofs.Common.{◌≡◌, ℕ, ◌<◌, ℤ, ◌≤ℤ◌, List, length, get_or, arith, refl, sym, ap, subst, ◌∙◌, inl, inr, Bool, false, Option, Some, None, ◌⊎◌, ◌<ℤ◌}
 use Rattle.std.specs.Prelude.{IfSome}
 use Rattle.std.proofs.lemmas.Int.{ints}
 use Rattle.std.proofs.lemmas.Bool.{cases_eq}
@@ -8,7 +8,7 @@ use Rattle.mari_network.specs.declared.margins.Margin.{Margin}
 use Rattle.mari_market.specs.Sums.{int_at}
 use Rattle.mari_network.specs.Slots.{slot_at, zone_of, price_of, CanLess, CanMore}
 use Rattle.mari_network.specs.Spread.{is_marked}
-use Rattle.mari_network.specs.Margins.{no_margin, dearest_at, cheapest_at, IsAbove, IsBelow, IsDearestIn, IsCheapestIn, IsDearestTo, IsCheapestFrom, IsDearestBut, IsCheapestBut, IsMarginOf, IsMoved, AreMargins, IsDearest, NoneLess, IsCheaper, NoneCheaper, IsDearestOf}
+use Rattle.mari_network.specs.Margins.{no_margin, dearest_at, IsAbove, IsBelow, IsDearestIn, IsCheapestIn, IsDearestTo, IsCheapestFrom, IsDearestBut, IsCheapestBut, IsMarginOf, IsMoved, AreMargins, IsDearest, NoneLess, IsDearestOf}
 
 abbrev some_or : Option ℕ → ℕ
 some_or None = 0
@@ -179,7 +179,7 @@ above_some : (slots : List Slot) (v : ℤ) (best : Option ℕ) → IsAbove slots
 above_some slots v None a = absurd a
 above_some slots v (Some j) a = (j, refl, a)
 
-below_some : (slots : List Slot) (v : ℤ) (best : Option ℕ) → IsBelow slots v best → (j : ℕ) × (best ≡ Some j) × (price_of slots j ≤ℤ v)
+pub below_some : (slots : List Slot) (v : ℤ) (best : Option ℕ) → IsBelow slots v best → (j : ℕ) × (best ≡ Some j) × (price_of slots j ≤ℤ v)
 below_some slots v None a = absurd a
 below_some slots v (Some j) a = (j, refl, a)
 
@@ -204,21 +204,6 @@ pub dearest_none : (slots : List Slot) (xs : List ℤ) (zones : ℕ) (margins : 
 dearest_none slots xs zones margins marked zoned a d = λ k can free.
     let j = above_some slots (price_of slots k) (dearest_at margins (zone_of slots k)) ((a.dearest (zone_of slots k) (zoned k can.0)).all k can.0 can refl) in
     d.all (zone_of slots k) j.0 (zoned k can.0) free j.1
-
-pub cheaper_is : (slots : List Slot) (xs : List ℤ) (zones : ℕ) (margins : List Margin) (marked : List Bool) (limit : ℤ) (i z : ℕ)
-    → AreMargins slots xs zones (length slots) margins → price_of slots i <ℤ limit → z < zones
-    → is_marked marked z ≡ true → cheapest_at margins z ≡ Some i → IsCheaper slots xs marked limit i
-cheaper_is slots xs zones margins marked limit i z a below l m e =
-    let one = (a.cheapest z l).one i e in
-    record { more = one.0; reached = subst (λ (z : ℕ). is_marked marked z ≡ true) (sym one.1) m; below = below }
-
-pub none_cheaper : (slots : List Slot) (xs : List ℤ) (zones : ℕ) (margins : List Margin) (marked : List Bool) (limit : ℤ)
-    → ((k : ℕ) → k < length slots → zone_of slots k < zones) → AreMargins slots xs zones (length slots) margins
-    → ((z i : ℕ) → z < zones → is_marked marked z ≡ true → cheapest_at margins z ≡ Some i → limit ≤ℤ price_of slots i)
-    → NoneCheaper slots xs marked limit
-none_cheaper slots xs zones margins marked limit zoned a none = λ k can m.
-    let j = below_some slots (price_of slots k) (cheapest_at margins (zone_of slots k)) ((a.cheapest (zone_of slots k) (zoned k can.0)).all k can.0 can refl) in
-    omega (arith, ints, j.2, none (zone_of slots k) j.0 (zoned k can.0) m j.1)
 
 pub some_within : (best : Option ℕ) (n : ℕ) → ((i : ℕ) → best ≡ Some i → i < n) → IfSome best (λ i. i < n)
 some_within None n h = tt

@@ -1,5 +1,5 @@
 -- Marks, and one more of them.
-use Rattle.std.proofs.Common.{◌≡◌, ◌⊎◌, Bool, true, false, not, ℕ, zero, suc, ◌+◌, ◌<◌, List, [], ◌∷◌, length, set, arith, refl, ap, inl, inr, cond, sym, subst}
+use Rattle.std.proofs.Common.{◌≡◌, ◌⊎◌, Bool, true, false, not, ℕ, zero, suc, ◌+◌, ◌<◌, ◌≤◌, List, [], ◌∷◌, length, set, arith, refl, ap, inl, inr, cond, sym, subst}
 use Rattle.std.specs.Prelude.{count_by}
 use Rattle.std.proofs.lemmas.List.Sums.{sum_by-set, sum_by-cons}
 use Rattle.mari_network.specs.Spread.{is_marked}
@@ -49,6 +49,17 @@ pub none_count : (marked : List Bool) → ((z : ℕ) → is_marked marked z ≡ 
 none_count [] n = refl
 none_count (true ∷ bs) n = absurd (not_both true refl (n 0))
 none_count (false ∷ bs) n = omega (arith, sum_by-cons (λ (x : Bool). cond (not x) 1 0) false bs, none_count bs (λ z. n (suc z)))
+
+most_unmarked : (marked : List Bool) → count_by not marked ≤ length marked
+most_unmarked [] = omega arith
+most_unmarked (true ∷ bs) = omega (arith, sum_by-cons (λ (x : Bool). cond (not x) 1 0) true bs, most_unmarked bs)
+most_unmarked (false ∷ bs) = omega (arith, sum_by-cons (λ (x : Bool). cond (not x) 1 0) false bs, most_unmarked bs)
+
+pub none_marked : (marked : List Bool) (z : ℕ) → count_by not marked ≡ length marked → is_marked marked z ≡ false
+none_marked [] z e = refl
+none_marked (true ∷ bs) z e = absurd (omega (arith, sum_by-cons (λ (x : Bool). cond (not x) 1 0) true bs, most_unmarked bs, e))
+none_marked (false ∷ bs) zero e = refl
+none_marked (false ∷ bs) (suc z) e = none_marked bs z (omega (arith, sum_by-cons (λ (x : Bool). cond (not x) 1 0) false bs, e))
 
 pub all_marked : (marked : List Bool) (z : ℕ) → count_by not marked ≡ 0 → z < length marked → is_marked marked z ≡ true
 all_marked [] z e h = absurd (omega arith)

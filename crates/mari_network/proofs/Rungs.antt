@@ -1,12 +1,13 @@
 -- Ladders: the rungs of a zone's slots, and what the first or the last that may go on say of all.
-use Rattle.std.proofs.Common.{◌≡◌, ℕ, zero, suc, ◌+◌, ◌-◌, ◌<◌, ◌≤◌, ℤ, ◌≤ℤ◌, ◌<ℤ◌, List, [], ◌∷◌, ◌++◌, length, get_or, arith, refl, sym, ap, subst, ◌∙◌, inl, inr, true, false, not, Option, Some, ◌⊎◌}
+use Rattle.std.proofs.Common.{◌≡◌, ℕ, zero, suc, ◌+◌, ◌-◌, ◌<◌, ◌≤◌, ℤ, pos, ◌+ℤ◌, ◌≤ℤ◌, ◌<ℤ◌, List, [], ◌∷◌, ◌++◌, length, set, get_or, get_or-set_other, arith, refl, sym, ap, subst, ◌∙◌, inl, inr, true, false, not, Option, Some, ◌⊎◌}
 use Rattle.std.proofs.lemmas.Int.{ints}
 use Rattle.std.proofs.lemmas.Bool.{cases_eq, cases_lt}
-use Rattle.std.proofs.lemmas.List.{get_or_default}
+use Rattle.std.proofs.lemmas.List.{get_or_default, get_or-set_same, length-append, length-set}
+use Rattle.std.proofs.lemmas.List.Edits.{swap_is}
 use Rattle.std.proofs.lemmas.List.Elements.{All-push, Contains-append_left, Contains-push}
-use Rattle.std.proofs.lemmas.List.Sorted.{All-permutation, Contains-permutation}
+use Rattle.std.proofs.lemmas.List.Sorted.{All-permutation, Contains-permutation, length_permutation, IsPermutation-keeps}
 use lib.Signed.{lt_z}
-use Rattle.std.specs.List.{All, Contains}
+use Rattle.std.specs.List.{swap, All, Contains}
 use Rattle.std.specs.List.Sorted.{IsPermutation, IsPartitionedBy, IsSortedByKey}
 use Rattle.std.specs.Ordering.{int_cmp, is_lt}
 use Rattle.mari_network.specs.declared.slots.Slot.{Slot}
@@ -14,14 +15,57 @@ use Rattle.mari_network.specs.declared.slots.TheConstants.{BEYOND}
 use Rattle.mari_network.specs.declared.network.Places.{Places}
 use Rattle.mari_network.specs.declared.network.Rung.{Rung}
 use Rattle.mari_market.specs.declared.market.Border.{Border}
-use Rattle.mari_network.specs.Slots.{slot_at, zone_of, price_of, no_slot, CanLess, CanMore, IsSmallSlot}
-use Rattle.mari_network.specs.Network.{rung_at, rung_of, no_rung, ArePlaces, AreRungs, IsLadder, IsRising}
+use Rattle.mari_market.specs.Sums.{int_sum}
+use Rattle.mari_network.specs.Slots.{at_zone, slot_at, zone_of, price_of, no_slot, CanLess, CanMore, IsSmallSlot}
+use Rattle.mari_network.specs.Network.{rung_at, rung_of, sum_of_zone, no_rung, ArePlaces, AreRungs, IsLadder, IsRising}
 use Rattle.mari_network.specs.Margins.{IsAbove, IsBelow, IsDearestIn, IsCheapestIn, IsDearestRung, IsCheapestRung, IsDearestTo, IsCheapestFrom}
 use Rattle.mari_network.proofs.Marginal.{some_same}
+
+pub sum_push : {X : Type 0} (f : X → ℤ) (xs : List X) (x : X) → int_sum f (xs ++ x ∷ []) ≡ int_sum f xs +ℤ f x
+sum_push f [] x = omega (arith, ints)
+sum_push f (y ∷ ys) x = omega (arith, ints, sum_push f ys x)
+
+sum_set : {X : Type 0} (f : X → ℤ) (xs : List X) (i : ℕ) (x d : X) → i < length xs → int_sum f (set xs i x) +ℤ f (get_or xs i d) ≡ int_sum f xs +ℤ f x
+sum_set f [] i x d l = absurd (omega arith)
+sum_set f (y ∷ ys) zero x d l = omega (arith, ints)
+sum_set f (y ∷ ys) (suc i) x d l = omega (arith, ints, sum_set f ys i x d (omega arith))
+
+read_set : {X : Type 0} (xs : List X) (i j : ℕ) (d : X) → i < length xs → get_or (set xs i (get_or xs j d)) j d ≡ get_or xs j d
+read_set xs i j d l = elim (cases_eq j i) [
+  | inl same ↦ ap (λ (k : ℕ). get_or (set xs i (get_or xs j d)) k d) same ∙ get_or-set_same xs i (get_or xs j d) d l
+  | inr other ↦ get_or-set_other xs i j (get_or xs j d) d other
+]
+
+sum_swap : {X : Type 0} (f : X → ℤ) (xs : List X) (i j : ℕ) → i < length xs → j < length xs → int_sum f (swap xs i j) ≡ int_sum f xs
+sum_swap f [] i j l m = absurd (omega arith)
+sum_swap f (d ∷ ys) i j l m =
+    let xs = d ∷ ys in
+    let first = sum_set f xs i (get_or xs j d) d l in
+    let second = sum_set f (set xs i (get_or xs j d)) j (get_or xs i d) d (omega (arith, m, length-set xs i (get_or xs j d))) in
+    omega (arith, ints, first, second, ap f (read_set xs i j d l), ap (int_sum f) (swap_is xs i j d l m))
+
+-- a sum is the same in another order
+sum_moved : {X : Type 0} (f : X → ℤ) (xs ys : List X) → IsPermutation xs ys → int_sum f ys ≡ int_sum f xs
+sum_moved f xs ys same = IsPermutation-keeps xs (λ l. int_sum f l ≡ int_sum f xs) refl (λ l i j a b e. sum_swap f l i j a b ∙ e) ys same
+
+zone_here : (z y : ℕ) (x : ℤ) → y ≡ z → at_zone z y x ≡ x
+zone_here z y x e = grind (arith)
+
+zone_elsewhere : (z y : ℕ) (x : ℤ) → (y ≡ z → ⊥) → at_zone z y x ≡ pos 0
+zone_elsewhere z y x n = grind (arith)
+
+one_more : (f : ℕ → ℤ) (slots : List Slot) (z n : ℕ) → sum_of_zone f slots z (n + 1) ≡ sum_of_zone f slots z n +ℤ at_zone z (zone_of slots n) (f n)
+one_more f slots z n = let e : n + 1 ≡ suc n = omega arith in ap (sum_of_zone f slots z) e
+
+sum_stays : (f : ℕ → ℤ) (before after : List Slot) (z n : ℕ) → ((k : ℕ) → k < n → zone_of after k ≡ zone_of before k) → sum_of_zone f before z n ≡ sum_of_zone f after z n
+sum_stays f before after z zero same = refl
+sum_stays f before after z (suc n) same =
+    omega (arith, ints, sum_stays f before after z n (λ k l. same k (omega (arith, l))), ap (λ (y : ℕ). at_zone z y (f n)) (same n (omega arith)))
 
 -- one slot more among a zone's, or among another's
 pub rungs_take : (slots : List Slot) (n z : ℕ) (rungs : List Rung) → zone_of slots n ≡ z → AreRungs slots n z rungs → AreRungs slots (n + 1) z (rungs ++ rung_of slots n ∷ [])
 rungs_take slots n z rungs e a = record {
+  few = omega (arith, a.few, length-append rungs (rung_of slots n ∷ []));
   there = All-push (λ (r : Rung). r.place < n + 1) rungs (rung_of slots n) (λ k d l. omega (arith, a.there k d l)) (omega arith);
   zone = All-push (λ (r : Rung). zone_of slots r.place ≡ z) rungs (rung_of slots n) a.zone e;
   price = All-push (λ (r : Rung). r.price ≡ price_of slots r.place) rungs (rung_of slots n) a.price refl;
@@ -29,10 +73,12 @@ rungs_take slots n z rungs e a = record {
     | inl b ↦ Contains-append_left rungs (rung_of slots n ∷ []) (rung_of slots k) (a.all k b h)
     | inr b ↦ let same : n ≡ k = omega arith in subst (λ (j : ℕ). Contains (rungs ++ rung_of slots n ∷ []) (rung_of slots j)) same (Contains-push rungs (rung_of slots n))
   ];
+  once = λ f. omega (arith, ints, sum_push (λ (r : Rung). f r.place) rungs (rung_of slots n), a.once f, one_more f slots z n, zone_here z (zone_of slots n) (f n) e);
 }
 
 pub rungs_skip : (slots : List Slot) (n z : ℕ) (rungs : List Rung) → (zone_of slots n ≡ z → ⊥) → AreRungs slots n z rungs → AreRungs slots (n + 1) z rungs
 rungs_skip slots n z rungs other a = record {
+  few = omega (arith, a.few);
   there = λ k d l. omega (arith, a.there k d l);
   zone = a.zone;
   price = a.price;
@@ -40,15 +86,18 @@ rungs_skip slots n z rungs other a = record {
     | inl b ↦ a.all k b h
     | inr b ↦ let same : n ≡ k = omega arith in absurd (other (ap (zone_of slots) same ∙ h))
   ];
+  once = λ f. omega (arith, ints, a.once f, one_more f slots z n, zone_elsewhere z (zone_of slots n) (f n) other);
 }
 
 -- in another order
 pub rungs_moved : (slots : List Slot) (n z : ℕ) (before after : List Rung) → IsPermutation before after → AreRungs slots n z before → AreRungs slots n z after
 rungs_moved slots n z before after same a = record {
+  few = omega (arith, a.few, length_permutation before after same);
   there = All-permutation (λ (r : Rung). r.place < n) before after same a.there;
   zone = All-permutation (λ (r : Rung). zone_of slots r.place ≡ z) before after same a.zone;
   price = All-permutation (λ (r : Rung). r.price ≡ price_of slots r.place) before after same a.price;
   all = λ k l h. Contains-permutation before after (rung_of slots k) same (a.all k l h);
+  once = λ f. sum_moved (λ (r : Rung). f r.place) before after same ∙ a.once f;
 }
 
 -- no slot on the ladders changes its zone or its price
@@ -56,10 +105,12 @@ pub ladder_stays : (before after : List Slot) (n z : ℕ) (ladder : List Rung) �
     → IsLadder before n z ladder → IsLadder after n z ladder
 ladder_stays before after n z ladder zones prices a = record {
   rungs = record {
+    few = a.rungs.few;
     there = a.rungs.there;
     zone = λ k d l. zones (get_or ladder k d).place (a.rungs.there k d l) ∙ a.rungs.zone k d l;
     price = λ k d l. a.rungs.price k d l ∙ sym (prices (get_or ladder k d).place (a.rungs.there k d l));
     all = λ k l h. subst (λ (p : ℤ). Contains ladder (record { price = p; place = k })) (sym (prices k l)) (a.rungs.all k l (sym (zones k l) ∙ h));
+    once = λ f. a.rungs.once f ∙ sum_stays f before after z n zones;
   };
   rising = a.rising;
 }
@@ -85,7 +136,7 @@ rising rs up i j d le l =
     let at : i + (j - i) ≡ j = omega arith in
     omega (arith, ints, ap (λ k. (get_or rs k d).price) at, far rs up i (j - i) d (omega arith))
 
-not_true : (a b : ℤ) → not (lt_z a b) ≡ true → b ≤ℤ a
+pub not_true : (a b : ℤ) → not (lt_z a b) ≡ true → b ≤ℤ a
 not_true a b h = grind (arith, ints)
 
 is_not : (a b : ℤ) → b ≤ℤ a → not (lt_z a b) ≡ true

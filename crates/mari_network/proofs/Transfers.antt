@@ -1,9 +1,10 @@
 -- What is tight for the slots is tight for the orders.
-use Rattle.std.proofs.Common.{◌≡◌, ◌==◌, if◌then◌else◌, ℕ, ◌<◌, ℤ, pos, neg_ℤ, ◌*ℤ◌, ◌≤ℤ◌, ◌<ℤ◌, List, [], ◌∷◌, length, arith, refl, sym, ap, ◌∙◌, subst, take, get_or, ◌++◌, ◌+◌, zero, suc, map}
+use Rattle.std.proofs.Common.{◌≡◌, ◌==◌, if◌then◌else◌, ℕ, ◌<◌, ◌≤◌, ℤ, pos, negsuc, neg_ℤ, unsigned_abs, ◌*ℤ◌, ◌≤ℤ◌, ◌<ℤ◌, List, [], ◌∷◌, length, arith, refl, sym, ap, ◌∙◌, subst, get_or, zero, suc, map}
 use Rattle.std.proofs.lemmas.Int.{ints, clamps}
 use Rattle.std.specs.List.{All, AllZip}
 use Rattle.std.proofs.lemmas.List.Elements.{All-head, All-tail}
 use Rattle.mari_units.specs.declared.Cents.{Cents}
+use Rattle.mari_units.specs.declared.limits.TheConstants.{MOST_MW}
 use Rattle.mari_market.specs.declared.market.Side.{Side}
 use Rattle.mari_market.specs.declared.market.Side.TheVariants.{Inject, Withdraw}
 use Rattle.mari_market.specs.declared.market.Order.{Order}
@@ -24,7 +25,7 @@ use Rattle.mari_market.proofs.Duality.{weak_duality}
 use Rattle.mari_market.proofs.Ints.{mul-neg_z}
 use Rattle.mari_market.proofs.Tight.{tight_is_equal}
 use Rattle.mari_network.specs.Slots.{slot_into, IsWithinSlot, IsTightSlot}
-use Rattle.mari_network.specs.Orders.{amount_gain, slots_of, ArePuts, capped, capped_cents}
+use Rattle.mari_network.specs.Orders.{amount_gain, slots_of, ArePuts, CanPut, capped, capped_cents}
 
 trade_within : (side : Side) (s : Span) (q : ℕ) → least_put side s ≤ℤ put_in side q → put_in side q ≤ℤ most_put side s → IsWithin s q
 trade_within Inject s q l h = record { least = omega (arith, ints, l, h); most = omega (arith, ints, l, h) }
@@ -106,17 +107,33 @@ best_from bounds m a ps p xs v puts prices within limits balance slots flows =
       tight = all_tight;
     }
 
-pub puts_more : (os : List Order) (xs : List ℤ) (qs : List ℕ) (i : ℕ) (d : Order) (q : ℕ) → i < length os
-    → i < length xs → ArePuts (take i os) (take i xs) qs → get_or xs i (pos 0) ≡ put_in (get_or os i d).side q
-    → ArePuts (take (i + 1) os) (take (i + 1) xs) (qs ++ q ∷ [])
-puts_more [] xs qs i d q h l a e = absurd (omega arith)
-puts_more (o ∷ os) [] qs i d q h l a e = absurd (omega arith)
-puts_more (o ∷ os) (x ∷ xs) [] zero d q h l a e = (e, tt)
-puts_more (o ∷ os) (x ∷ xs) (p ∷ qs) zero d q h l a e = absurd a
-puts_more (o ∷ os) (x ∷ xs) [] (suc i) d q h l a e = absurd a
-puts_more (o ∷ os) (x ∷ xs) (p ∷ qs) (suc i) d q h l a e =
-    let k : suc (i + 1) ≡ suc i + 1 = omega arith in
-    subst (λ (n : ℕ). ArePuts (take n (o ∷ os)) (take n (x ∷ xs)) (p ∷ (qs ++ q ∷ []))) k (a.0, puts_more os xs qs i d q (omega arith) (omega arith) a.1 e)
+-- an amount is what its size puts in
+size_put : (side : Side) (x : ℤ) → CanPut side x → x ≡ put_in side (unsigned_abs x)
+size_put Inject (pos n) can = refl
+size_put Inject (negsuc n) can = absurd (omega (arith, ints, can.0))
+size_put Withdraw (pos zero) can = refl
+size_put Withdraw (pos (suc n)) can = absurd (omega (arith, ints, can.1))
+size_put Withdraw (negsuc n) can = refl
+
+pub sizes_put : (os : List Order) (xs : List ℤ) → AllZip (λ o x. CanPut o.side x) os xs → ArePuts os xs (map unsigned_abs xs)
+sizes_put [] [] a = tt
+sizes_put (o ∷ os) (x ∷ xs) a = (size_put o.side x a.0, sizes_put os xs a.1)
+sizes_put [] (x ∷ xs) a = absurd a
+sizes_put (o ∷ os) [] a = absurd a
+
+size_small : (side : Side) (x : ℤ) → CanPut side x → unsigned_abs x ≤ MOST_MW
+size_small Inject (pos n) can = omega (arith, ints, can.1)
+size_small Inject (negsuc n) can = absurd (omega (arith, ints, can.0))
+size_small Withdraw (pos zero) can = omega arith
+size_small Withdraw (pos (suc n)) can = absurd (omega (arith, ints, can.1))
+size_small Withdraw (negsuc n) can = omega (arith, ints, can.0)
+
+pub sizes_small : (os : List Order) (xs : List ℤ) → AllZip (λ o x. CanPut o.side x) os xs → (k : ℕ) (d : ℤ) → k < length xs → unsigned_abs (get_or xs k d) ≤ MOST_MW
+sizes_small [] [] a k d l = absurd (omega arith)
+sizes_small (o ∷ os) (x ∷ xs) a zero d l = size_small o.side x a.0
+sizes_small (o ∷ os) (x ∷ xs) a (suc k) d l = sizes_small os xs a.1 k d (omega arith)
+sizes_small [] (x ∷ xs) a k d l = absurd a
+sizes_small (o ∷ os) [] a k d l = absurd a
 
 -- the amounts are worth what the quantities are
 trade_gain : (side : Side) (c x : ℤ) (q : ℕ) → x ≡ put_in side q → neg_ℤ (c *ℤ x) ≡ gain side c q

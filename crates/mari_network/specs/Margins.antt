@@ -2,10 +2,13 @@
 use Rattle.std.specs.Prelude.{◌≡◌, ◌≢◌, ◌⊎◌, Bool, true, false, ℕ, ◌<◌, ◌≤◌, ℤ, ◌≤ℤ◌, ◌<ℤ◌, List, length, slice_index_or, Option, Some, None, MatchOption}
 use Rattle.mari_market.specs.Sums.{int_at}
 use Rattle.mari_network.specs.declared.slots.Slot.{Slot}
+use Rattle.mari_network.specs.declared.chain.Hop.{Hop}
 use Rattle.mari_network.specs.declared.margins.Margin.{Margin}
+use Rattle.mari_network.specs.declared.margins.Source.{Source}
 use Rattle.mari_network.specs.Slots.{slot_at, zone_of, price_of, CanLess, CanMore}
 use Rattle.mari_network.specs.declared.network.Rung.{Rung}
 use Rattle.mari_network.specs.Network.{rung_at}
+use Rattle.mari_network.specs.Chain.{hop_at}
 use Rattle.mari_network.specs.Spread.{is_marked}
 
 -- the margin of a zone in which no slot may put in less or more
@@ -54,12 +57,6 @@ pub record IsDearest (slots : List Slot) (xs : List ℤ) (marked : List Bool) (i
 abbrev pub NoneLess : List Slot → List ℤ → List Bool → Type 0
 NoneLess slots xs marked = (k : ℕ) → CanLess slots xs k → is_marked marked (zone_of slots k) ≡ false → ⊥
 
--- a slot of a marked zone may put in more, and is cheaper than this
-pub record IsCheaper (slots : List Slot) (xs : List ℤ) (marked : List Bool) (limit : ℤ) (i : ℕ) : Type 0 where
-  pub more : CanMore slots xs i
-  pub reached : is_marked marked (zone_of slots i) ≡ true
-  pub below : price_of slots i <ℤ limit
-
 -- no slot of a marked zone that may put in more is cheaper than this
 abbrev pub NoneCheaper : List Slot → List ℤ → List Bool → ℤ → Type 0
 NoneCheaper slots xs marked limit = (k : ℕ) → CanMore slots xs k → is_marked marked (zone_of slots k) ≡ true → limit ≤ℤ price_of slots k
@@ -68,6 +65,12 @@ NoneCheaper slots xs marked limit = (k : ℕ) → CanMore slots xs k → is_mark
 pub record IsDearestOf (slots : List Slot) (margins : List Margin) (marked : List Bool) (n : ℕ) (best : Option ℕ) : Type 0 where
   pub one : (i : ℕ) → best ≡ Some i → (z : ℕ) × (z < n) × (is_marked marked z ≡ false) × (dearest_at margins z ≡ Some i)
   pub all : (z i : ℕ) → z < n → is_marked marked z ≡ false → dearest_at margins z ≡ Some i → IsAbove slots (price_of slots i) best
+
+-- the cheapest slot of a hop's zone that may put in more, cheaper than this
+pub record IsSource (slots : List Slot) (margins : List Margin) (hops : List Hop) (limit : ℤ) (s : Source) : Type 0 where
+  pub there : s.at < length hops
+  pub cheapest : cheapest_at margins (hop_at hops s.at).zone ≡ Some s.slot
+  pub below : price_of slots s.slot <ℤ limit
 
 -- the dearest of the slots on these rungs of a ladder that may put in less, if there is one
 pub record IsDearestRung (slots : List Slot) (xs : List ℤ) (ladder : List Rung) (start end : ℕ) (best : Option ℕ) : Type 0 where

@@ -1,14 +1,15 @@
 -- Networks: slots and borders between zones, and for each zone its slots by price and the ways into it.
-use Rattle.std.specs.Prelude.{◌≡◌, Bool, true, false, ℕ, ◌+◌, ◌<◌, ◌≤◌, ℤ, pos, ◌≤ℤ◌, List, length, slice_index_or}
+use Rattle.std.specs.Prelude.{◌≡◌, Bool, true, false, ℕ, zero, suc, ◌+◌, ◌<◌, ◌≤◌, ℤ, pos, ◌+ℤ◌, ◌≤ℤ◌, List, length, slice_index_or}
 use Rattle.std.specs.List.{All, Contains}
 use Rattle.mari_market.specs.declared.market.Border.{Border}
 use Rattle.mari_market.specs.Market.{IsBetween}
+use Rattle.mari_market.specs.Sums.{int_sum}
 use Rattle.mari_network.specs.declared.slots.Slot.{Slot}
 use Rattle.mari_network.specs.declared.network.Network.{Network}
 use Rattle.mari_network.specs.declared.network.Places.{Places}
 use Rattle.mari_network.specs.declared.network.Rung.{Rung}
 use Rattle.mari_network.specs.declared.network.Way.{Way}
-use Rattle.mari_network.specs.Slots.{price_of, zone_of, IsSmallSlot, IsRunning}
+use Rattle.mari_network.specs.Slots.{at_zone, price_of, zone_of, IsSmallSlot, IsRunning}
 
 -- what is read past the end of a list of borders: limits of 0 MW
 abbrev pub no_border : Border
@@ -55,12 +56,19 @@ rung_at rungs j = slice_index_or rungs j no_rung
 abbrev pub rung_of : List Slot → ℕ → Rung
 rung_of slots k = record { price = price_of slots k; place = k }
 
--- the rungs of those of the first n slots that are of the zone
+-- the sum of f over those of the first n places whose slots are of the zone
+abbrev pub sum_of_zone : (ℕ → ℤ) → List Slot → ℕ → ℕ → ℤ
+sum_of_zone f slots z zero = pos 0
+sum_of_zone f slots z (suc n) = sum_of_zone f slots z n +ℤ at_zone z (zone_of slots n) (f n)
+
+-- the rungs of those of the first n slots that are of the zone, each once: a sum over them is one over those slots
 pub record AreRungs (slots : List Slot) (n z : ℕ) (rungs : List Rung) : Type 0 where
+  pub few : length rungs ≤ n
   pub there : All (λ r. r.place < n) rungs
   pub zone : All (λ r. zone_of slots r.place ≡ z) rungs
   pub price : All (λ r. r.price ≡ price_of slots r.place) rungs
   pub all : (k : ℕ) → k < n → zone_of slots k ≡ z → Contains rungs (rung_of slots k)
+  pub once : (f : ℕ → ℤ) → int_sum (λ (r : Rung). f r.place) rungs ≡ sum_of_zone f slots z n
 
 -- no rung is dearer than a later one
 abbrev pub IsRising : List Rung → Type 0

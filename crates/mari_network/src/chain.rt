@@ -7,6 +7,7 @@ ghost use Rattle.mari_market.specs.Activation.{IsWithinLimits, carried_out};
 ghost use Rattle.mari_network.specs.Slots.{slot_at, at_zone, slot_gain, IsSmallSlot};
 ghost use Rattle.mari_network.specs.Network.{border_at, IsNetwork, Runs};
 ghost use Rattle.mari_network.specs.Margins.{IsMoved};
+ghost use Rattle.mari_network.specs.Searching.{IsMovedAlong};
 ghost use Rattle.mari_network.specs.Chain.{hop_at, hop_room, room_of, head_of, tail_of, more_flow, HasRoom, IsTrace, IsImproving};
 
 use crate::network::Network;
@@ -151,8 +152,10 @@ fn push_chain(borders: &[Border], flows: &mut [i64], hops: &[Hop], at: usize, mo
     requires within { AllZip IsWithinLimits borders.now flows.old }
     requires room { HasRoom borders.now flows.old hops.now most at }
 
-    // No flow leaves its limits, and the zones within the chain carry out what they did.
+    // No flow leaves its limits, those over borders of no hop stay, and the zones within the chain carry out what they
+    // did.
     ensures within { AllZip IsWithinLimits borders.now flows.new }
+    ensures others { (i : ℕ) → ((k : ℕ) → 0 < k → k < length hops.now → (hop_at hops.now k).border ≡ i → ⊥) → int_at flows.new i ≡ int_at flows.old i }
     ensures carried { (z : ℕ) → (sum_along (carried_out z) borders.now flows.new +ℤ at_zone z (hop_at hops.now 0).zone most) ≡ sum_along (carried_out z) borders.now flows.old +ℤ at_zone z (hop_at hops.now at).zone most }
 {
     let mut place = at;
@@ -207,6 +210,7 @@ pub fn improve(network: &Network, amounts: &mut [i64], flows: &mut [i64], chain:
     // What runs then, with the amounts of two slots moved.
     ensures runs { Runs network.now amounts.new flows.new }
     ensures moved { IsMoved network.now.slots.now amounts.old amounts.new chain.now.sink chain.now.source }
+    ensures along { IsMovedAlong network.now.slots.now network.now.borders.now chain.now.hops.items amounts.old flows.old amounts.new flows.new }
 
     // By how much it is better.
     ensures worth { sum_along slot_gain network.now.slots.now amounts.new ≡ sum_along slot_gain network.now.slots.now amounts.old +ℤ result }

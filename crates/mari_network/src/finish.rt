@@ -1,16 +1,15 @@
 //! From amounts back to quantities, and from prices to potentials and cuts.
 
-ghost use Rattle.std.specs.Prelude.{◌≡◌, ◌≢◌, ℕ, pos, ◌<◌, ◌≤◌, ◌≤ℤ◌, ◌*◌, length, IfOk, MatchOption, map, take};
+ghost use Rattle.std.specs.Prelude.{◌≡◌, ◌≢◌, ℕ, pos, ◌<◌, ◌≤◌, ◌≤ℤ◌, ◌*◌, length, unsigned_abs, IfOk, MatchOption, map, take};
 ghost use Rattle.std.specs.Int.{int_max};
-ghost use Rattle.std.specs.List.{AllZip};
+ghost use Rattle.std.specs.List.{All, AllZip};
 ghost use Rattle.mari_market.specs.Sums.{int_at};
-ghost use Rattle.mari_market.specs.Activation.{put_in};
 ghost use Rattle.mari_market.specs.Price.{IsPrice};
 ghost use Rattle.mari_market.specs.Cut.{is_in, IsRising};
 ghost use Rattle.mari_network.specs.Orders.{capped_cents, is_inside, CanPut, ArePuts};
 
 use crate::slots::BEYOND;
-use mari_market::{CutSide, MOST_ORDERS, MOST_WORTH, Order, Side};
+use mari_market::{CutSide, MOST_ORDERS, MOST_WORTH, Order};
 use mari_units::{CAP, Cents, MOST_MW, MOST_ZONES};
 use std::alloc::{AllocError, Global};
 
@@ -26,16 +25,12 @@ pub fn first_short(amounts: &[i64], from: usize) -> Option<usize>
     None
 }
 
-/// The quantity of an order of this side that puts in `amount` MW.
-fn quantity(side: Side, amount: i64) -> u32
-    requires { CanPut side amount }
-    ensures puts { amount ≡ put_in side result }
-    ensures small { result ≤ MOST_MW }
+/// How much energy an amount of an order is, whichever way it goes.
+fn quantity(amount: i64) -> u32
+    requires { unsigned_abs amount ≤ MOST_MW }
+    ensures { result ≡ unsigned_abs amount }
 {
-    match side {
-        Side::Inject => amount as u32,
-        Side::Withdraw => (-amount) as u32,
-    }
+    amount.unsigned_abs() as u32
 }
 
 /// The nearest price within the cap.
@@ -82,17 +77,24 @@ pub fn cut_zones(alloc: Global, side: CutSide, prices: &[i64]) -> Result<Vec<u32
     Ok(zones)
 }
 
+/// How much energy each amount of an order is.
+fn sizes(alloc: Global, amounts: &[i64]) -> Result<Vec<u32>, AllocError>
+    requires { All (λ x. unsigned_abs x ≤ MOST_MW) amounts.now }
+    ensures { IfOk result (λ v. v.items ≡ map unsigned_abs amounts.now) }
+{
+    amounts
+        .iter()
+        .map(|amount| quantity(*amount))
+        .collect(alloc)
+}
+
 /// The quantities of orders that put in these amounts.
 pub fn quantities(alloc: Global, orders: &[Order], amounts: &[i64]) -> Result<Vec<u32>, AllocError>
     requires lengths { length orders.now ≤ length amounts.now }
     requires fits { AllZip (λ o x. CanPut o.side x) orders.now (take (length orders.now) amounts.now) }
     ensures { IfOk result (λ v. ArePuts orders.now (take (length orders.now) amounts.now) v.items) }
 {
-    let mut all = Vec::with_capacity(alloc, orders.len())?;
-    for (i, order) in orders.iter().enumerate() {
-        all.push(quantity(order.side, amounts[i]))?;
-    }
-    Ok(all)
+    sizes(alloc, &amounts[..orders.len()])
 }
 
 /// A welfare as it is stated: 0 where it is negative.

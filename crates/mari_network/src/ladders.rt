@@ -12,9 +12,10 @@ use crate::network::{Network, Rung, ladder_at};
 use crate::slots::Slot;
 
 /// How many of a ladder's rungs cost at most this: the first.
-fn rungs_to(ladder: &[Rung], top: i64) -> usize
+pub fn rungs_to(ladder: &[Rung], top: i64) -> usize
     requires { IsRising ladder.now }
     ensures few { result ≤ length ladder.now }
+    ensures to { (j : ℕ) (d : RungRecord) → j < result → (slice_index_or ladder.now j d).price ≤ℤ top }
     ensures above { (j : ℕ) (d : RungRecord) → result ≤ j → j < length ladder.now → top <ℤ (slice_index_or ladder.now j d).price }
 {
     ladder.partition_point(|rung| rung.price <= top)
@@ -128,7 +129,8 @@ fn cheapest_with_stand_in(
     cheapest_with_in_order(slots, amounts, best, place)
 }
 
-/// The dearest of a zone's slots that may put in less, of those that cost at most this.
+/// The dearest of a zone's slots that may put in less, of those on its ladder that cost at most this and what stands in
+/// for it, at any price.
 pub fn dearest_to(network: &Network, amounts: &[i64], zone: usize, top: i64) -> Option<usize>
     requires network { IsNetwork network.now }
     requires amounts { length amounts.now ≡ length network.now.slots.now }
@@ -140,7 +142,8 @@ pub fn dearest_to(network: &Network, amounts: &[i64], zone: usize, top: i64) -> 
     dearest_with_stand_in(network, amounts, best, zone)
 }
 
-/// The cheapest of a zone's slots that may put in more, of those that cost at least this.
+/// The cheapest of a zone's slots that may put in more, of those on its ladder that cost at least this and what stands
+/// in for it, at any price.
 pub fn cheapest_from(network: &Network, amounts: &[i64], zone: usize, least: i64) -> Option<usize>
     requires network { IsNetwork network.now }
     requires amounts { length amounts.now ≡ length network.now.slots.now }

@@ -1,11 +1,12 @@
 //! The marginal slots of each zone.
 
-ghost use Rattle.std.specs.Prelude.{◌≡◌, ◌≢◌, ◌⊎◌, ℕ, ℤ, ◌<◌, ◌+◌, ◌≤ℤ◌, ◌<ℤ◌, true, length, slice_index_or, Some, None, IfSome};
+ghost use Rattle.std.specs.Prelude.{◌≡◌, ◌≢◌, ◌⊎◌, ℕ, ℤ, ◌<◌, ◌+◌, ◌≤ℤ◌, ◌<ℤ◌, true, false, length, slice_index_or, Some, None, IfSome};
 ghost use Rattle.std.specs.List.{All};
 ghost use Rattle.mari_network.specs.Slots.{price_of, zone_of, IsSmallSlot};
-ghost use Rattle.mari_network.specs.Spread.{is_marked};
-ghost use Rattle.mari_network.specs.Margins.{no_margin, dearest_at, cheapest_at, IsAbove, IsBelow, IsDearestWith, IsCheapestWith, IsMarginWith, IsDearestOf};
+ghost use Rattle.mari_network.specs.Chain.{hop_at};
+ghost use Rattle.mari_network.specs.Margins.{no_margin, dearest_at, cheapest_at, IsAbove, IsBelow, IsDearestWith, IsCheapestWith, IsMarginWith, IsDearestOf, IsSource};
 
+use crate::chain::Hop;
 use crate::slots::{BEYOND, Slot};
 
 /// A zone's dearest slot that may put in less, and its cheapest that may put in more.
@@ -15,6 +16,15 @@ pub struct Margin {
     pub dearest: Option<usize>,
     /// The place of the cheapest that may put in more.
     pub cheapest: Option<usize>,
+}
+
+/// A slot that may put in more, of the zone of a hop.
+#[derive(Clone, Copy, Drop)]
+pub struct Source {
+    /// The place of the slot.
+    pub slot: usize,
+    /// The place of the hop.
+    pub at: usize,
 }
 
 /// The dearer of two slots. Where they cost the same it is the first; no clause says so.
@@ -165,39 +175,37 @@ pub fn dearest(slots: &[Slot], margins: &[Margin], marked: &[bool]) -> Option<us
     best
 }
 
-/// The slot, if its price is below a limit.
-fn only_below(slots: &[Slot], best: Option<usize>, limit: i64) -> Option<usize>
-    requires best { (i : ℕ) → best ≡ Some i → i < length slots.now }
-    ensures some { (i : ℕ) → result ≡ Some i → (best ≡ Some i) × (price_of slots.now i <ℤ limit) }
-    ensures none { result ≡ None → (v : ℤ) → IsBelow slots.now v best → limit ≤ℤ v }
+/// Whether a price is below another, or is the same and of a zone that comes first.
+fn goes_first(price: i64, zone: u32, below: i64, other: u32) -> bool
+    ensures yes { result ≡ true → (price <ℤ below) ⊎ ((price ≡ below) × (zone < other)) }
+    ensures no { result ≡ false → below ≤ℤ price }
 {
-    match best {
-        Some(slot) if slots[slot].price < limit => best,
-        _ => None,
+    if price > below {
+        return false;
     }
+    price < below || zone < other
 }
 
-/// The cheapest slot of a marked zone, of those that may put in more, if it is cheaper than a limit. Where some cost the
-/// same it is that of the first zone; no clause says so.
-pub fn cheapest(slots: &[Slot], margins: &[Margin], marked: &[bool], limit: i64) -> Option<usize>
-    requires small { All IsSmallSlot slots.now }
-    requires marks { length marked.now ≡ length margins.now }
+/// The cheapest slot of the zones of hops, of those that may put in more, if it is cheaper than a limit. Where some
+/// cost the same it is that of the first zone; no clause says so.
+pub fn cheapest(slots: &[Slot], margins: &[Margin], hops: &[Hop], limit: i64) -> Option<Source>
+    requires zones { (k : ℕ) → k < length hops.now → (hop_at hops.now k).zone < length margins.now }
     requires there { (z i : ℕ) → z < length margins.now → cheapest_at margins.now z ≡ Some i → i < length slots.now }
-    ensures there { IfSome result (λ i. i < length slots.now) }
-    ensures some { (i : ℕ) → result ≡ Some i → (price_of slots.now i <ℤ limit) × (z : ℕ) × (z < length margins.now) × (is_marked marked.now z ≡ true) × (cheapest_at margins.now z ≡ Some i) }
-    ensures none { result ≡ None → (z i : ℕ) → z < length margins.now → is_marked marked.now z ≡ true → cheapest_at margins.now z ≡ Some i → limit ≤ℤ price_of slots.now i }
+    ensures some { IfSome result (IsSource slots.now margins.now hops.now limit) }
+    ensures none { result ≡ None → (k i : ℕ) → k < length hops.now → cheapest_at margins.now (hop_at hops.now k).zone ≡ Some i → limit ≤ℤ price_of slots.now i }
 {
     let mut best = None;
-    let mut below = BEYOND + 1;
-    for zone in 0..margins.len() {
-        if marked[zone] {
-            if let Some(slot) = margins[zone].cheapest {
-                if slots[slot].price < below {
-                    below = slots[slot].price;
-                    best = Some(slot);
-                }
+    let mut below = limit;
+    let mut zone = 0;
+    for (at, hop) in hops.iter().enumerate() {
+        if let Some(slot) = margins[hop.zone as usize].cheapest {
+            let price = slots[slot].price;
+            if goes_first(price, hop.zone, below, zone) {
+                below = price;
+                zone = hop.zone;
+                best = Some(Source { slot, at });
             }
         }
     }
-    only_below(slots, best, limit)
+    best
 }

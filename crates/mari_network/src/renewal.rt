@@ -24,7 +24,8 @@ fn margin_of(network: &Network, amounts: &[i64], zone: usize) -> Margin
 }
 
 /// A zone's dearest slot that may put in less, but for the source, after energy moved from it to a sink. Where the sink
-/// was the dearest and may put in no less, no dearer one may, so only those that cost no more are looked at.
+/// was the dearest and may put in no less, no dearer one may, so on the ladder only those that cost no more are looked
+/// at; what stands in for the zone is looked at whatever it costs.
 fn dearest_left(
     network: &Network,
     amounts: &[i64],
@@ -51,7 +52,8 @@ fn dearest_left(
 }
 
 /// A zone's cheapest slot that may put in more, but for the sink, after energy moved to it from a source. Where the
-/// source was the cheapest and may put in no more, no cheaper one may, so only those that cost no less are looked at.
+/// source was the cheapest and may put in no more, no cheaper one may, so on the ladder only those that cost no less are
+/// looked at; what stands in for the zone is looked at whatever it costs.
 fn cheapest_left(
     network: &Network,
     amounts: &[i64],

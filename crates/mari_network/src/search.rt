@@ -1,20 +1,23 @@
 //! The search for an improving chain, and for prices where there is none.
 
-ghost use Rattle.std.specs.Prelude.{◌≡◌, ℕ, ℤ, pos, ◌<ℤ◌, ◌+◌, ◌<◌, ◌≤◌, true, false, not, Bool, List, length, count_by, OnOk, IfOk, MatchOption};
+ghost use Rattle.std.specs.Prelude.{◌≡◌, ℕ, ℤ, pos, ◌<ℤ◌, ◌+◌, ◌<◌, ◌≤◌, true, false, not, Bool, List, length, count_by, OnOk, IfOk, IfSome, MatchOption, Some};
 ghost use Rattle.std.specs.List.{All, AllZip};
 ghost use Rattle.mari_market.specs.Activation.{IsWithinLimits};
 ghost use Rattle.mari_market.specs.Sums.{int_at};
 ghost use Rattle.mari_network.specs.Network.{border_at, IsNetwork, IsWay, Runs};
+ghost use Rattle.mari_market.specs.declared.market.Border.{Border as TheBorder};
 ghost use Rattle.mari_market.specs.Market.{IsBetween};
 ghost use Rattle.mari_network.specs.Chain.{hop_at, room_of, IsImproving};
 ghost use Rattle.mari_network.specs.Spread.{is_marked, IsSpread, AreClosed, MarkedInto, Keeps};
-ghost use Rattle.mari_network.specs.Margins.{AreMargins};
-ghost use Rattle.mari_network.specs.Searching.{AreTightPrices, HasZones};
+ghost use Rattle.mari_network.specs.Margins.{dearest_at, AreMargins, IsDearestOf};
+ghost use Rattle.mari_network.specs.Slots.{IsSmallSlot};
+ghost use Rattle.mari_network.specs.Levels.{AreLevels};
+ghost use Rattle.mari_network.specs.Searching.{AreTightPrices, AreUnmarked, HasLevels, HasZones, IsFresh, IsOfNone};
 
 use crate::chain::{Chain, Hop, room_over};
 use crate::margins::{Margin, cheapest, dearest};
 use crate::network::{Network, Way, meeting_at};
-use crate::slots::BEYOND;
+use crate::slots::{BEYOND, Slot};
 use mari_market::Border;
 use std::alloc::{AllocError, Global};
 use std::mem;
@@ -24,6 +27,8 @@ use std::mem;
 pub struct Search {
     /// Whether each zone is marked.
     pub marked: Vec<bool>,
+    /// How many zones aren't marked.
+    pub left: usize,
     /// The price of each zone, in cents per MWh. Where a search finds no chain they are tight.
     pub prices: Vec<i64>,
     /// Where hops are listed. A chain takes the list along, and may be asked for it back.
@@ -32,13 +37,15 @@ pub struct Search {
 
 /// What searches of a network with this number of zones work on.
 pub fn search_of(alloc: Global, zones: usize) -> Result<Search, AllocError>
-    ensures { IfOk result (HasZones zones) }
+    ensures zones { IfOk result (HasZones zones) }
+    ensures fresh { IfOk result IsFresh }
 {
     let marked = vec![in alloc; false; zones]?;
     let prices = vec![in alloc; 0i64; zones]?;
     let hops = Vec::with_capacity(alloc, zones)?;
     Ok(Search {
         marked,
+        left: zones,
         prices,
         hops,
     })
@@ -191,20 +198,6 @@ fn level_rest(prices: &mut [i64], marked: &[bool], price: i64)
     }
 }
 
-/// The place of a zone's hop.
-fn place_of_hop(hops: &[Hop], zone: u32) -> usize
-    requires { (k : ℕ) × (k < length hops.now) × ((hop_at hops.now k).zone ≡ zone) }
-    ensures there { result < length hops.now }
-    ensures zone { (hop_at hops.now result).zone ≡ zone }
-{
-    for (i, hop) in hops.iter().enumerate() {
-        if hop.zone == zone {
-            return i;
-        }
-    }
-    0
-}
-
 /// Takes all marks back.
 fn unmark(marked: &mut [bool])
     ensures { (z : ℕ) → is_marked marked.new z ≡ false }
@@ -214,17 +207,65 @@ fn unmark(marked: &mut [bool])
     }
 }
 
-/// An improving chain, or none, with prices that show it.
+/// Takes all marks of a search back.
+fn begin_anew(search: &mut Search)
+    ensures zones { (zones : ℕ) → HasZones zones search.old → HasZones zones search.new }
+    ensures fresh { IsFresh search.new }
+{
+    unmark(&mut search.marked);
+    search.left = search.marked.len();
+}
+
+/// Takes the marks of the zones of hops back.
+fn unmark_hops(marked: &mut [bool], hops: &[Hop])
+    requires zones { (k : ℕ) → k < length hops.now → (hop_at hops.now k).zone < length marked.old }
+    ensures here { AreUnmarked marked.new hops.now }
+    ensures others { (z : ℕ) → IsOfNone hops.now z → is_marked marked.new z ≡ is_marked marked.old z }
+{
+    for hop in hops {
+        marked[hop.zone as usize] = false;
+    }
+}
+
+/// Takes the marks of a level back, before which so many zones were left.
+fn take_back(marked: &mut [bool], hops: &[Hop], left: usize)
+    requires zones { (k : ℕ) → k < length hops.now → (hop_at hops.now k).zone < length marked.old }
+    ensures { (bs : List TheBorder) (fs : List ℤ) (old : List Bool) (start : ℕ) → IsSpread bs fs old start marked.old hops.now → left ≡ count_by not old → old ≡ marked.new }
+{
+    if left == marked.len() {
+        unmark(marked);
+    } else {
+        unmark_hops(marked, hops);
+    }
+}
+
+/// The dearest slot of a zone that is not marked, of those that may put in less, where so many zones are left.
+fn next_sink(slots: &[Slot], margins: &[Margin], marked: &[bool], left: usize) -> Option<usize>
+    requires small { All IsSmallSlot slots.now }
+    requires marks { length marked.now ≡ length margins.now }
+    requires there { (z i : ℕ) → z < length margins.now → dearest_at margins.now z ≡ Some i → i < length slots.now }
+    requires left { left ≡ count_by not marked.now }
+    ensures there { IfSome result (λ i. i < length slots.now) }
+    ensures dearest { IsDearestOf slots.now margins.now marked.now (length margins.now) result }
+{
+    if left == 0 {
+        return None;
+    }
+    dearest(slots, margins, marked)
+}
+
+/// An improving chain, or none, with prices that show it; from the levels that an earlier search was left with.
 ///
 /// The zones are marked in levels, the dearest slot that may put in less first: that slot's zone, and all zones from
 /// which energy can still be moved to it, have its price, and a cheaper slot of one of them that may put in more makes
-/// a chain. The zones that are left at the end have the least price of all.
+/// a chain. That level is then taken back. Zones that are left at the end have the least price of all.
 fn chain_by_levels(
     network: &Network,
     amounts: &[i64],
     flows: &[i64],
     margins: &[Margin],
     marked: &mut [bool],
+    left: &mut usize,
     prices: &mut [i64],
     mut hops: Vec<Hop>,
 ) -> Result<Option<Chain>, AllocError>
@@ -233,33 +274,73 @@ fn chain_by_levels(
     requires margins { AreMargins network.now.slots.now amounts.now (length network.now.meeting.now) (length network.now.slots.now) margins.now }
     requires runs { Runs network.now amounts.now flows.now }
 
-    // A place for each zone, of which none is marked.
+    // A place for each zone, and the levels of those that are marked.
     requires marks { length marked.old ≡ length network.now.meeting.now }
     requires prices { length prices.old ≡ length network.now.meeting.now }
-    requires fresh { (z : ℕ) → is_marked marked.old z ≡ false }
+    requires levels { AreLevels network.now.slots.now network.now.borders.now amounts.now flows.now marked.old (int_at prices.old) }
+    requires left { left.old ≡ count_by not marked.old }
 
     // Prices that show that nothing improves, or a chain that does.
-    ensures { IfOk result (λ r. MatchOption r (AreTightPrices network.now amounts.now flows.now prices.new) (IsImproving network.now amounts.now flows.now)) }
+    ensures found { IfOk result (λ r. MatchOption r (AreTightPrices network.now amounts.now flows.now prices.new) (IsImproving network.now amounts.now flows.now)) }
+
+    // With a chain the levels before its own, of which none has a zone of its hops.
+    ensures levels { IfOk result (λ r. IfSome r (λ _. AreLevels network.now.slots.now network.now.borders.now amounts.now flows.now marked.new (int_at prices.new))) }
+    ensures left { IfOk result (λ r. IfSome r (λ _. left.new ≡ count_by not marked.new)) }
+    ensures unmarked { IfOk result (λ r. IfSome r (λ chain. AreUnmarked marked.new chain.hops.items)) }
 {
     let slots = network.slots;
-    let mut left = marked.len();
-    while let Some(sink) = dearest(slots, margins, marked) {
+    while let Some(sink) = next_sink(slots, margins, marked, *left) {
         let slot = slots[sink];
-        spread(network, flows, marked, &mut hops, slot.zone, left)?;
-        if let Some(source) = cheapest(slots, margins, marked, slot.price) {
-            let at = place_of_hop(&hops, slots[source].zone);
+        spread(network, flows, marked, &mut hops, slot.zone, *left)?;
+        if let Some(source) = cheapest(slots, margins, &hops, slot.price) {
+            take_back(marked, &hops, *left);
             return Ok(Some(Chain {
                 sink,
-                source,
-                at,
+                source: source.slot,
+                at: source.at,
                 hops,
             }));
         }
         level(prices, &hops, slot.price);
-        left -= hops.len();
+        *left -= hops.len();
     }
     level_rest(prices, marked, -BEYOND);
     Ok(None)
+}
+
+/// An improving chain, or none, where the prices that the search is left with are tight; from the levels that an
+/// earlier search was left with.
+///
+/// The levels before that of a chain stay as they are where energy moved along its hops alone. So it finds what
+/// `find_chain` does; no clause says so.
+pub fn next_chain(
+    alloc: Global,
+    network: &Network,
+    amounts: &[i64],
+    flows: &[i64],
+    margins: &[Margin],
+    search: &mut Search,
+) -> Result<Option<Chain>, AllocError>
+    requires network { IsNetwork network.now }
+    requires margins { AreMargins network.now.slots.now amounts.now (length network.now.meeting.now) (length network.now.slots.now) margins.now }
+    requires runs { Runs network.now amounts.now flows.now }
+    requires levels { HasLevels network.now amounts.now flows.now search.old }
+    ensures found { IfOk result (λ r. MatchOption r (AreTightPrices network.now amounts.now flows.now search.new.prices.items) (IsImproving network.now amounts.now flows.now)) }
+    ensures zones { HasZones (length network.now.meeting.now) search.new }
+    ensures levels { IfOk result (λ r. IfSome r (λ _. HasLevels network.now amounts.now flows.now search.new)) }
+    ensures unmarked { IfOk result (λ r. IfSome r (λ chain. AreUnmarked search.new.marked.items chain.hops.items)) }
+{
+    let hops = mem::replace(&mut search.hops, Vec::new(alloc));
+    chain_by_levels(
+        network,
+        amounts,
+        flows,
+        margins,
+        &mut search.marked,
+        &mut search.left,
+        &mut search.prices,
+        hops,
+    )
 }
 
 /// An improving chain, or none, where the prices that the search is left with are tight.
@@ -278,15 +359,6 @@ pub fn find_chain(
     ensures found { IfOk result (λ r. MatchOption r (AreTightPrices network.now amounts.now flows.now search.new.prices.items) (IsImproving network.now amounts.now flows.now)) }
     ensures search { HasZones (length network.now.meeting.now) search.new }
 {
-    unmark(&mut search.marked);
-    let hops = mem::replace(&mut search.hops, Vec::new(alloc));
-    chain_by_levels(
-        network,
-        amounts,
-        flows,
-        margins,
-        &mut search.marked,
-        &mut search.prices,
-        hops,
-    )
+    begin_anew(search);
+    next_chain(alloc, network, amounts, flows, margins, search)
 }

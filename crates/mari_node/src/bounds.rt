@@ -10,7 +10,7 @@ ghost use Rattle.mari_market.specs.Market.{IsValid};
 ghost use Rattle.mari_market.specs.Optimal.{IsFeasible};
 ghost use Rattle.mari_market.specs.Price.{ArePrices};
 ghost use Rattle.mari_network.specs.declared.network.Rung.{Rung as TheRung};
-ghost use Rattle.mari_network.specs.Network.{IsRising};
+ghost use Rattle.mari_network.specs.Network.{rung_at, IsRising};
 ghost use Rattle.mari_network.specs.Solving.{FitsOrders, IsWritten};
 ghost use Rattle.mari_node.specs.Plain.{ArePlainBounds, ArePlainKept, IsPlainBound, SetsPlainly};
 ghost use Rattle.mari_paths.specs.Warm.{AreGated, AreOrderLadders, IsOrderLadder};
@@ -18,28 +18,24 @@ ghost use Rattle.mari_prices.specs.Ends.{IsBoundedBy};
 
 use crate::gates::quantity;
 use mari_market::Market;
-use mari_network::Rung;
+use mari_network::{Rung, rungs_to};
 use mari_paths::{Optimum, Places};
 use mari_prices::{Bounds, End};
 use mari_units::CAP;
 use std::alloc::{AllocError, Global};
 
-/// How many of a ladder's rungs cost at most this: the first.
-fn rungs_to(ladder: &[Rung], top: i64) -> usize
-    requires { IsRising ladder.now }
-    ensures few { result ≤ length ladder.now }
-    ensures above { (j : ℕ) (d : TheRung) → result ≤ j → j < length ladder.now → top <ℤ (slice_index_or ladder.now j d).price }
-{
-    ladder.partition_point(|rung| rung.price <= top)
-}
-
-/// How many of a ladder's rungs cost less than this: the first.
-fn rungs_below(ladder: &[Rung], least: i64) -> usize
-    requires { IsRising ladder.now }
+/// How many of a ladder's rungs cost less than this, counted down from `end`, from which on none does.
+fn rungs_below(ladder: &[Rung], least: i64, end: usize) -> usize
+    requires rising { IsRising ladder.now }
+    requires end { end ≤ length ladder.now }
     ensures few { result ≤ length ladder.now }
     ensures below { (j : ℕ) (d : TheRung) → j < result → (slice_index_or ladder.now j d).price <ℤ least }
 {
-    ladder.partition_point(|rung| rung.price < least)
+    let mut at = end;
+    while at > 0 && ladder[at - 1].price >= least {
+        at -= 1;
+    }
+    at
 }
 
 /// Whether the order at this place has no gate and sets a bound at this end.
@@ -53,18 +49,18 @@ fn sets_plainly(market: &Market, optimum: &Optimum, place: usize, end: End) -> b
     order.gate.is_none() && end.is_set_by(order, quantity(optimum, place))
 }
 
-/// The tightest lower bound that orders without a gate set on a zone's price.
-fn plain_least(market: &Market, optimum: &Optimum, ladder: &[Rung], zone: usize) -> i64
+/// The tightest lower bound that orders without a gate set on a zone's price, of which none stands on the ladder from
+/// `end` on.
+fn plain_least(market: &Market, optimum: &Optimum, ladder: &[Rung], zone: usize, end: usize) -> i64
     requires valid { IsValid market.now }
     requires fits { FitsOrders market.now optimum.now }
-    requires potentials { ArePrices market.now optimum.now.potentials.cents }
-    requires kept { ArePlainKept market.now optimum.now }
     requires zone { zone < market.now.zones }
     requires ladder { IsOrderLadder market.now zone ladder.now }
+    requires end { end ≤ length ladder.now }
+    requires none { (j : ℕ) → end ≤ j → j < length ladder.now → SetsPlainly End.Least market.now optimum.now (rung_at ladder.now j).place → ⊥ }
     ensures { IsPlainBound End.Least market.now optimum.now zone result }
 {
-    let potential = optimum.potentials.cents.as_slice()[zone].0;
-    let mut at = rungs_to(ladder, potential);
+    let mut at = end;
     while at > 0 {
         at -= 1;
         let Rung { price, place } = ladder[at];
@@ -75,24 +71,50 @@ fn plain_least(market: &Market, optimum: &Optimum, ladder: &[Rung], zone: usize)
     -CAP
 }
 
-/// The tightest upper bound that orders without a gate set on a zone's price, with its sign turned.
-fn plain_greatest(market: &Market, optimum: &Optimum, ladder: &[Rung], zone: usize) -> i64
+/// The tightest upper bound that orders without a gate set on a zone's price, with its sign turned, of which none
+/// stands on the ladder before `start`.
+fn plain_greatest(
+    market: &Market,
+    optimum: &Optimum,
+    ladder: &[Rung],
+    zone: usize,
+    start: usize,
+) -> i64
     requires valid { IsValid market.now }
     requires fits { FitsOrders market.now optimum.now }
-    requires potentials { ArePrices market.now optimum.now.potentials.cents }
-    requires kept { ArePlainKept market.now optimum.now }
     requires zone { zone < market.now.zones }
     requires ladder { IsOrderLadder market.now zone ladder.now }
+    requires none { (j : ℕ) → j < start → SetsPlainly End.Greatest market.now optimum.now (rung_at ladder.now j).place → ⊥ }
     ensures { IsPlainBound End.Greatest market.now optimum.now zone result }
 {
-    let potential = optimum.potentials.cents.as_slice()[zone].0;
-    for at in rungs_below(ladder, potential)..ladder.len() {
+    for at in start..ladder.len() {
         let Rung { price, place } = ladder[at];
         if sets_plainly(market, optimum, place, End::Greatest) {
             return -price;
         }
     }
     -CAP
+}
+
+/// The tightest bounds that orders without a gate set on a zone's price: the lower one, and the upper one with its sign
+/// turned.
+fn plain_ends(market: &Market, optimum: &Optimum, ladder: &[Rung], zone: usize) -> (i64, i64)
+    requires valid { IsValid market.now }
+    requires fits { FitsOrders market.now optimum.now }
+    requires potentials { ArePrices market.now optimum.now.potentials.cents }
+    requires kept { ArePlainKept market.now optimum.now }
+    requires zone { zone < market.now.zones }
+    requires ladder { IsOrderLadder market.now zone ladder.now }
+    ensures least { IsPlainBound End.Least market.now optimum.now zone result.0 }
+    ensures greatest { IsPlainBound End.Greatest market.now optimum.now zone result.1 }
+{
+    let potential = optimum.potentials.cents.as_slice()[zone].0;
+    let end = rungs_to(ladder, potential);
+    let start = rungs_below(ladder, potential, end);
+    (
+        plain_least(market, optimum, ladder, zone, end),
+        plain_greatest(market, optimum, ladder, zone, start),
+    )
 }
 
 /// Each zone's tightest bounds at both ends by the orders without a gate.
@@ -115,8 +137,9 @@ fn plain_bounds(
     let mut greatest = Vec::with_capacity(alloc, zones)?;
     for zone in 0..zones {
         let ladder = places.ladders[zone].as_slice();
-        least.push(plain_least(market, optimum, ladder, zone))?;
-        greatest.push(plain_greatest(market, optimum, ladder, zone))?;
+        let (lower, upper) = plain_ends(market, optimum, ladder, zone);
+        least.push(lower)?;
+        greatest.push(upper)?;
     }
     Ok(Bounds { least, greatest })
 }

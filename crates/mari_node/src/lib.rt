@@ -9,4 +9,4 @@ mod gates;
 mod node;
 mod prices;
 
-pub use node::{examine, examine_from, examine_warm};
+pub use node::{examine, examine_from, examine_in, examine_warm};

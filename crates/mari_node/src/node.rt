@@ -8,12 +8,14 @@ ghost use Rattle.mari_market.specs.Optimal.{IsAdmissible};
 ghost use Rattle.mari_market.specs.Prefix.{word_of, bounds_at, IsFeasiblePrefix};
 ghost use Rattle.mari_network.specs.Solving.{FitsOrders, NoneWithin, OfCut, IsFoundOptimum, IsWritten};
 ghost use Rattle.mari_node.specs.Nodes.{best_found, bound_found, conflict_found, left_by, IsEmptyWhereNone, IsInnerNode, IsLastNode, IsLeft, IsRelaxedOptimum, IsWrittenOf};
-ghost use Rattle.mari_paths.specs.Warm.{AreGated, AreOrderLadders, IsWarmStart};
+ghost use Rattle.mari_paths.specs.Warm.{AreGated, AreOrderLadders, IsWarmStart, IsWorkspaceOf};
 
 use crate::gates::keeps_gates;
 use crate::prices::contradiction_of;
 use mari_market::{Activation, Attained, Conflict, Finding, Market, Prefix, Prices, Relaxed};
-use mari_paths::{Optimum, Places, SolveFault, Solved, WarmStart, gated_places, optimum_from};
+use mari_paths::{
+    Optimum, Places, SolveFault, Solved, WarmStart, Workspace, gated_places, optimum_from,
+};
 use mari_units::{Items, Memory};
 use std::alloc::{AllocError, Global};
 
@@ -225,9 +227,30 @@ pub fn examine_from(
     Ok(finding)
 }
 
-/// Examines one node of the search from a warm start of the market, and leaves no optimum.
+/// Examines one node of the search from a warm start of the market, in a workspace of it, and leaves no optimum.
 ///
 /// What is found is what `examine` may find.
+pub fn examine_in(
+    alloc: Global,
+    market: &Market,
+    prefix: &Prefix,
+    warm: &WarmStart,
+    workspace: &mut Workspace,
+) -> Result<Finding, Memory>
+    requires valid { IsValid market.now }
+    requires prefix { IsFeasiblePrefix market.now prefix.now }
+    requires warm { IsWarmStart market.now warm.now }
+    requires workspace { IsWorkspaceOf warm.now workspace.old }
+    ensures finding { IfOk result (IsFinding market.now (word_of prefix.now)) }
+    ensures empty { IfOk result (IsEmptyWhereNone market.now (word_of prefix.now)) }
+    ensures workspace { IsWorkspaceOf warm.now workspace.new }
+{
+    let found = warm.optimum_in(alloc, market, prefix, workspace);
+    let (gated, places) = (warm.gated(), warm.places());
+    finding_by(alloc, market, prefix, gated, Some(places), found)
+}
+
+/// The same in a workspace that is made for this node alone.
 pub fn examine_warm(
     alloc: Global,
     market: &Market,
@@ -240,7 +263,6 @@ pub fn examine_warm(
     ensures finding { IfOk result (IsFinding market.now (word_of prefix.now)) }
     ensures empty { IfOk result (IsEmptyWhereNone market.now (word_of prefix.now)) }
 {
-    let found = warm.optimum(alloc, market, prefix);
-    let (gated, places) = (warm.gated(), warm.places());
-    finding_by(alloc, market, prefix, gated, Some(places), found)
+    let mut workspace = warm.workspace(alloc)?;
+    examine_in(alloc, market, prefix, warm, &mut workspace)
 }

@@ -1,6 +1,11 @@
 pub mod Bounded
 pub mod Changed
+pub mod Cheapest
 pub mod Merits
+pub mod OnePrice
+pub mod Reaches
 pub mod Shortages
 pub mod Starts
 pub mod Steps
+pub mod Sums
+pub mod Supplies

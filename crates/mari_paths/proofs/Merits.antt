@@ -1,7 +1,8 @@
 -- What runs by supply curves lies within the slots, and ladders stay where what stands in is added.
-use Rattle.std.proofs.Common.{◌≡◌, ℕ, ◌+◌, ◌<◌, ◌≤◌, ℤ, pos, ◌+ℤ◌, ◌≤ℤ◌, List, length, take, get_or, arith, ap, sym, ◌∙◌, subst, Vec, Global, get_or-take}
+use Rattle.std.proofs.Common.{◌≡◌, ℕ, ◌<◌, ◌≤◌, ℤ, pos, ◌+ℤ◌, ◌≤ℤ◌, List, length, take, get_or, arith, ap, sym, ◌∙◌, subst, get_or-take}
 use Rattle.std.proofs.lemmas.Int.{ints}
-use Rattle.std.specs.List.{All, AllZip}
+use Rattle.std.specs.List.{All}
+use Rattle.mari_market.specs.declared.limits.TheConstants.{MOST_ORDERS}
 use Rattle.mari_market.specs.declared.market.Border.{Border}
 use Rattle.mari_network.specs.declared.slots.Slot.{Slot}
 use Rattle.mari_network.specs.declared.network.Places.{Places}
@@ -10,10 +11,10 @@ use Rattle.mari_market.specs.declared.market.Market.{Market}
 use Rattle.mari_network.specs.Orders.{AreOrderSlots, IsOrderSlot}
 use Rattle.mari_paths.specs.Starts.{AreFilled}
 use Rattle.mari_paths.proofs.Starts.{filled_in_order}
-use Rattle.mari_network.specs.Slots.{no_slot, slot_at, zone_of, price_of, IsWithinSlot}
+use Rattle.mari_network.specs.Slots.{no_slot, slot_at, IsWithinSlot}
 use Rattle.mari_network.proofs.Rungs.{ladder_stays}
-use Rattle.mari_paths.specs.Merit.{AreLadders, IsOrderRange, IsReach}
-use Rattle.mari_paths.specs.declared.merit.Reach.{Reach}
+use Rattle.mari_paths.proofs.Sums.{stands_once, sum_of_ladders}
+use Rattle.mari_paths.specs.Merit.{AreLadders, IsOrderRange}
 
 -- the slots of orders have small numbers
 pub order_ranges : (zones : ℕ) (slots : List Slot) → All (IsOrderSlot zones) slots → All IsOrderRange slots
@@ -26,9 +27,21 @@ raised_within s part x low high e = record { least = omega (arith, ints, low, e)
 pub least_within : (s : Slot) → IsOrderRange s → IsWithinSlot s s.low
 least_within s r = record { least = omega (arith, ints); most = r.in_order }
 
--- rungs are of slots that there are
-pub ladders_there : (zones : ℕ) (slots : List Slot) (bs : List Border) (p : Places) → ArePlaces zones slots bs p → AreLadders slots p.ladders.items
-ladders_there zones slots bs p a z v l k d m = omega (arith, (a.ladders z v (omega (arith, a.ladders_long, l))).rungs.there k d m, a.few)
+-- the ladders of places are in order of the prices
+pub ladders_there : (zones : ℕ) (slots : List Slot) (bs : List Border) (p : Places) → length slots ≤ MOST_ORDERS → All (IsOrderSlot zones) slots → p.on_ladders ≡ length slots → ArePlaces zones slots bs p → AreLadders slots p.ladders.items
+ladders_there zones slots bs p few fine on a = record {
+  each = λ z v l.
+      let ladder = a.ladders z v (omega (arith, a.ladders_long, l)) in
+      record {
+        few = omega (arith, few, a.few, ladder.rungs.few);
+        there = λ k d m. omega (arith, ladder.rungs.there k d m, a.few);
+        price = ladder.rungs.price;
+        rising = ladder.rising;
+        once = stands_once slots p.on_ladders z (get_or p.ladders.items z v).items ladder.rungs.once;
+      };
+  zone = λ z v l. (a.ladders z v (omega (arith, a.ladders_long, l))).rungs.zone;
+  once = sum_of_ladders zones slots bs p (λ k d l. (fine k d l).zone) on a;
+}
 
 -- places stay where slots are added after those on ladders
 pub places_grow : (zones : ℕ) (before after : List Slot) (bs : List Border) (p : Places) → length before ≤ length after → ((k : ℕ) → k < p.on_ladders → slot_at after k ≡ slot_at before k) → AreInOrder p.on_ladders after
@@ -45,18 +58,6 @@ places_grow zones before after bs p long same order a = record {
 -- the first slots are those that were there
 pub first_slots : (n k : ℕ) (reals slots : List Slot) → take n slots ≡ reals → k < n → slot_at slots k ≡ slot_at reals k
 first_slots n k reals slots e l = sym (get_or-take n slots k no_slot l) ∙ ap (λ (ss : List Slot). slot_at ss k) e
-
-pub reach_wider : (m n : ℕ) (r : Reach) → m ≤ n → IsReach m r → IsReach n r
-reach_wider m n r l a = record { out = (a.out.0, omega (arith, ints, l, a.out.1)); into = (a.into.0, omega (arith, ints, l, a.into.1)) }
-
-pub reaches_wider : (m n : ℕ) (rs : List Reach) → m ≤ n → All (IsReach m) rs → All (IsReach n) rs
-reaches_wider m n rs l a k d h = reach_wider m n (get_or rs k d) l (a k d h)
-
-pub reach_more : (m : ℕ) (r s : Reach) (out into : ℕ) → out ≤ 200000 → into ≤ 200000 → s.out ≡ r.out +ℤ pos out → s.into ≡ r.into +ℤ pos into → IsReach m r → IsReach (m + 200000) s
-reach_more m r s out into a b e f h = record {
-  out = (omega (arith, ints, e, h.out.0), omega (arith, ints, a, e, h.out.1));
-  into = (omega (arith, ints, f, h.into.0), omega (arith, ints, b, f, h.into.1));
-}
 
 -- the places of the orders' slots are those of all slots that are filled
 pub started_places : (m : Market) (reals slots : List Slot) (xs : List ℤ) (p : Places) → AreOrderSlots m.zones m.orders reals → take (length m.orders) slots ≡ reals → AreFilled m slots xs → p.on_ladders ≡ length m.orders

@@ -13,6 +13,7 @@ use Rattle.mari_network.specs.Network.{ArePlaces, IsRising}
 use Rattle.mari_network.specs.Orders.{slot_of}
 use Rattle.mari_network.specs.Slots.{price_of, slot_at, slot_gain, zone_of}
 use Rattle.mari_paths.specs.declared.warm.WarmStart.{WarmStart}
+use Rattle.mari_paths.specs.declared.warm.Workspace.{Workspace}
 use Rattle.mari_paths.specs.Starts.{most_short, order_at, AreEven, AreFilled, StandInsNear}
 
 -- the bounds of an order without a gate, at every prefix
@@ -45,6 +46,10 @@ pub record IsWarmStart (m : Market) (w : WarmStart) : Type 0 where
   pub prices : (k : ℕ) → k < length m.orders → price_of w.slots.items k ≡ (order_at m k).price.0
   pub gated : AreGated m w.gated.items
   pub plain : (k : ℕ) → IsPlain m k → slot_at w.slots.items k ≡ slot_of (plain_span (order_at m k)) (order_at m k)
+
+-- the slots of a warm start
+abbrev pub IsWorkspaceOf : WarmStart → Workspace → Type 0
+IsWorkspaceOf warm w = w.slots.items ≡ warm.slots.items
 
 -- the ladder of a zone's orders: the price and the place of each, the cheapest first
 pub record IsOrderLadder (m : Market) (z : ℕ) (ladder : List Rung) : Type 0 where

@@ -181,9 +181,24 @@ pub fn set_bounds(
     ensures into { (z : ℕ) → sum_along (slot_into z) slots.new amounts.new ≡ sum_along (slot_into z) slots.old amounts.old }
     ensures worth { worth.new ≡ sum_along slot_gain slots.new amounts.new }
 
-    // All orders have their bounds at the prefix.
+    // All orders have their bounds at the prefix. Those at other places keep their slots.
     ensures orders { take (length market.now.orders) slots.new ≡ slots_of (bounds_at market.now prefix.now) market.now.orders }
+    ensures others { (k : ℕ) → k < length market.now.orders → (Contains gated.now k → ⊥) → slot_at slots.new k ≡ slot_at slots.old k }
 {
     change_slots(market, prefix, gated, slots, amounts, worth);
     complete_margins(market, gated, slots, amounts, margins);
+}
+
+/// Puts back the slots at these places and those from `orders` on.
+pub fn put_back(slots: &mut [Slot], before: &[Slot], places: &[usize], orders: usize)
+    requires lengths { length slots.old ≡ length before.now }
+    requires there { All (λ k. k < orders) places.now }
+    requires few { orders ≤ length before.now }
+    requires rest { (k : ℕ) → k < orders → Contains places.now k ⊎ (slot_at slots.old k ≡ slot_at before.now k) }
+    ensures { slots.new ≡ before.now }
+{
+    for place in places {
+        slots[*place] = before[*place];
+    }
+    slots[orders..].copy_from_slice(&before[orders..]);
 }

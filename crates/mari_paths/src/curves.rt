@@ -1,12 +1,12 @@
 //! Supply curves of zones, and one price for the whole market.
 
-ghost use Rattle.std.specs.Prelude.{◌<◌, ◌≤◌, ◌≤ℤ◌, neg_ℤ, length, IfOk};
+ghost use Rattle.std.specs.Prelude.{◌≡◌, ◌<◌, ◌≤◌, ◌≤ℤ◌, ◌<ℤ◌, ℕ, neg_ℤ, length, slice_index_or, IfOk};
 ghost use Rattle.std.specs.List.{All};
 ghost use Rattle.mari_network.specs.declared.slots.TheConstants.{BEYOND};
-ghost use Rattle.mari_paths.specs.Merit.{most_supplied, IsCurve, IsOrderRange};
+ghost use Rattle.mari_paths.specs.declared.curves.Step.{Step as StepRecord};
+ghost use Rattle.mari_paths.specs.Merit.{supplied, supplied_by_all, AreRising, IsBalancing, IsCurve, IsCurveOf, IsMeritOrder, IsOrderRange};
 ghost use Rattle.mari_paths.specs.Starts.{most_stood_in, IsNear};
 
-use mari_market::MOST_ORDERS;
 use mari_network::{BEYOND, Rung, Slot};
 use mari_units::MOST_ZONES;
 use std::alloc::{AllocError, Global};
@@ -32,27 +32,29 @@ pub struct Curve {
 /// The supply curve of the slots on a ladder.
 pub fn curve_of(alloc: Global, slots: &[Slot], ladder: &[Rung]) -> Result<Curve, AllocError>
     requires slots { All IsOrderRange slots.now }
-    requires there { All (λ r. r.place < length slots.now) ladder.now }
-    ensures { IfOk result IsCurve }
+    requires ladder { IsMeritOrder slots.now ladder.now }
+    ensures curve { IfOk result IsCurve }
+    ensures supply { IfOk result (IsCurveOf slots.now ladder.now) }
 {
-    // A zone has no more slots than the market has orders.
-    let count = ladder.len().min(MOST_ORDERS);
-    let mut steps = Vec::with_capacity(alloc, count)?;
+    let mut steps = Vec::with_capacity(alloc, ladder.len())?;
     let mut least = 0;
     let mut more = 0;
-    for at in 0..count {
-        let Rung { price, place } = ladder[at];
-        let slot = slots[place];
+    for rung in ladder {
+        let slot = slots[rung.place];
         least += slot.low;
         more += slot.high - slot.low;
+        let price = rung.price;
         steps.push(Step { price, more })?;
     }
     Ok(Curve { least, steps })
 }
 
-/// How many of a supply curve's steps cost less than this: the first. No clause says so.
+/// How many of a supply curve's steps cost less than this: the first.
 fn steps_below(steps: &[Step], price: i64) -> usize
-    ensures { result ≤ length steps.now }
+    requires { AreRising steps.now }
+    ensures few { result ≤ length steps.now }
+    ensures below { (k : ℕ) (d : StepRecord) → k < result → (slice_index_or steps.now k d).price <ℤ price }
+    ensures rest { (k : ℕ) (d : StepRecord) → result ≤ k → k < length steps.now → price ≤ℤ (slice_index_or steps.now k d).price }
 {
     steps.partition_point(|step| step.price < price)
 }
@@ -60,7 +62,8 @@ fn steps_below(steps: &[Step], price: i64) -> usize
 /// What a zone puts in where those of its slots that cost less than this run whole.
 pub fn supply_at(curve: &Curve, price: i64) -> i64
     requires { IsCurve curve.now }
-    ensures { IsNear most_stood_in result }
+    ensures supply { result ≡ supplied price curve.now }
+    ensures near { IsNear most_stood_in result }
 {
     let steps = curve.steps.as_slice();
     match steps_below(steps, price) {
@@ -73,6 +76,7 @@ pub fn supply_at(curve: &Curve, price: i64) -> i64
 fn total_at(curves: &[Curve], price: i64) -> i64
     requires few { length curves.now ≤ MOST_ZONES }
     requires curves { All IsCurve curves.now }
+    ensures { result ≡ supplied_by_all curves.now price }
 {
     let mut total = 0;
     for curve in curves {
@@ -81,13 +85,13 @@ fn total_at(curves: &[Curve], price: i64) -> i64
     total
 }
 
-/// The price at which zones put in no more than they take together, and a cent above it more, if there is one. No
-/// clause says so.
+/// The price at which zones put in no more than they take together, and a cent above it more, if there is one.
 pub fn balancing_price(curves: &[Curve]) -> i64
     requires few { length curves.now ≤ MOST_ZONES }
     requires curves { All IsCurve curves.now }
     ensures low { neg_ℤ BEYOND ≤ℤ result }
     ensures high { result ≤ℤ BEYOND }
+    ensures balancing { IsBalancing (supplied_by_all curves.now) result }
 {
     let mut price = -BEYOND;
     // How far it is from there to the greatest price.

@@ -1,6 +1,6 @@
 //! Improving along the hops of one search while they have room.
 
-ghost use Rattle.std.specs.Prelude.{◌≡◌, ◌<◌, ◌<ℤ◌, true, ℕ, pos, length, Some, IfSome, MatchOption};
+ghost use Rattle.std.specs.Prelude.{◌≡◌, ◌<◌, ◌<ℤ◌, true, ℕ, pos, length, Some, IfSome};
 ghost use Rattle.std.specs.List.{AllZip};
 ghost use Rattle.mari_market.specs.Sums.{sum_along};
 ghost use Rattle.mari_market.specs.Activation.{IsWithinLimits};
@@ -8,7 +8,8 @@ ghost use Rattle.mari_network.specs.Chain.{hop_at, HasRoom, IsImproving};
 ghost use Rattle.mari_paths.specs.Drains.{AreHops, AreEnds};
 ghost use Rattle.mari_network.specs.Margins.{dearest_at, cheapest_at, AreMargins};
 ghost use Rattle.mari_network.specs.Network.{IsNetwork, Runs};
-ghost use Rattle.mari_network.specs.Slots.{price_of, slot_gain};
+ghost use Rattle.mari_network.specs.Searching.{IsMovedAlong};
+ghost use Rattle.mari_network.specs.Slots.{slot_gain};
 
 use mari_network::{Chain, Hop, Margin, Network, Slot, has_room, improve, renew};
 
@@ -43,15 +44,41 @@ fn cheapest_end(slots: &[Slot], margins: &[Margin], hops: &[Hop], sink: usize) -
     best
 }
 
-/// Whether there is a slot that costs less than another.
-fn is_cheaper(slots: &[Slot], source: Option<usize>, sink: usize) -> bool
-    requires source { IfSome source (λ i. i < length slots.now) }
-    requires sink { sink < length slots.now }
-    ensures { result ≡ true → MatchOption source ⊥ (λ i. price_of slots.now i <ℤ price_of slots.now sink) }
+/// Whether no slot of the zones of these hops that may put in more is cheaper than this price. No clause says so.
+fn none_cheaper(slots: &[Slot], margins: &[Margin], hops: &[Hop], price: i64) -> bool
+    requires zones { (k : ℕ) → k < length hops.now → (hop_at hops.now k).zone < length margins.now }
+    requires there { (z i : ℕ) → z < length margins.now → cheapest_at margins.now z ≡ Some i → i < length slots.now }
 {
-    match source {
-        Some(slot) => slots[slot].price < slots[sink].price,
-        None => false,
+    for hop in hops {
+        if let Some(source) = margins[hop.zone as usize].cheapest {
+            if slots[source].price < price {
+                return false;
+            }
+        }
+    }
+    true
+}
+
+/// The ends of a chain within the first hop's zone, if its source is cheaper than a sink, and none of another hop's
+/// zone is cheaper still.
+fn own_ends(slots: &[Slot], margins: &[Margin], hops: &[Hop], sink: usize) -> Option<Ends>
+    requires sink { sink < length slots.now }
+    requires some { 0 < length hops.now }
+    requires zones { (k : ℕ) → k < length hops.now → (hop_at hops.now k).zone < length margins.now }
+    requires there { (z i : ℕ) → z < length margins.now → cheapest_at margins.now z ≡ Some i → i < length slots.now }
+    ensures ends { IfSome result (AreEnds slots.now margins.now hops.now sink) }
+    ensures at { IfSome result (λ e. e.at ≡ 0) }
+{
+    let source = margins[hops[0].zone as usize].cheapest?;
+    let price = slots[source].price;
+    if price < slots[sink].price && none_cheaper(slots, margins, hops, price) {
+        Some(Ends {
+            sink,
+            source,
+            at: 0,
+        })
+    } else {
+        None
     }
 }
 
@@ -78,16 +105,13 @@ fn next_ends(
     ensures sink { IfSome result (λ e. dearest_at margins.now (hop_at hops.now 0).zone ≡ Some e.sink) }
     ensures room { IfSome result (λ e. HasRoom network.now.borders.now flows.now hops.now (pos 1) e.at) }
 {
-    let first = margins[hops[0].zone as usize];
-    let sink = first.dearest?;
-    let same_price = network.slots[sink].price == price;
+    let sink = margins[hops[0].zone as usize].dearest?;
     // To a sink of another price energy goes on from its own zone alone.
-    if !same_price && !is_cheaper(network.slots, first.cheapest, sink) {
-        return None;
+    if network.slots[sink].price != price {
+        return own_ends(network.slots, margins, hops, sink);
     }
     let ends = cheapest_end(network.slots, margins, hops, sink)?;
-    let goes_on = ends.at == 0 || same_price;
-    if goes_on && has_room(network.borders, flows, hops, ends.at) {
+    if has_room(network.borders, flows, hops, ends.at) {
         Some(ends)
     } else {
         None
@@ -145,6 +169,7 @@ fn push_along(
     ensures worth { worth.new ≡ sum_along slot_gain network.now.slots.now amounts.new }
     ensures margins { AreMargins network.now.slots.now amounts.new (length network.now.meeting.now) (length network.now.slots.now) margins.new }
     ensures rises { sum_along slot_gain network.now.slots.now amounts.old <ℤ sum_along slot_gain network.now.slots.now amounts.new }
+    ensures along { IsMovedAlong network.now.slots.now network.now.borders.now chain.now.hops.items amounts.old flows.old amounts.new flows.new }
 {
     *worth += improve(network, amounts, flows, chain);
     let Chain { sink, source, .. } = chain;
@@ -178,6 +203,10 @@ pub fn drain(
     ensures worth { worth.new ≡ sum_along slot_gain network.now.slots.now amounts.new }
     ensures margins { AreMargins network.now.slots.now amounts.new (length network.now.meeting.now) (length network.now.slots.now) margins.new }
     ensures rises { sum_along slot_gain network.now.slots.now amounts.old <ℤ sum_along slot_gain network.now.slots.now amounts.new }
+
+    // The hops are those of before, and energy moved along them alone.
+    ensures hops { chain.new.hops ≡ chain.old.hops }
+    ensures along { IsMovedAlong network.now.slots.now network.now.borders.now chain.old.hops.items amounts.old flows.old amounts.new flows.new }
 {
     let price = network.slots[chain.sink].price;
     push_along(network, amounts, flows, worth, margins, chain);

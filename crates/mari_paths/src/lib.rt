@@ -19,4 +19,4 @@ mod warm;
 
 pub use mari_network::{Optimum, Places, SolveFault, Solved};
 pub use optimum::{optimum_from, solve_from};
-pub use warm::{WarmStart, gated_places};
+pub use warm::{WarmStart, Workspace, gated_places};

@@ -1,14 +1,18 @@
 //! What runs where no activation is given: in each zone the slots that cost less than one price for the whole market,
 //! or more or fewer of them where its borders can't carry what that leaves over or lacks.
 //!
-//! The clauses say that what runs lies within the slots. No clause says how good it is, and no promise rests on it.
+//! The clauses say what price it is and which slots run at it. No clause says how near to an optimum that is, and no
+//! promise rests on it.
 
-ghost use Rattle.std.specs.Prelude.{◌<◌, ◌≤◌, ◌≡◌, ◌+◌, ◌+ℤ◌, ◌≤ℤ◌, ℕ, pos, length, IfOk};
+ghost use Rattle.std.specs.Prelude.{◌<◌, ◌≤◌, ◌≡◌, ◌≢◌, ◌+ℤ◌, ◌-ℤ◌, ◌≤ℤ◌, ℕ, ℤ, pos, List, length, slice_set, IfOk};
+ghost use Rattle.std.specs.Int.{int_min};
 ghost use Rattle.std.specs.List.{All, AllZip};
 ghost use Rattle.mari_market.specs.Market.{IsBetween, IsValid};
-ghost use Rattle.mari_network.specs.Slots.{IsWithinSlot};
-ghost use Rattle.mari_paths.specs.Merit.{most_carried, AreLadders, IsCurve, IsOrderRange, IsReach};
-ghost use Rattle.mari_paths.specs.Starts.{AreSmallLimits};
+ghost use Rattle.mari_market.specs.Sums.{int_at};
+ghost use Rattle.mari_market.specs.declared.market.Border.{Border as BorderRecord};
+ghost use Rattle.mari_network.specs.Slots.{slot_at, IsWithinSlot};
+ghost use Rattle.mari_paths.specs.Merit.{as_carried, least_of, most_carried, reach_at, supplied, widened, AreLadders, IsByMerit, IsCurve, IsCurveOf, IsMeritOrder, IsOrderRange, IsReach, IsReachOf, RunsAt};
+ghost use Rattle.mari_paths.specs.Starts.{most_moved, AreSmallLimits};
 
 use crate::curves::{Curve, balancing_price, curve_of, supply_at};
 use mari_market::{Border, Market};
@@ -28,10 +32,10 @@ pub struct Reach {
 /// Adds what one border can carry out of a zone and into it.
 fn widen(reaches: &mut [Reach], zone: usize, out: u32, into: u32)
     requires zone { zone < length reaches.old }
-    requires out { out ≤ 200000 }
-    requires into { into ≤ 200000 }
-    requires before { All (IsReach most_carried) reaches.old }
-    ensures { (most : ℕ) → All (IsReach most) reaches.old → All (IsReach (most + 200000)) reaches.new }
+    requires out { out ≤ most_moved }
+    requires into { into ≤ most_moved }
+    requires before { IsReach most_carried (reach_at reaches.old zone) }
+    ensures { reaches.new ≡ slice_set reaches.old zone (widened (reach_at reaches.old zone) out into) }
 {
     let now = reaches[zone];
     reaches[zone] = Reach {
@@ -46,7 +50,8 @@ fn widen_all(reaches: &mut [Reach], borders: &[Border])
     requires ends { All (IsBetween (length reaches.old)) borders.now }
     requires limits { All AreSmallLimits borders.now }
     requires none { All (IsReach 0) reaches.old }
-    ensures { All (IsReach most_carried) reaches.new }
+    ensures reaches { All (IsReach most_carried) reaches.new }
+    ensures each { (z : ℕ) → z < length reaches.new → IsReachOf borders.now z (reach_at reaches.new z) }
 {
     for border in borders {
         widen(reaches, border.from as usize, border.limit, border.back);
@@ -59,6 +64,7 @@ fn reaches_of(alloc: Global, market: &Market) -> Result<Vec<Reach>, AllocError>
     requires { IsValid market.now }
     ensures long { IfOk result (λ v. length v.items ≡ market.now.zones) }
     ensures reaches { IfOk result (λ v. All (IsReach most_carried) v.items) }
+    ensures each { IfOk result (λ v. (z : ℕ) → z < market.now.zones → IsReachOf market.now.borders z (reach_at v.items z)) }
 {
     let none = Reach { out: 0, into: 0 };
     let mut reaches = vec![in alloc; none; market.zones as usize]?;
@@ -71,6 +77,7 @@ fn reaches_of(alloc: Global, market: &Market) -> Result<Vec<Reach>, AllocError>
 fn more_at(curve: &Curve, reach: Reach, price: i64) -> i64
     requires curve { IsCurve curve.now }
     requires reach { IsReach most_carried reach }
+    ensures { (bs : List BorderRecord) (z : ℕ) → IsReachOf bs z reach → curve.now.least +ℤ result ≡ as_carried bs z (supplied price curve.now) }
 {
     supply_at(curve, price).clamp(-reach.into, reach.out) - curve.least
 }
@@ -79,8 +86,8 @@ fn more_at(curve: &Curve, reach: Reach, price: i64) -> i64
 fn curves_of(alloc: Global, slots: &[Slot], ladders: &[Vec<Rung>]) -> Result<Vec<Curve>, AllocError>
     requires slots { All IsOrderRange slots.now }
     requires ladders { AreLadders slots.now ladders.now }
-    ensures long { IfOk result (λ v. length v.items ≡ length ladders.now) }
     ensures curves { IfOk result (λ v. All IsCurve v.items) }
+    ensures each { IfOk result (λ v. AllZip (λ ladder curve. IsCurveOf slots.now ladder.items curve) ladders.now v.items) }
 {
     let mut curves = Vec::with_capacity(alloc, ladders.len())?;
     for ladder in ladders {
@@ -93,6 +100,7 @@ fn curves_of(alloc: Global, slots: &[Slot], ladders: &[Vec<Rung>]) -> Result<Vec
 fn least_amounts(alloc: Global, slots: &[Slot]) -> Result<Vec<i64>, AllocError>
     requires slots { All IsOrderRange slots.now }
     ensures within { IfOk result (λ v. AllZip IsWithinSlot slots.now v.items) }
+    ensures least { IfOk result (λ v. (k : ℕ) → k < length slots.now → int_at v.items k ≡ (slot_at slots.now k).low) }
 {
     let mut amounts = Vec::with_capacity(alloc, slots.len())?;
     for slot in slots {
@@ -106,7 +114,7 @@ fn part_of(slot: Slot, left: i64) -> i64
     requires range { IsOrderRange slot }
     requires left { pos 0 ≤ℤ left }
     ensures some { pos 0 ≤ℤ result }
-    ensures left { result ≤ℤ left }
+    ensures part { result ≡ int_min left (slot.high -ℤ slot.low) }
     ensures within { IsWithinSlot slot (slot.low +ℤ result) }
 {
     left.min(slot.high - slot.low)
@@ -115,9 +123,12 @@ fn part_of(slot: Slot, left: i64) -> i64
 /// Lets the cheapest slots of a ladder put in so much more than their least, together.
 fn run_cheapest(slots: &[Slot], ladder: &[Rung], more: i64, amounts: &mut [i64])
     requires slots { All IsOrderRange slots.now }
-    requires there { All (λ r. r.place < length slots.now) ladder.now }
+    requires ladder { IsMeritOrder slots.now ladder.now }
     requires within { AllZip IsWithinSlot slots.now amounts.old }
+    requires least { All (λ r. int_at amounts.old r.place ≡ (slot_at slots.now r.place).low) ladder.now }
     ensures within { AllZip IsWithinSlot slots.now amounts.new }
+    ensures merit { IsByMerit slots.now ladder.now (least_of slots.now ladder.now +ℤ more) amounts.new }
+    ensures others { (k : ℕ) → All (λ r. r.place ≢ k) ladder.now → int_at amounts.new k ≡ int_at amounts.old k }
 {
     let mut left = more;
     for rung in ladder {
@@ -143,7 +154,8 @@ pub fn amounts_by_price(
     requires slots { All IsOrderRange slots.now }
     requires long { length ladders.now ≡ market.now.zones }
     requires ladders { AreLadders slots.now ladders.now }
-    ensures { IfOk result (λ v. AllZip IsWithinSlot slots.now v.items) }
+    ensures within { IfOk result (λ v. AllZip IsWithinSlot slots.now v.items) }
+    ensures price { IfOk result (λ v. (p : ℤ) × RunsAt market.now slots.now ladders.now v.items p) }
 {
     let curves = curves_of(alloc, slots, ladders)?;
     let price = balancing_price(&curves);

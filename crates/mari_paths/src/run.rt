@@ -8,7 +8,7 @@ ghost use Rattle.mari_network.specs.Searching.{AreTightPrices};
 ghost use Rattle.mari_network.specs.Slots.{slot_gain};
 
 use crate::drains::drain;
-use mari_network::{Margin, Network, find_chain, search_of};
+use mari_network::{Margin, Network, next_chain, search_of};
 use std::alloc::{AllocError, Global};
 
 /// Improves until no chain is left, and gives the prices that show it.
@@ -33,7 +33,7 @@ pub fn run(
 {
     let mut search = search_of(alloc, network.meeting.len())?;
     loop {
-        match find_chain(alloc, network, amounts, flows, margins, &mut search)? {
+        match next_chain(alloc, network, amounts, flows, margins, &mut search)? {
             Some(mut chain) => {
                 drain(network, amounts, flows, worth, margins, &mut chain);
                 search.hops = chain.hops;

@@ -1,10 +1,11 @@
 //! What a solve starts from: the quantities and flows of an activation, moved within their limits, or what runs at one
 //! price; and what stands in for what they leave out of balance.
 //!
-//! The clauses say that what runs lies within the slots and limits. No clause says that it is the nearest there to the
-//! activation, and no promise rests on that. The slots of orders are the real ones, as against those that stand in.
+//! The clauses say that what runs lies within the slots and limits, and without an activation that the slots run at one
+//! price. No clause says that it is the nearest there to the activation, and no promise rests on that. The slots of
+//! orders are the real ones, as against those that stand in.
 
-ghost use Rattle.std.specs.Prelude.{◌≡◌, ◌<◌, ◌≤◌, ℕ, pos, neg_ℤ, ◌+ℤ◌, ◌-ℤ◌, ◌++◌, length, slice_set, take, IfOk, OnOk};
+ghost use Rattle.std.specs.Prelude.{◌≡◌, ◌<◌, ◌≤◌, ℕ, ℤ, pos, neg_ℤ, ◌+ℤ◌, ◌-ℤ◌, ◌++◌, length, slice_set, take, IfOk, OnOk, None};
 ghost use Rattle.std.specs.List.{All, AllZip};
 ghost use Rattle.mari_market.specs.Sums.{sum_along, int_at};
 ghost use Rattle.mari_market.specs.Activation.{IsWithinLimits, carried_out, put_in};
@@ -12,6 +13,7 @@ ghost use Rattle.mari_market.specs.Market.{IsValid, IsBetween};
 ghost use Rattle.mari_network.specs.Network.{ArePlaces};
 ghost use Rattle.mari_network.specs.Orders.{IsOrderSlot, AreOrderSlots};
 ghost use Rattle.mari_network.specs.Slots.{slot_into, IsSmallSlot, IsWithinSlot};
+ghost use Rattle.mari_paths.specs.Merit.{RunsAt};
 ghost use Rattle.mari_paths.specs.Starts.{most_halfway, most_moved, most_put_in, most_short, stand_ins, IsInOrder, IsNear, AreEven, AreFilled, AreSmallLimits, AreShort, StandInsNear};
 
 use crate::merit::amounts_by_price;
@@ -238,9 +240,11 @@ pub fn first_run(
     requires market { IsValid market.now }
     requires slots { AreOrderSlots market.now.zones market.now.orders slots.now }
     requires places { ArePlaces market.now.zones slots.now market.now.borders places.now }
+    requires on_ladders { places.now.on_ladders ≡ length market.now.orders }
     requires order { All IsInOrder slots.now }
     requires small { All IsSmallSlot slots.now }
     ensures amounts { IfOk result (λ r. AllZip IsWithinSlot slots.now r.0.items) }
+    ensures price { start.entry ≡ None → IfOk result (λ r. (p : ℤ) × RunsAt market.now slots.now places.now.ladders.items r.0.items p) }
     ensures flows { IfOk result (λ r. AllZip IsWithinLimits market.now.borders r.1.items) }
 {
     let borders = market.borders.as_slice();
@@ -300,11 +304,13 @@ pub fn start_from(
     requires market { IsValid market.now }
     requires reals { AreOrderSlots market.now.zones market.now.orders reals.items }
     requires places { ArePlaces market.now.zones reals.items market.now.borders places.now }
+    requires on_ladders { places.now.on_ladders ≡ length market.now.orders }
 
     // The slots, with amounts within them.
     ensures filled { IfOk result (λ s. AreFilled market.now s.slots.items s.amounts.items) }
     ensures reals { IfOk result (λ s. take (length market.now.orders) s.slots.items ≡ reals.items) }
     ensures near { IfOk result (λ s. StandInsNear most_short market.now s.amounts.items) }
+    ensures price { activation.entry ≡ None → IfOk result (λ s. (p : ℤ) × RunsAt market.now reals.items places.now.ladders.items (take (length market.now.orders) s.amounts.items) p) }
 
     // The flows, with which they are in balance.
     ensures limits { IfOk result (λ s. AllZip IsWithinLimits market.now.borders s.flows.items) }

@@ -11,9 +11,9 @@ ghost use Rattle.mari_market.specs.Prefix.{word_of, bounds_at, IsFeasiblePrefix}
 ghost use Rattle.mari_market.specs.Price.{ArePrices};
 ghost use Rattle.mari_market.specs.Relaxation.{IsWithinBounds, IsRelaxedWelfare};
 ghost use Rattle.mari_network.specs.Solving.{IsFoundOptimum, NoneWithin, OfCut};
-ghost use Rattle.mari_paths.specs.Warm.{AreGated, AreOrderLadders, IsWarmStart};
+ghost use Rattle.mari_paths.specs.Warm.{AreGated, AreOrderLadders, IsWarmStart, IsWorkspaceOf};
 
-use crate::changes::set_bounds;
+use crate::changes::{put_back, set_bounds};
 use crate::margins::plain_margins;
 use crate::optimum::solve_network;
 use crate::start::start_from;
@@ -26,10 +26,11 @@ use std::alloc::{AllocError, Global};
 
 /// A market's network with what an activation runs in it, made once for all prefixes of a search.
 ///
-/// Only orders of gates have bounds that depend on the prefix. So a prefix is solved from a copy of this, in which just
-/// those orders are given their bounds, in place of a network made anew from all orders: it costs a copy, and a step for
-/// each of those orders and for each zone. What is found is what `solve_from` finds from that activation, if it is a
-/// relaxed optimum of the prefix that decides no gate; no clause says so, but a test compares them.
+/// Only orders of gates have bounds that depend on the prefix. So a prefix is solved in a workspace, which has the
+/// slots of this, with just those orders given their bounds, in place of a network made anew from all orders: it costs
+/// a copy of what runs, and a step for each of those orders and for each zone. What is found is what `solve_from` finds
+/// from that activation, if it is a relaxed optimum of the prefix that decides no gate; no clause says so, but a test
+/// compares them.
 #[derive(Drop)]
 pub struct WarmStart {
     slots: Vec<Slot>,
@@ -41,6 +42,21 @@ pub struct WarmStart {
     /// The margin of each zone among the orders without a gate.
     plain: Vec<Margin>,
     gated: Vec<usize>,
+}
+
+/// Slots in which one prefix after the other is solved. Between two of them they are the slots of a warm start.
+#[derive(Drop)]
+pub struct Workspace {
+    slots: Vec<Slot>,
+}
+
+impl Workspace {
+    /// One without slots.
+    pub fn empty(alloc: Global) -> Workspace {
+        Workspace {
+            slots: Vec::new(alloc),
+        }
+    }
 }
 
 /// The places of the orders that have a gate.
@@ -89,19 +105,30 @@ impl WarmStart {
         })
     }
 
-    /// The relaxed optimum of a prefix, or a cut.
-    fn answer_at(
+    /// A workspace for this.
+    pub fn workspace(&self, alloc: Global) -> Result<Workspace, AllocError>
+        ensures { IfOk result (IsWorkspaceOf self.now) }
+    {
+        Ok(Workspace {
+            slots: Vec::from_slice(alloc, self.slots.as_slice())?,
+        })
+    }
+
+    /// The relaxed optimum of a prefix, or a cut, solved in these slots. They are as they were after it.
+    fn answer_in(
         &self,
         alloc: Global,
         market: &Market,
         prefix: &Prefix,
+        slots: &mut [Slot],
     ) -> Result<Optimum, SolveFault>
         requires market { IsValid market.now }
         requires prefix { IsFeasiblePrefix market.now prefix.now }
         requires warm { IsWarmStart market.now self.now }
-        ensures { IsFoundOptimum (bounds_at market.now prefix.now) market.now result }
+        requires slots { slots.old ≡ self.now.slots.items }
+        ensures found { IsFoundOptimum (bounds_at market.now prefix.now) market.now result }
+        ensures slots { slots.new ≡ slots.old }
     {
-        let mut slots = Vec::from_slice(alloc, self.slots.as_slice())?;
         let mut amounts = Vec::from_slice(alloc, self.amounts.as_slice())?;
         let flows = Vec::from_slice(alloc, self.flows.as_slice())?;
         let mut worth = self.worth;
@@ -111,13 +138,40 @@ impl WarmStart {
             market,
             prefix,
             gated,
-            &mut slots,
+            slots,
             &mut amounts,
             &mut worth,
             &mut margins,
         );
-        let network = network_of(market, &slots, &self.places);
-        solve_network(alloc, market, &network, amounts, flows, worth, &mut margins)
+        let network = network_of(market, slots, &self.places);
+        let found = solve_network(alloc, market, &network, amounts, flows, worth, &mut margins);
+        put_back(slots, self.slots.as_slice(), gated, self.places.on_ladders);
+        found
+    }
+
+    /// The relaxed optimum of a prefix from what runs in this, as the network has it, solved in a workspace of this. It
+    /// costs no copy of the slots, but a step for each order with a gate and for each zone.
+    pub fn optimum_in(
+        &self,
+        alloc: Global,
+        market: &Market,
+        prefix: &Prefix,
+        workspace: &mut Workspace,
+    ) -> Result<Optimum, SolveFault>
+        // What the caller knows of the market, the prefix, what this was made of, and the workspace.
+        requires market { IsValid market.now }
+        requires prefix { IsFeasiblePrefix market.now prefix.now }
+        requires warm { IsWarmStart market.now self.now }
+        requires workspace { IsWorkspaceOf self.now workspace.old }
+
+        // The optimum, or a cut, and that there is no optimum then.
+        ensures found { IsFoundOptimum (bounds_at market.now prefix.now) market.now result }
+        ensures empty { IfErr result (λ fault. OfCut fault (λ _. NoneWithin (bounds_at market.now prefix.now) market.now)) }
+
+        // The workspace is this one's still, whatever was found.
+        ensures workspace { IsWorkspaceOf self.now workspace.new }
+    {
+        self.answer_in(alloc, market, prefix, &mut workspace.slots)
     }
 
     /// The relaxed optimum of a prefix from what runs in this, as the network has it.
@@ -136,7 +190,8 @@ impl WarmStart {
         ensures found { IsFoundOptimum (bounds_at market.now prefix.now) market.now result }
         ensures empty { IfErr result (λ fault. OfCut fault (λ _. NoneWithin (bounds_at market.now prefix.now) market.now)) }
     {
-        self.answer_at(alloc, market, prefix)
+        let mut workspace = self.workspace(alloc)?;
+        self.optimum_in(alloc, market, prefix, &mut workspace)
     }
 
     /// The places of the orders that have a gate.
@@ -180,7 +235,7 @@ impl WarmStart {
 }
 
 impl WarmStart {
-    /// The places of the market's orders and borders by zone.
+    /// The places of the market's orders and borders by zone. The clause speaks of the orders; none of the borders.
     pub fn places(&self) -> &Places
         ensures { (m : Market) → IsWarmStart m self.now → AreOrderLadders m result.now }
     {

@@ -141,7 +141,8 @@ pub(crate) fn chain_to(
     requires trails { AreTrails settled.now }
     ensures { IfOk result (λ v. IsTrailTo settled.now last v.items) }
 {
-    let mut chain = vec![in alloc; last]?;
+    let mut chain = Vec::with_capacity(alloc, settled.len())?;
+    chain.push(last)?;
     let mut first = last;
     while let Some(before) = previous_of(settled, first) {
         chain.push(before)?;

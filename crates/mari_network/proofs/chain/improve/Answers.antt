@@ -4,6 +4,7 @@ use Rattle.mari_market.specs.Sums.{int_at}
 use Rattle.mari_network.specs.Slots.{no_slot, slot_at, IsWithinSlot}
 use Rattle.mari_network.specs.Chain.{hop_at}
 use Rattle.mari_network.proofs.Chains.{move_balances, move_rises, move_worth, other_slot}
+use Rattle.mari_network.proofs.Resumed.{along_chain}
 use Rattle.mari_network.proofs.chain.improve.Goals as goal
 use Rattle.mari_market.proofs.Sums.{AllZip-at}
 
@@ -65,6 +66,11 @@ returns-clause-moved c =
       more = omega (arith, ints, risen, first source apart, some);
       least = at_source.least;
     }
+
+pub returns-clause-along : goal.returns-clause-along
+returns-clause-along c =
+    along_chain c.args.network.now c.args.amounts.now c.args.flows.now c.move_amount-2.new.amounts c.push_chain.new.flows c.args.chain.now c.requires.chain (returns-clause-moved c)
+    (rw c.deref.ensures.value at c.push_chain.ensures.others)
 
 pub returns-clause-worth : goal.returns-clause-worth
 returns-clause-worth c =

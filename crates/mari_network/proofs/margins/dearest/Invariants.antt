@@ -1,4 +1,4 @@
-use Rattle.std.proofs.Common.{◌≡◌, ℕ, ◌<◌, ℤ, neg_ℤ, ◌≤ℤ◌, ◌<ℤ◌, false, Some, None}
+use Rattle.std.proofs.Common.{◌≡◌, ℕ, ◌<◌, neg_ℤ, ◌≤ℤ◌, ◌<ℤ◌, false, Some, None}
 use Rattle.mari_network.specs.declared.slots.TheConstants.{BEYOND}
 use Rattle.mari_network.specs.Slots.{price_of}
 use Rattle.mari_network.specs.Spread.{is_marked}

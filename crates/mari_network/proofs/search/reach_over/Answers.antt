@@ -1,4 +1,4 @@
-use Rattle.std.proofs.Common.{◌≡◌, ◌<◌, true, false, ℕ, pos, ◌<ℤ◌, to_z-of_z, sym, rules, FitsSigned, w64, arith, set, subst, List, length, ◌++◌, ◌∷◌, []}
+use Rattle.std.proofs.Common.{◌≡◌, ◌<◌, true, false, pos, ◌<ℤ◌, to_z-of_z, sym, rules, FitsSigned, w64, arith, set, subst, List, length, ◌++◌, ◌∷◌, []}
 use Rattle.std.proofs.lemmas.Int.{ints}
 use Rattle.mari_market.specs.Activation.{IsWithinLimits}
 use Rattle.mari_network.specs.declared.chain.Hop.{Hop}

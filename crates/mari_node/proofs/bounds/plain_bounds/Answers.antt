@@ -5,13 +5,8 @@ use Rattle.mari_prices.specs.declared.bounds.End.TheVariants.{Least, Greatest}
 use Rattle.mari_node.proofs.Plain.{bounds_push}
 use Rattle.mari_node.proofs.bounds.plain_bounds.Goals as goal
 
-pub plain_least-requires-clause-ladder : goal.plain_least-requires-clause-ladder
-plain_least-requires-clause-ladder c =
-    subst (λ (ladder : List Rung). IsOrderLadder c.args.market.now c.loop-zone.zone ladder) (sym (c.as_slice-ladder.ensures.value ∙ ap (λ v. v.items) c.index.ensures))
-    (c.requires.ladders.each c.loop-zone.zone c.index.result.now c.loop-zone-test.true)
-
-pub plain_greatest-requires-clause-ladder : goal.plain_greatest-requires-clause-ladder
-plain_greatest-requires-clause-ladder c =
+pub plain_ends-lower-requires-clause-ladder : goal.plain_ends-lower-requires-clause-ladder
+plain_ends-lower-requires-clause-ladder c =
     subst (λ (ladder : List Rung). IsOrderLadder c.args.market.now c.loop-zone.zone ladder) (sym (c.as_slice-ladder.ensures.value ∙ ap (λ v. v.items) c.index.ensures))
     (c.requires.ladders.each c.loop-zone.zone c.index.result.now c.loop-zone-test.true)
 
@@ -23,11 +18,11 @@ loop-zone-preserved c =
     let before = c.loop-zone.invariant in
     let lows = c.loop-zone.least.items in
     let highs = c.loop-zone.greatest.items in
-    let low_fits : FitsSigned w64 c.plain_least.result = search rules in
-    let high_fits : FitsSigned w64 c.plain_greatest.result = search rules in
+    let low_fits : FitsSigned w64 c.plain_ends-lower.result.0 = search rules in
+    let high_fits : FitsSigned w64 c.plain_ends-lower.result.1 = search rules in
     record {
       lows = omega (arith, c.in_ok-push.ensures.len, before.lows);
       highs = omega (arith, c.in_ok-push-2.ensures.len, before.highs);
-      least = bounds_push Least m o z lows c.push.new.self.items (to_z w64 (of_z w64 c.plain_least.result)) c.plain_least.result before.lows c.in_ok-push.ensures.items (to_z-of_z low_fits) before.least c.plain_least.ensures;
-      greatest = bounds_push Greatest m o z highs c.push-in-loop-zone.new.self.items (to_z w64 (of_z w64 c.plain_greatest.result)) c.plain_greatest.result before.highs c.in_ok-push-2.ensures.items (to_z-of_z high_fits) before.greatest c.plain_greatest.ensures;
+      least = bounds_push Least m o z lows c.push.new.self.items (to_z w64 (of_z w64 c.plain_ends-lower.result.0)) c.plain_ends-lower.result.0 before.lows c.in_ok-push.ensures.items (to_z-of_z low_fits) before.least c.plain_ends-lower.ensures.least;
+      greatest = bounds_push Greatest m o z highs c.push-in-loop-zone.new.self.items (to_z w64 (of_z w64 c.plain_ends-lower.result.1)) c.plain_ends-lower.result.1 before.highs c.in_ok-push-2.ensures.items (to_z-of_z high_fits) before.greatest c.plain_ends-lower.ensures.greatest;
     }

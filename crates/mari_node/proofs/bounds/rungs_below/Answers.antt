@@ -1,11 +1,14 @@
-use Rattle.std.proofs.Common.{arith, rules, get_or}
-use Rattle.std.proofs.lemmas.List.Sorted.{IsPartitionPoint-from_clause}
-use lib.Signed.{lt_z}
+use Rattle.std.proofs.Common.{◌-◌, ◌<◌, length, to_z-of_z, FitsSigned, w64, ap, arith, rules}
+use Rattle.std.proofs.lemmas.Int.{ints}
+use Rattle.std.proofs.lemmas.List.{get_or_default}
 use Rattle.mari_network.specs.declared.network.Rung.{Rung}
-use Rattle.mari_network.proofs.Rungs.{parted_below, less}
+use Rattle.mari_network.specs.Network.{no_rung, rung_at}
 use Rattle.mari_node.proofs.bounds.rungs_below.Goals as goal
 
-pub returns-clause-below : goal.returns-clause-below
-returns-clause-below c =
-    let point = IsPartitionPoint-from_clause (λ (r : Rung). lt_z r.price c.args.least) _ _ c.partition_point.ensures.partitioned (parted_below c.args.ladder.now c.args.least c.requires) (λ a r q k. search rules) in
-    λ j d l. less ((get_or c.args.ladder.now j d).price) c.args.least (point.0 j d (omega arith) l)
+pub returns-else-ladder-at-clause-below : goal.returns-else-ladder-at-clause-below
+returns-else-ladder-at-clause-below c = λ j d l.
+    let last = c.loop-at.at - 1 in
+    let there : c.loop-at.at - 1 < length c.args.ladder.now = omega (arith, c.loop-at.invariant, c.loop-at-test.true) in
+    let price : FitsSigned w64 (rung_at c.args.ladder.now last).price = search rules in
+    let same = ap (λ (r : Rung). r.price) (get_or_default c.args.ladder.now last d no_rung there) in
+    omega (arith, ints, to_z-of_z price, to_z-of_z c.ranges.least, same, c.requires.rising j last d (omega arith) there, c.if-ladder-at.false)

@@ -1,10 +1,14 @@
-use Rattle.std.proofs.Common.{◌+◌, ℤ, List, length, sym, ap, ◌∙◌, subst, arith, rules, to_z, of_z, to_z-of_z, FitsSigned, w64}
+use Rattle.std.proofs.Common.{◌≡◌, ◌+◌, ◌<◌, ◌+ℤ◌, ◌-ℤ◌, ℕ, ℤ, List, length, sym, ap, ◌∙◌, subst, arith, rules, to_z, of_z, to_z-of_z, FitsSigned, w64}
 use Rattle.std.specs.Int.{w128}
 use Rattle.std.proofs.lemmas.Int.{ints}
 use Rattle.mari_market.specs.declared.market.Order.{Order}
 use Rattle.mari_market.specs.Sums.{int_at, sum_along}
+use Rattle.mari_market.specs.declared.market.Market.{Market}
+use Rattle.mari_market.specs.Market.{IsValid}
+use Rattle.mari_network.specs.declared.slots.Slot.{Slot}
 use Rattle.mari_network.specs.Slots.{slot_at, slot_gain, IsWithinSlot}
 use Rattle.mari_network.proofs.Lists.{zip_long}
+use Rattle.mari_paths.specs.Starts.{joint_gain, AreFilled}
 use Rattle.mari_paths.proofs.Shortages.{near_wider}
 use Rattle.mari_paths.proofs.Steps.{change_step}
 use Rattle.mari_paths.proofs.Changed.{change_made, filled_worth, same_slot, small_joint, small_loss, small_order, stood_before, IsChanged}
@@ -58,6 +62,13 @@ overflow_sub-worth c =
     let after = small_joint c.args.market.now c.stand_for.new.slots c.stand_for.new.amounts c.args.place all.filled c.requires.place in
     omega (arith, ints, c.gain_with_stand_in-before.ensures, c.gain_with_stand_in.ensures, before.0, before.1, after.0, after.1)
 
+-- what all is worth after a change, as the code has it
+worth_after : (m : Market) (place : ℕ) (s : Slot) (slots new : List Slot) (xs ys : List ℤ) (worth before after : ℤ) → IsValid m → AreFilled m slots xs → place < length m.orders → worth ≡ sum_along slot_gain slots xs
+    → before ≡ joint_gain m slots xs place → after ≡ joint_gain m new ys place → IsChanged m place s slots new xs ys
+    → to_z w128 (of_z w128 worth) +ℤ to_z w128 (of_z w128 (to_z w128 (of_z w128 after) -ℤ to_z w128 (of_z w128 before))) ≡ sum_along slot_gain new ys
+worth_after m place s slots new xs ys worth before after v filled l e f g all =
+    change_step worth _ _ _ _ before after (filled_worth m slots xs v filled) e f g all.worth (small_joint m slots xs place filled l) (small_joint m new ys place all.filled l)
+
 pub overflow_add-worth : goal.overflow_add-worth
 overflow_add-worth c =
     let fits : FitsSigned w64 c.put_slot-less.result = search rules in
@@ -66,11 +77,8 @@ overflow_add-worth c =
     (length c.as_slice.result.now + c.args.slot.zone) c.args.slot c.put_slot-less.result c.requires.filled c.requires.near c.requires.place c.requires.slot c.requires.zone c.put_slot-less.ensures.within
     (ap (λ (os : List Order). length os + c.args.slot.zone) c.as_slice.ensures) c.put_slot-less.ensures.slots c.put_slot-less.ensures.amounts
     (rw (to_z-of_z fits) at c.stand_for.ensures.slots) (rw (to_z-of_z fits) at c.stand_for.ensures.amounts) in
-    let before = small_joint c.args.market.now c.args.slots.now c.args.amounts.now c.args.place c.requires.filled c.requires.place in
-    let after = small_joint c.args.market.now c.stand_for.new.slots c.stand_for.new.amounts c.args.place all.filled c.requires.place in
     let worth : FitsSigned w128 (sum_along slot_gain c.stand_for.new.slots c.stand_for.new.amounts) = filled_worth c.args.market.now c.stand_for.new.slots c.stand_for.new.amounts c.requires.market all.filled in
-    let old : FitsSigned w128 (sum_along slot_gain c.args.slots.now c.args.amounts.now) = filled_worth c.args.market.now c.args.slots.now c.args.amounts.now c.requires.market c.requires.filled in
-    subst (λ (x : ℤ). FitsSigned w128 x) (sym (change_step c.args.worth.now _ _ _ _ _ _ old c.requires.worth c.gain_with_stand_in-before.ensures c.gain_with_stand_in.ensures all.worth before after)) worth
+    subst (λ (x : ℤ). FitsSigned w128 x) (sym (worth_after c.args.market.now c.args.place c.args.slot c.args.slots.now c.stand_for.new.slots c.args.amounts.now c.stand_for.new.amounts c.args.worth.now c.gain_with_stand_in-before.result c.gain_with_stand_in.result c.requires.market c.requires.filled c.requires.place c.requires.worth c.gain_with_stand_in-before.ensures c.gain_with_stand_in.ensures all)) worth
 
 pub returns : goal.returns
 returns c =
@@ -80,15 +88,12 @@ returns c =
     (length c.as_slice.result.now + c.args.slot.zone) c.args.slot c.put_slot-less.result c.requires.filled c.requires.near c.requires.place c.requires.slot c.requires.zone c.put_slot-less.ensures.within
     (ap (λ (os : List Order). length os + c.args.slot.zone) c.as_slice.ensures) c.put_slot-less.ensures.slots c.put_slot-less.ensures.amounts
     (rw (to_z-of_z fits) at c.stand_for.ensures.slots) (rw (to_z-of_z fits) at c.stand_for.ensures.amounts) in
-    let before = small_joint c.args.market.now c.args.slots.now c.args.amounts.now c.args.place c.requires.filled c.requires.place in
-    let after = small_joint c.args.market.now c.stand_for.new.slots c.stand_for.new.amounts c.args.place all.filled c.requires.place in
     let worth : FitsSigned w128 (sum_along slot_gain c.stand_for.new.slots c.stand_for.new.amounts) = filled_worth c.args.market.now c.stand_for.new.slots c.stand_for.new.amounts c.requires.market all.filled in
-    let old : FitsSigned w128 (sum_along slot_gain c.args.slots.now c.args.amounts.now) = filled_worth c.args.market.now c.args.slots.now c.args.amounts.now c.requires.market c.requires.filled in
     record {
       filled = all.filled;
       near = all.near;
       into = all.into;
-      worth = ap (λ (x : ℤ). to_z w128 (of_z w128 x)) (change_step c.args.worth.now _ _ _ _ _ _ old c.requires.worth c.gain_with_stand_in-before.ensures c.gain_with_stand_in.ensures all.worth before after) ∙ to_z-of_z worth;
+      worth = ap (λ (x : ℤ). to_z w128 (of_z w128 x)) (worth_after c.args.market.now c.args.place c.args.slot c.args.slots.now c.stand_for.new.slots c.args.amounts.now c.stand_for.new.amounts c.args.worth.now c.gain_with_stand_in-before.result c.gain_with_stand_in.result c.requires.market c.requires.filled c.requires.place c.requires.worth c.gain_with_stand_in-before.ensures c.gain_with_stand_in.ensures all) ∙ to_z-of_z worth;
       here = all.here;
       others = all.others;
       zones = all.zones;

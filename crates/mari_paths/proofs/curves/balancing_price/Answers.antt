@@ -1,7 +1,12 @@
-use Rattle.std.proofs.Common.{◌≡◌, ◌/◌, ◌≤◌, pos, ℤ, ◌+ℤ◌, ◌≤ℤ◌, arith, ap, ◌∙◌, to_z, of_z, to_z-of_z, FitsSigned, w64, rules}
+use Rattle.std.proofs.Common.{◌≡◌, ◌⊎◌, inr, ◌/◌, ◌-◌, ◌≤◌, ℕ, ℤ, pos, ◌+ℤ◌, ◌≤ℤ◌, ◌<ℤ◌, arith, ap, subst, ◌∙◌, to_z, of_z, to_z-of_z, FitsSigned, w64, rules}
 use Rattle.std.proofs.lemmas.Int.{ints}
 use Rattle.mari_network.specs.declared.slots.TheConstants.{BEYOND}
+use Rattle.mari_paths.specs.Merit.{supplied_by_all}
 use Rattle.mari_paths.proofs.curves.balancing_price.Goals as goal
+
+-- what is above the middle's part of the range is above the range
+above_all : (P : ℤ → Type 0) (price middle : ℤ) (width half : ℕ) → middle ≡ price +ℤ pos half → half ≤ width → P (price +ℤ pos width) → P (middle +ℤ pos (width - half))
+above_all P price middle width half e l h = subst P (omega (arith, ints, e, l)) h
 
 pub loop-width-preserved : goal.loop-width-preserved
 loop-width-preserved c =
@@ -16,4 +21,6 @@ loop-width-preserved c =
       some = omega (arith, c.loop-width-test.true);
       low = omega (arith, ints, middle, c.loop-width.invariant.low);
       high = omega (arith, ints, middle, less, c.loop-width.invariant.high);
+      here = inr (search rules);
+      above = above_all (λ x. (x ≡ BEYOND) ⊎ (pos 0 <ℤ supplied_by_all c.args.curves.now x)) (to_z w64 c.loop-width.price-bits) _ c.loop-width.width (c.loop-width.width / 2) middle less c.loop-width.invariant.above;
     }

@@ -1,5 +1,6 @@
 use Rattle.std.proofs.Common.{◌≡◌, length, ◌<ℤ◌}
 use Rattle.mari_market.specs.Sums.{sum_along}
+use Rattle.mari_network.specs.Searching.{IsMovedAlong}
 use Rattle.mari_network.specs.Slots.{slot_gain}
 use Rattle.mari_network.specs.Margins.{AreMargins}
 use Rattle.mari_network.specs.Network.{Runs}
@@ -13,6 +14,8 @@ invariant-loop-amounts l = record {
   worth : l.worth ≡ sum_along slot_gain l.network.slots.now l.amounts;
   margins : AreMargins l.network.slots.now l.amounts (length l.network.meeting.now) (length l.network.slots.now) l.margins;
   hops : AreHops (length l.network.meeting.now) l.network.borders.now l.chain.hops.items;
+  same : l.chain.hops ≡ l.fn.chain.hops;
+  along : IsMovedAlong l.network.slots.now l.network.borders.now l.fn.chain.hops.items l.fn.amounts l.fn.flows l.amounts l.flows;
   rises : sum_along slot_gain l.network.slots.now l.fn.amounts <ℤ sum_along slot_gain l.network.slots.now l.amounts;
 }
 

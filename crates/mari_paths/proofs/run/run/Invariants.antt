@@ -3,7 +3,7 @@ use Rattle.mari_market.specs.Sums.{sum_along}
 use Rattle.mari_network.specs.Slots.{slot_gain}
 use Rattle.mari_network.specs.Margins.{AreMargins}
 use Rattle.mari_network.specs.Network.{Runs}
-use Rattle.mari_network.specs.Searching.{HasZones}
+use Rattle.mari_network.specs.Searching.{HasLevels}
 use Rattle.mari_network.proofs.Worths.{room_left}
 use Rattle.mari_paths.proofs.run.run.Given as goal
 
@@ -12,7 +12,7 @@ invariant-loop-search l = record {
   runs : Runs l.network l.amounts l.flows;
   worth : l.worth ≡ sum_along slot_gain l.network.slots.now l.amounts;
   margins : AreMargins l.network.slots.now l.amounts (length l.network.meeting.now) (length l.network.slots.now) l.margins;
-  search : HasZones (length l.network.meeting.now) l.search;
+  search : HasLevels l.network l.amounts l.flows l.search;
 }
 
 abbrev pub decreases-loop-search : goal.decreases-loop-search

@@ -15,7 +15,7 @@ loop-before-preserved c =
     let s = c.requires.trails.settled c.loop-before.first c.loop-before.invariant.there in
     let previous : s.0.previous ≡ Some c.in-Some.before = sym (c.previous_of.ensures s.0 s.1) ∙ c.in-Some.is in
     let t = c.requires.trails.before c.loop-before.first c.in-Some.before s.0 s.1 previous in
-    let items : c.push.new.self.items ≡ c.loop-before.chain.items ++ c.in-Some.before ∷ [] = c.in_ok-push.ensures.items in
+    let items : c.push-in-Some.new.self.items ≡ c.loop-before.chain.items ++ c.in-Some.before ∷ [] = c.in_ok-push-2.ensures.items in
     let trail = c.loop-before.invariant.trail in
     record {
       there = entry_within c.args.settled.now c.in-Some.before t.0 t.1;
@@ -25,7 +25,7 @@ loop-before-preserved c =
         follows = (record { entry = s.0; settled = s.1; previous = previous }, trail.follows);
         ends = trail.ends;
       };
-      long = omega (arith, ap depth_of s.1, ap depth_of t.1, t.2, c.in_ok-push.ensures.len, c.loop-before.invariant.long);
+      long = omega (arith, ap depth_of s.1, ap depth_of t.1, t.2, c.in_ok-push-2.ensures.len, c.loop-before.invariant.long);
     }
 
 pub returns : goal.returns

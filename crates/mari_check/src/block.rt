@@ -1,10 +1,11 @@
 //! The check of a published block.
 
-ghost use Rattle.std.specs.Prelude.{◌≡◌, ◌≤◌, ℕ, List, Option, IfOk, IfSome, IsTrue, ◌↔◌, None, option_map, pos};
+ghost use Rattle.std.specs.Prelude.{◌≡◌, ◌≤◌, ℕ, List, Option, IfOk, IfSome, IsTrue, ◌↔◌, None, length, option_map, pos};
 ghost use Rattle.mari_market.specs.Activation.{gate_word_of, welfare_of};
 ghost use Rattle.mari_units.specs.declared.numbers.Cents.{Cents as TheCents};
 ghost use Rattle.mari_market.specs.Market.{IsValid};
 ghost use Rattle.mari_market.specs.Optimal.{IsConsistent, IsFeasible};
+ghost use Rattle.mari_market.specs.Prefix.{word_of, IsFeasiblePrefix};
 ghost use Rattle.mari_market.specs.Price.{ArePrices};
 ghost use Rattle.mari_remain.specs.Accepted.{IsAccepted};
 ghost use Rattle.mari_check.specs.Examined.{ExaminesBlock};
@@ -24,9 +25,9 @@ use crate::pricing::{has_intervals, has_published_prices};
 use crate::reported::{activation_of, areas_of, prices_of};
 use crate::tree::has_shape;
 use mari_gates::gate_word;
-use mari_market::{Activation, Market, Prices, TreeItem};
+use mari_market::{Activation, Market, Prefix, Prices, TreeItem};
 use mari_progress::heading;
-use mari_proofs::{TreeVerdict, check_tree};
+use mari_proofs::{DualTable, FEW_ITEMS, TreeVerdict, check_tree, check_tree_by};
 use mari_publish::{FullBlock, Heading};
 use mari_remain::{Books, RunMarket};
 use mari_settle::Ledger;
@@ -146,38 +147,66 @@ fn is_whole_within(market: &Market, tree: &[TreeItem], budget: Option<u32>) -> b
     fits && has_shape(market, tree)
 }
 
+/// Whether a tree holds for the market, or the first place at which it doesn't, as `check_tree` says. The bounds of a
+/// large tree are tested by a table.
+fn tree_verdict(
+    alloc: Global,
+    market: &Market,
+    tree: &[TreeItem],
+    cutoff: Quarters,
+    word: &Prefix,
+) -> Result<TreeVerdict, Memory>
+    requires valid { IsValid market.now }
+    requires word { IsFeasiblePrefix market.now word.now }
+    requires full { word.now.length ≡ length market.now.gates }
+    ensures { IfOk result (λ verdict. (verdict ≡ TreeVerdict.Holds) ↔ TreeHoldsFor market.now cutoff.0 (word_of word.now) tree.now) }
+{
+    if tree.len() <= FEW_ITEMS {
+        return Ok(check_tree(market, tree, cutoff, word));
+    }
+    let table = DualTable::of(alloc, market)?;
+    Ok(check_tree_by(market, &table, tree, cutoff, word))
+}
+
 /// Whether each leaf of the tree holds at the block's welfare for the gate word of its activation.
-fn has_leaves(market: &Market, block: &FullBlock, activation: &Activation) -> bool
+fn has_leaves(
+    alloc: Global,
+    market: &Market,
+    block: &FullBlock,
+    activation: &Activation,
+) -> Result<bool, Memory>
     requires valid { IsValid market.now }
     requires activation { activation.now ≡ activation_reported block.now }
     requires feasible { IsFeasible market.now activation.now }
-    ensures { IsTrue result ↔ TreeHoldsFor market.now (pos block.now.welfare) (gate_word_of market.now (activation_reported block.now)) block.now.tree }
+    ensures { IfOk result (λ holds. IsTrue holds ↔ TreeHoldsFor market.now (pos block.now.welfare) (gate_word_of market.now (activation_reported block.now)) block.now.tree) }
 {
     let word = gate_word(market, activation);
     let cutoff = Quarters(i128::from(block.welfare));
-    check_tree(market, block.tree.as_slice(), cutoff, &word) == TreeVerdict::Holds
+    let verdict = tree_verdict(alloc, market, block.tree.as_slice(), cutoff, &word)?;
+    Ok(verdict == TreeVerdict::Holds)
 }
 
 /// A fault of the tree's shape, or of a leaf.
 fn tree_fault(
+    alloc: Global,
     market: &Market,
     block: &FullBlock,
     activation: &Activation,
     budget: Option<u32>,
-) -> Option<Fault>
+) -> Result<Option<Fault>, Memory>
     requires valid { IsValid market.now }
     requires activation { activation.now ≡ activation_reported block.now }
     requires feasible { IsFeasible market.now activation.now }
     ensures { (books : TheBooks) (run : ℕ) (made : TheRunMarket) (also : Option (List TheCents)) → made.market ≡ market.now
-        → NoneBelow (IsFreeOf books run made also budget block.now) 9 → FindsUpTo (IsFreeOf books run made also budget block.now) 11 result }
+        → NoneBelow (IsFreeOf books run made also budget block.now) 9 → IfOk result (FindsUpTo (IsFreeOf books run made also budget block.now) 11) }
 {
     if !is_whole_within(market, block.tree.as_slice(), budget) {
-        return Some(Fault::Tree);
+        return Ok(Some(Fault::Tree));
     }
-    if !has_leaves(market, block, activation) {
-        return Some(Fault::Leaf);
+    if !has_leaves(alloc, market, block, activation)? {
+        return Ok(Some(Fault::Leaf));
     }
-    None
+    Ok(None)
 }
 
 /// A fault of the activation, of its welfare, of the prices, intervals and areas, or of the tree.
@@ -201,7 +230,7 @@ fn market_fault(
     if let Some(fault) = pricing_fault(alloc, market, block, activation)? {
         return Ok(Some(fault));
     }
-    Ok(tree_fault(market, block, activation, budget))
+    tree_fault(alloc, market, block, activation, budget)
 }
 
 /// What is found of a published block of a run with this market, whose quarter has these scheduled prices, or none.

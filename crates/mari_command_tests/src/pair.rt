@@ -10,7 +10,7 @@ use mari_market::{Conflict, Finding, Leaf, Market, Prefix, Prices, Relaxed};
 use mari_node::examine;
 use mari_proofs::{check_leaf, dual_value};
 use mari_units::{Cents, Items, Memory, Quarters};
-use mari_workers::{Root, Turnstile};
+use mari_workers::{Root, Turnstile, Workspace};
 use std::alloc::{AllocError, Global};
 use std::sync::atomic::{AtomicBool, AtomicU64, Ordering};
 use std::thread;
@@ -151,6 +151,7 @@ impl Turnstile for Pair {
         market: &Market,
         prefix: &Prefix,
         _root: &Root,
+        _workspace: &mut Workspace,
     ) -> Result<Finding, Memory> {
         if prefix.length == 0 {
             self.at_the_root.fetch_add(1, Ordering::SeqCst);

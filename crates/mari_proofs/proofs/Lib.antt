@@ -8,3 +8,5 @@ pub mod LeafLaws
 pub mod TreeWalk
 pub mod TreeLaws
 pub mod Idle
+pub mod Ladders
+pub mod DualTables

@@ -3,3 +3,4 @@ pub mod Conflicts
 pub mod Leaves
 pub mod Places
 pub mod Steps
+pub mod Tables

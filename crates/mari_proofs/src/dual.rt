@@ -18,7 +18,7 @@ use mari_market::{Border, MOST_GAP, MOST_ORDERS, MOST_WORTH, Market, Order, Pref
 use mari_units::{Cents, MOST_BORDERS, MOST_FLOW, MOST_GATES, MOST_MW, Quarters};
 
 /// What a quantity in MW gains, in quarter-cents, at a gain for each MW.
-fn amount(gap: i64, mw: u32) -> i64
+pub(crate) fn amount(gap: i64, mw: u32) -> i64
     requires low { neg_ℤ (pos MOST_GAP) ≤ℤ gap }
     requires high { gap ≤ℤ pos MOST_GAP }
     requires mw { mw ≤ MOST_FLOW }
@@ -119,7 +119,7 @@ fn best_border(border: &Border, potentials: &[Cents]) -> i64
 }
 
 /// The most that all orders gain.
-fn orders_value(orders: &[Order], states: &GateStates, potentials: &[Cents]) -> i64
+pub(crate) fn orders_value(orders: &[Order], states: &GateStates, potentials: &[Cents]) -> i64
     requires few { length orders.now ≤ MOST_ORDERS }
     requires orders { All (IsValidOrder (length potentials.now) MOST_GATES) orders.now }
     requires potentials { All IsCapped potentials.now }
@@ -135,7 +135,7 @@ fn orders_value(orders: &[Order], states: &GateStates, potentials: &[Cents]) -> 
 }
 
 /// The most that all borders earn.
-fn borders_value(borders: &[Border], potentials: &[Cents]) -> i64
+pub(crate) fn borders_value(borders: &[Border], potentials: &[Cents]) -> i64
     requires few { length borders.now ≤ MOST_BORDERS }
     requires borders { All (IsValidBorder (length potentials.now)) borders.now }
     requires potentials { All IsCapped potentials.now }

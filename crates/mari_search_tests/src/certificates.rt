@@ -7,7 +7,10 @@ use crate::small::{
 };
 use mari_gates::prefix_feasible;
 use mari_market::{Conflict, Cut, CutSide, Leaf, Market, Prefix, Prices, TreeItem};
-use mari_proofs::{TreeVerdict, check_leaf, check_tree, dual_value};
+use mari_proofs::{
+    DualTable, TreeVerdict, check_leaf, check_leaf_by, check_tree, check_tree_by, dual_value,
+    dual_value_by,
+};
 use mari_units::{Cents, Items, Quarters};
 use std::alloc::{AllocError, Global};
 use std::test::Fail;
@@ -145,21 +148,41 @@ fn holds(market: &Market, prefix: Prefix, leaf: &Leaf, cutoff: i128) -> Option<b
     }
 }
 
-/// Whether the certificate of a case holds.
-fn holds_in(alloc: Global, case: &Case) -> Result<Option<bool>, Fail> {
+/// The same by a table of the market.
+fn holds_by(
+    alloc: Global,
+    market: &Market,
+    prefix: Prefix,
+    leaf: &Leaf,
+    cutoff: i128,
+) -> Result<Option<bool>, AllocError> {
+    if market.valid() && prefix_feasible(market, &prefix) {
+        let table = DualTable::of(alloc, market)?;
+        let cutoff = Quarters(cutoff);
+        Ok(Some(check_leaf_by(market, &table, &prefix, leaf, cutoff)))
+    } else {
+        Ok(None)
+    }
+}
+
+/// Whether the certificate of a case holds, and whether it does by a table.
+fn holds_in(alloc: Global, case: &Case) -> Result<(Option<bool>, Option<bool>), Fail> {
     let leaf = leaf_of(alloc, &case.leaf)?;
     let market = market_of(alloc, &case.market)?;
-    let holds = holds(&market, one_gate(case.open), &leaf, case.cutoff);
+    let prefix = one_gate(case.open);
+    let plain = holds(&market, prefix, &leaf, case.cutoff);
+    let by_table = holds_by(alloc, &market, prefix, &leaf, case.cutoff)?;
     drop(market);
     drop(leaf);
-    Ok(holds)
+    Ok((plain, by_table))
 }
 
 #[test]
 fn certificates_that_hold_or_not(rt: HostRuntime) -> Result<(), Fail> {
     for case in CASES {
-        let holds = holds_in(rt.alloc(), case)?;
-        same_in(&rt, case.name, holds, Some(case.holds));
+        let (plain, by_table) = holds_in(rt.alloc(), case)?;
+        same_in(&rt, case.name, plain, Some(case.holds));
+        same_in(&rt, case.name, by_table, Some(case.holds));
     }
     Ok(())
 }
@@ -177,14 +200,35 @@ fn value(market: &Market, prefix: Prefix, potentials: &Prices) -> Option<i128> {
     }
 }
 
+/// The same by a table of the market.
+fn value_by(
+    alloc: Global,
+    market: &Market,
+    prefix: Prefix,
+    potentials: &Prices,
+) -> Result<Option<i128>, AllocError> {
+    let at_the_cap = match potentials.cents.as_slice() {
+        [Cents(9_999_900)] => market.zones == 1,
+        _ => false,
+    };
+    if market.valid() && prefix_feasible(market, &prefix) && at_the_cap {
+        let table = DualTable::of(alloc, market)?;
+        Ok(Some(dual_value_by(market, &table, &prefix, potentials).0))
+    } else {
+        Ok(None)
+    }
+}
+
 #[test]
 fn a_rejected_paradox_bid_leaves_its_dual_value(rt: HostRuntime) -> Result<(), Fail> {
     let cap = prices_of(rt.alloc(), &[9_999_900])?;
     let market = market_of(rt.alloc(), &PARADOX)?;
-    let value = value(&market, one_gate(false), &cap);
+    let plain = value(&market, one_gate(false), &cap);
+    let by_table = value_by(rt.alloc(), &market, one_gate(false), &cap)?;
     drop(market);
     drop(cap);
-    same(&rt, value, Some(399_956_000));
+    same(&rt, plain, Some(399_956_000));
+    same(&rt, by_table, Some(399_956_000));
     Ok(())
 }
 
@@ -326,22 +370,47 @@ fn verdict(market: &Market, tree: &[TreeItem], cutoff: i128, word: Prefix) -> Op
     }
 }
 
-/// The verdict on the tree of a case.
-fn verdict_in(alloc: Global, case: &TreeCase) -> Result<Option<TreeVerdict>, Fail> {
+/// The same by a table of the market.
+fn verdict_by(
+    alloc: Global,
+    market: &Market,
+    tree: &[TreeItem],
+    cutoff: i128,
+    word: Prefix,
+) -> Result<Option<TreeVerdict>, AllocError> {
+    if market.valid()
+        && prefix_feasible(market, &word)
+        && word.length as usize == market.gates.as_slice().len()
+    {
+        let table = DualTable::of(alloc, market)?;
+        let cutoff = Quarters(cutoff);
+        Ok(Some(check_tree_by(market, &table, tree, cutoff, &word)))
+    } else {
+        Ok(None)
+    }
+}
+
+/// The verdict on the tree of a case, and that by a table.
+fn verdicts_in(
+    alloc: Global,
+    case: &TreeCase,
+) -> Result<(Option<TreeVerdict>, Option<TreeVerdict>), Fail> {
     let market = market_of(alloc, &case.market)?;
     let tree = tree_of(alloc, case.tree)?;
     let word = prefix(case.gates, case.bits);
-    let verdict = verdict(&market, &tree, case.cutoff, word);
+    let plain = verdict(&market, &tree, case.cutoff, word);
+    let by_table = verdict_by(alloc, &market, &tree, case.cutoff, word)?;
     drop(tree);
     drop(market);
-    Ok(verdict)
+    Ok((plain, by_table))
 }
 
 #[test]
 fn verdicts_on_trees(rt: HostRuntime) -> Result<(), Fail> {
     for case in TREE_CASES {
-        let verdict = verdict_in(rt.alloc(), case)?;
-        same_in(&rt, case.name, verdict, Some(case.verdict));
+        let (plain, by_table) = verdicts_in(rt.alloc(), case)?;
+        same_in(&rt, case.name, plain, Some(case.verdict));
+        same_in(&rt, case.name, by_table, Some(case.verdict));
     }
     Ok(())
 }

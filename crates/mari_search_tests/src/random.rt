@@ -11,7 +11,7 @@ use mari_market::{
     TreeItem,
 };
 use mari_units::{Cents, Items, Memory};
-use mari_workers::{Root, Turnstile};
+use mari_workers::{Root, Turnstile, Workspace};
 use std::alloc::{AllocError, Global};
 use std::sync::Wait;
 use std::sync::atomic::{AtomicU64, Ordering};
@@ -145,12 +145,13 @@ impl Turnstile for Yielding {
         market: &Market,
         prefix: &Prefix,
         root: &Root,
+        workspace: &mut Workspace,
     ) -> Result<Finding, Memory> {
         let count = self.count.fetch_add(1, Ordering::SeqCst);
         for _ in 0..count.wrapping_mul(0x9E37_79B9_7F4A_7C15) >> 60 {
             thread::yield_now();
         }
-        root.examine(alloc, market, prefix)
+        root.examine_in(alloc, market, prefix, workspace)
     }
 }
 

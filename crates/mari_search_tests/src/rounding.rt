@@ -11,7 +11,7 @@ use mari_incumbent::{Incumbent, Seat};
 use mari_market::{Attained, Finding, Market, Prefix};
 use mari_pool::{Pool, SearchName, Took};
 use mari_units::Memory;
-use mari_workers::{Root, Turnstile, first_of, work};
+use mari_workers::{Root, Turnstile, Workspace, first_of, work};
 use std::alloc::Global;
 use std::marker::Brand;
 use std::sync::{Condvar, Mutex, Wait};
@@ -54,11 +54,12 @@ impl Turnstile for RootAlone {
         market: &Market,
         prefix: &Prefix,
         root: &Root,
+        workspace: &mut Workspace,
     ) -> Result<Finding, Memory> {
         if prefix.length > 0 {
             return Err(Memory);
         }
-        root.examine(alloc, market, prefix)
+        root.examine_in(alloc, market, prefix, workspace)
     }
 }
 

@@ -7,7 +7,7 @@ use crate::same::{same, same_in};
 use crate::small::{DOWN, Few, MarketRow, OVERSIZED, PARADOX, UP, few, market_of};
 use mari_market::{Cleared, Clearer, Finding, Leaf, Market, PartItem, Prefix, TreeItem};
 use mari_units::Memory;
-use mari_workers::{Alone, Crew, FreeTurnstile, Root, Turnstile, search, search_alone};
+use mari_workers::{Alone, Crew, FreeTurnstile, Root, Turnstile, Workspace, search, search_alone};
 use std::alloc::Global;
 use std::sync::Wait;
 use std::test::Fail;
@@ -208,6 +208,7 @@ impl Turnstile for Starved {
         _market: &Market,
         _prefix: &Prefix,
         _root: &Root,
+        _workspace: &mut Workspace,
     ) -> Result<Finding, Memory> {
         Err(Memory)
     }

@@ -3,14 +3,14 @@
 ghost use Rattle.std.specs.Prelude.{◌≡◌, ◌<◌, ◌+◌, length};
 ghost use Rattle.mari_market.specs.Market.{IsValid};
 ghost use Rattle.mari_market.specs.Prefix.{IsFeasiblePrefix};
-ghost use Rattle.mari_paths.specs.Warm.{IsWarmStart};
+ghost use Rattle.mari_paths.specs.Warm.{IsWarmStart, IsWorkspaceOf};
 
 use crate::random::{Dice, Sum};
 use crate::same::same;
 use mari_flow::solve;
 use mari_gates::{child_of, empty_prefix, may_branch_up};
 use mari_market::{Activation, Market, Prefix};
-use mari_paths::{SolveFault, Solved, WarmStart, solve_from};
+use mari_paths::{SolveFault, Solved, WarmStart, Workspace, solve_from};
 use std::alloc::Global;
 use std::process::Abort;
 use std::test::Fail;
@@ -40,6 +40,24 @@ fn welfare(reported: Option<(u64, u64)>) -> Option<u64> {
     }
 }
 
+/// What a warm start finds at a prefix, in a workspace that was used for the prefixes before it.
+fn solve_in(
+    alloc: Global,
+    market: &Market,
+    prefix: &Prefix,
+    warm: &WarmStart,
+    workspace: &mut Workspace,
+) -> Result<Solved, SolveFault>
+    requires market { IsValid market.now }
+    requires prefix { IsFeasiblePrefix market.now prefix.now }
+    requires warm { IsWarmStart market.now warm.now }
+    requires workspace { IsWorkspaceOf warm.now workspace.old }
+    ensures workspace { IsWorkspaceOf warm.now workspace.new }
+{
+    let optimum = warm.optimum_in(alloc, market, prefix, workspace)?;
+    Ok(optimum.solved(alloc, market)?)
+}
+
 /// Compares what a warm start finds at a prefix with what the plain solver does: the welfare; and, where it is made from
 /// an optimum, with what the fast solver does from that: all.
 fn compare(
@@ -48,13 +66,16 @@ fn compare(
     market: &Market,
     prefix: &Prefix,
     warm: &WarmStart,
+    workspace: &mut Workspace,
     optimum: Option<&Activation>,
 ) -> Result<(), Fail>
     requires market { IsValid market.now }
     requires prefix { IsFeasiblePrefix market.now prefix.now }
     requires warm { IsWarmStart market.now warm.now }
+    requires workspace { IsWorkspaceOf warm.now workspace.old }
+    ensures workspace { IsWorkspaceOf warm.now workspace.new }
 {
-    let found = reported(warm.solve(alloc, market, prefix))?;
+    let found = reported(solve_in(alloc, market, prefix, warm, workspace))?;
     let plain = reported(solve(alloc, market, prefix))?;
     same(rt, welfare(found), welfare(plain));
     if optimum.is_some() {
@@ -90,12 +111,13 @@ fn walk(
     requires { IsValid market.now }
 {
     let warm = WarmStart::of(alloc, market, optimum)?;
+    let mut workspace = warm.workspace(alloc)?;
     let mut prefix = empty_prefix();
     while (prefix.length as usize) < market.gates.as_slice().len() {
-        compare(rt, alloc, market, &prefix, &warm, optimum)?;
+        compare(rt, alloc, market, &prefix, &warm, &mut workspace, optimum)?;
         prefix = next(dice, market, &prefix);
     }
-    compare(rt, alloc, market, &prefix, &warm, optimum)
+    compare(rt, alloc, market, &prefix, &warm, &mut workspace, optimum)
 }
 
 /// Walks through a market with a warm start from the root's optimum, and with one without a start.

@@ -1,7 +1,8 @@
 -- Where the examinations of a search begin.
-use Rattle.std.specs.Prelude.{◌≡◌, []}
+use Rattle.std.specs.Prelude.{◌≡◌, [], ⊤}
 use Rattle.mari_market.specs.declared.market.Market.{Market}
-use Rattle.mari_paths.specs.Warm.{IsWarmStart}
+use Rattle.mari_paths.specs.Warm.{IsWarmStart, IsWorkspaceOf}
+use Rattle.mari_paths.specs.declared.warm.Workspace.{Workspace}
 use Rattle.mari_workers.specs.declared.root.Ahead.{Ahead}
 use Rattle.mari_workers.specs.declared.root.Ahead.TheVariants.{Known, Warm}
 use Rattle.mari_workers.specs.declared.root.Root.{Root as RootRecord}
@@ -12,6 +13,15 @@ use Rattle.mari_workers.specs.Closed.{IsClosedOptimum}
 abbrev pub IsAhead : Market → Ahead → Type 0
 IsAhead m (Known closed) = (m.gates ≡ []) × IsClosedOptimum m closed
 IsAhead m (Warm optimum start) = IsWarmStart m start
+
+-- the slots in which a prefix is solved from what is ahead, if one is
+abbrev pub IsSpaceFor : Ahead → Workspace → Type 0
+IsSpaceFor (Known closed) workspace = ⊤
+IsSpaceFor (Warm optimum start) workspace = IsWorkspaceOf start workspace
+
+-- a workspace for examinations from this root
+abbrev pub IsWorkspaceAt : RootRecord → Workspace → Type 0
+IsWorkspaceAt r workspace = IsSpaceFor r.ahead workspace
 
 -- what the examinations of the market's prefixes begin with
 pub record IsRootOf (m : Market) (r : RootRecord) : Type 0 where

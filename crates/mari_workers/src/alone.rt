@@ -11,7 +11,7 @@ ghost use Rattle.mari_market.specs.Prefix.{word_of, IsFeasiblePrefix};
 ghost use Rattle.mari_pool.specs.Queued.{IsMore};
 ghost use Rattle.mari_workers.specs.Alone.{best_in, after_offer, IsAtNode, IsFinished, IsUnderWay, IsVisited};
 ghost use Rattle.mari_workers.specs.Refine.{MayRefine};
-ghost use Rattle.mari_workers.specs.Root.{IsRootOf};
+ghost use Rattle.mari_workers.specs.Root.{IsRootOf, IsWorkspaceAt};
 
 use crate::bounds::BranchBounds;
 use crate::publishing::published_from;
@@ -19,6 +19,7 @@ use crate::root::Root;
 use crate::rounding::best_rounded;
 use mari_core::{Event, FinishFault, Search};
 use mari_market::{Attained, Cleared, Clearer, Clearing, Finding, Market, Prefix, Spent};
+use mari_paths::Workspace;
 use mari_pool::{Queue, child_key};
 use mari_units::{Items, Memory};
 use std::alloc::{AllocError, Global};
@@ -112,16 +113,19 @@ fn visit(
     node: u32,
     prefix: &Prefix,
     root: &Root,
+    workspace: &mut Workspace,
 ) -> Result<u64, Memory>
     requires waits { IsAtNode market.now search.old node }
     requires word { slice_get (words_of search.old.tree.nodes) node ≡ Some (word_of prefix.now) }
     requires feasible { IsFeasiblePrefix market.now prefix.now }
     requires root { IsRootOf market.now root.now }
+    requires workspace { IsWorkspaceAt root.now workspace.old }
     ensures visited { IfOk result (λ key. IsVisited market.now search.old search.new node (word_of prefix.now) key) }
     ensures facts { KeepsFacts search.new }
+    ensures workspace { IsWorkspaceAt root.now workspace.new }
 {
     step(search, Event::Take { actor: ACTOR, node });
-    let finding = root.examine(alloc, market, prefix)?;
+    let finding = root.examine_in(alloc, market, prefix, workspace)?;
     offer_found(search, &finding)?;
     let key = child_key(&finding);
     step(
@@ -167,11 +171,12 @@ fn visit_all(
     ensures market { OnOk result (search.new.tree.market ≡ market.now) }
     ensures budget { OnOk result (search.new.tree.budget ≡ search.old.tree.budget) }
 {
+    let mut workspace = root.workspace(alloc)?;
     while let Some(node) = queue.take_first() {
         let Some(prefix) = search.prefix_of(node) else {
             unreachable!()
         };
-        let key = visit(alloc, market, search, node, &prefix, root)?;
+        let key = visit(alloc, market, search, node, &prefix, root, &mut workspace)?;
         if search.is_full() {
             return Ok(false);
         }

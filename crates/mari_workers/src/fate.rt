@@ -1,9 +1,10 @@
 //! What becomes of an early leaf in a walk that looks for earlier activations.
 
-ghost use Rattle.std.specs.Prelude.{◌≡◌, ◌↔◌, ℤ, IfOk, IsTrue, pos};
+ghost use Rattle.std.specs.Prelude.{◌≡◌, ◌↔◌, ℤ, IfOk, IfSome, IsTrue, pos};
 ghost use Rattle.mari_market.specs.Market.{IsValid};
 ghost use Rattle.mari_market.specs.Prefix.{word_of, IsFeasiblePrefix};
 ghost use Rattle.mari_market.specs.Tree.{LeafHolds};
+ghost use Rattle.mari_proofs.specs.Tables.{IsTableOf};
 ghost use Rattle.mari_workers.specs.Alone.{best_in, without_best};
 ghost use Rattle.mari_workers.specs.Refine.{fate_by, unbounded, IsAim, IsFate};
 ghost use Rattle.mari_workers.specs.Root.{IsRootOf};
@@ -12,7 +13,7 @@ use crate::root::Root;
 use mari_core::closing_leaf;
 use mari_gates::comes_before;
 use mari_market::{Activation, Attained, Finding, Leaf, Market, Prefix};
-use mari_proofs::check_leaf;
+use mari_proofs::{DualTable, check_leaf, check_leaf_by};
 use mari_units::{Memory, Quarters};
 use std::alloc::Global;
 
@@ -77,15 +78,41 @@ fn quarter_cents_of(welfare: u64) -> Quarters
     Quarters(i128::from(welfare))
 }
 
-/// Whether a leaf that holds at some cutoff holds at this one too. A cut and a conflict hold at every cutoff.
-fn still_holds(market: &Market, prefix: &Prefix, leaf: &Leaf, cutoff: u64) -> bool
+/// Whether a leaf holds at a cutoff, tested by a table of the market where there is one.
+fn holds(
+    market: &Market,
+    table: Option<&DualTable>,
+    prefix: &Prefix,
+    leaf: &Leaf,
+    cutoff: Quarters,
+) -> bool
     requires market { IsValid market.now }
+    requires table { IfSome table (λ t. IsTableOf market.now t.now) }
+    requires prefix { IsFeasiblePrefix market.now prefix.now }
+    ensures { IsTrue result ↔ LeafHolds market.now cutoff.0 (word_of prefix.now) leaf.now }
+{
+    match table {
+        None => check_leaf(market, prefix, leaf, cutoff),
+        Some(table) => check_leaf_by(market, table, prefix, leaf, cutoff),
+    }
+}
+
+/// Whether a leaf that holds at some cutoff holds at this one too. A cut and a conflict hold at every cutoff.
+fn still_holds(
+    market: &Market,
+    table: Option<&DualTable>,
+    prefix: &Prefix,
+    leaf: &Leaf,
+    cutoff: u64,
+) -> bool
+    requires market { IsValid market.now }
+    requires table { IfSome table (λ t. IsTableOf market.now t.now) }
     requires prefix { IsFeasiblePrefix market.now prefix.now }
     requires held { (w : ℤ) × LeafHolds market.now w (word_of prefix.now) leaf.now }
     ensures { IsTrue result ↔ LeafHolds market.now (pos cutoff) (word_of prefix.now) leaf.now }
 {
     match leaf {
-        Leaf::Bound(_) => check_leaf(market, prefix, leaf, quarter_cents_of(cutoff)),
+        Leaf::Bound(_) => holds(market, table, prefix, leaf, quarter_cents_of(cutoff)),
         Leaf::Cut(_) => true,
         Leaf::Conflict(_) => true,
     }
@@ -99,9 +126,11 @@ pub(crate) fn fate_of(
     prefix: &Prefix,
     leaf: Leaf,
     aim: &Aim,
+    table: Option<&DualTable>,
     root: &Root,
 ) -> Result<Fate, Memory>
     requires market { IsValid market.now }
+    requires table { IfSome table (λ t. IsTableOf market.now t.now) }
     requires prefix { IsFeasiblePrefix market.now prefix.now }
     requires aim { IsAim market.now aim.now }
     requires leaf { LeafHolds market.now (pos aim.now.welfare) (word_of prefix.now) leaf }
@@ -112,7 +141,7 @@ pub(crate) fn fate_of(
         return Ok(Fate::Stays(leaf));
     }
     let most = aim.welfare - 1;
-    if still_holds(market, prefix, &leaf, most) {
+    if still_holds(market, table, prefix, &leaf, most) {
         return Ok(Fate::Stays(leaf));
     }
     let finding = root.examine(alloc, market, prefix)?;

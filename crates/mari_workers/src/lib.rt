@@ -24,6 +24,7 @@ mod worker;
 pub use alone::{Alone, search_alone};
 pub use crew::Crew;
 pub use first::first_of;
+pub use mari_paths::Workspace;
 pub use refining::refine;
 pub use root::Root;
 pub use together::search;

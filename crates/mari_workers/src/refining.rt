@@ -1,10 +1,11 @@
 //! From an optimal clearing to the first one: of the gate words of optimal activations the first is published.
 
-ghost use Rattle.std.specs.Prelude.{◌≡◌, ◌<◌, ◌++◌, ◌∷◌, [], if◌then◌else◌, false, length, map, reverse, IfOk, IsSomeAnd, OnOk};
+ghost use Rattle.std.specs.Prelude.{◌≡◌, ◌<◌, ◌++◌, ◌∷◌, [], if◌then◌else◌, false, length, map, reverse, IfOk, IfSome, IsSomeAnd, OnOk};
 ghost use Rattle.mari_core.specs.Preorder.{shape_of};
 ghost use Rattle.mari_market.specs.Clearing.{Clears, IsBudget};
 ghost use Rattle.mari_market.specs.Market.{IsValid};
 ghost use Rattle.mari_market.specs.Prefix.{word_of, IsCleared};
+ghost use Rattle.mari_proofs.specs.Tables.{IsTableOf};
 ghost use Rattle.mari_workers.specs.Refine.{ended, ClosesAtClosed, HasNodes, IsAim, IsAtLeaf, IsLastTurn, IsToBranch, IsTreeWalk, IsTurn, MayRefine};
 ghost use Rattle.mari_workers.specs.Root.{IsRootOf};
 
@@ -13,6 +14,7 @@ use crate::fate::{Aim, Fate, fate_of};
 use crate::root::Root;
 use mari_gates::{child_of, empty_prefix, gate_word, may_branch_up, next_after};
 use mari_market::{Activation, Cleared, Clearing, Leaf, Market, PartItem, Prefix, Spent, TreeItem};
+use mari_proofs::{DualTable, FEW_ITEMS};
 use mari_units::{Items, MOST_GATES, Memory};
 use std::alloc::{AllocError, Global};
 
@@ -117,16 +119,18 @@ impl Walk {
         prefix: &Prefix,
         leaf: Leaf,
         aim: &Aim,
+        table: Option<&DualTable>,
         bounds: &mut BranchBounds,
         root: &Root,
     ) -> Result<Turn, Memory>
         requires market { IsValid market.now }
+        requires table { IfSome table (λ t. IsTableOf market.now t.now) }
         requires root { IsRootOf market.now root.now }
         requires aim { IsAim market.now aim.now }
         requires walk { IsAtLeaf market.now aim.now prefix.now leaf self.old.done.items self.old.left.items }
         ensures { IfOk result (IsTurn market.now aim.now prefix.now (length self.old.done.items) self.new) }
     {
-        match fate_of(alloc, market, prefix, leaf, aim, root)? {
+        match fate_of(alloc, market, prefix, leaf, aim, table, root)? {
             Fate::Stays(leaf) => {
                 self.done.push(TreeItem::Leaf(leaf))?;
                 self.next = next_after(market, prefix);
@@ -147,10 +151,12 @@ impl Walk {
         market: &Market,
         prefix: &Prefix,
         aim: &Aim,
+        table: Option<&DualTable>,
         bounds: &mut BranchBounds,
         root: &Root,
     ) -> Result<Turn, Memory>
         requires market { IsValid market.now }
+        requires table { IfSome table (λ t. IsTableOf market.now t.now) }
         requires root { IsRootOf market.now root.now }
         requires aim { IsAim market.now aim.now }
         requires walk { IsTreeWalk market.now aim.now self.old.done.items self.old.left.items (Some prefix.now) }
@@ -164,7 +170,7 @@ impl Walk {
                 Ok(Turn::On)
             }
             Some(TreeItem::Leaf(leaf)) => {
-                self.settle(alloc, market, prefix, leaf, aim, bounds, root)
+                self.settle(alloc, market, prefix, leaf, aim, table, bounds, root)
             }
         }
     }
@@ -210,18 +216,20 @@ fn walked(
     alloc: Global,
     market: &Market,
     aim: &Aim,
+    table: Option<&DualTable>,
     walk: &mut Walk,
     bounds: &mut BranchBounds,
     root: &Root,
 ) -> Result<Turn, Memory>
     requires market { IsValid market.now }
+    requires table { IfSome table (λ t. IsTableOf market.now t.now) }
     requires root { IsRootOf market.now root.now }
     requires aim { IsAim market.now aim.now }
     requires walk { IsTreeWalk market.now aim.now walk.old.done.items walk.old.left.items walk.old.next }
     ensures { IfOk result (IsLastTurn market.now aim.now walk.new) }
 {
     while let Some(prefix) = walk.next {
-        match walk.advance(alloc, market, &prefix, aim, bounds, root)? {
+        match walk.advance(alloc, market, &prefix, aim, table, bounds, root)? {
             Turn::On => {}
             Turn::Full => return Ok(Turn::Full),
             Turn::Yield(activation) => return Ok(Turn::Yield(activation)),
@@ -275,6 +283,17 @@ fn ended(
     }
 }
 
+/// The table of a market for the bounds of a tree; none where these are few.
+fn table_for(alloc: Global, market: &Market, tree: &[TreeItem]) -> Result<Option<DualTable>, Memory>
+    requires { IsValid market.now }
+    ensures { IfOk result (λ table. IfSome table (IsTableOf market.now)) }
+{
+    if tree.len() <= FEW_ITEMS {
+        return Ok(None);
+    }
+    Ok(Some(DualTable::of(alloc, market)?))
+}
+
 /// The clearing of the first activation, from that of an optimal one. Prefixes are examined from the root's optimum,
 /// and the bounds become those of the new tree's branches.
 pub(crate) fn refined_from(
@@ -302,8 +321,9 @@ pub(crate) fn refined_from(
         welfare,
         budget,
     };
+    let table = table_for(alloc, market, tree.as_slice())?;
     let mut walk = Walk::start(alloc, tree);
-    match walked(alloc, market, &aim, &mut walk, bounds, root) {
+    match walked(alloc, market, &aim, table.as_ref(), &mut walk, bounds, root) {
         Ok(last) => ended(alloc, walk, last, activation, welfare),
         Err(Memory) => {
             drop(walk);

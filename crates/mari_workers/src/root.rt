@@ -8,14 +8,14 @@ ghost use Rattle.mari_market.specs.Prefix.{word_of, IsFeasiblePrefix};
 ghost use Rattle.mari_market.specs.Relaxation.{all_closed, IsClosedWelfare};
 ghost use Rattle.mari_node.specs.Nodes.{IsEmptyWhereNone};
 ghost use Rattle.mari_workers.specs.Closed.{IsClosedOptimum};
-ghost use Rattle.mari_workers.specs.Root.{IsRootOf};
+ghost use Rattle.mari_workers.specs.Root.{IsRootOf, IsWorkspaceAt};
 
 use crate::alone::copy_of;
 use crate::first::{ClosedOptimum, closed_optimum};
 use mari_gates::empty_prefix;
 use mari_market::{Activation, Attained, Finding, Market, Prefix};
-use mari_node::{examine_from, examine_warm};
-use mari_paths::WarmStart;
+use mari_node::{examine_from, examine_in};
+use mari_paths::{WarmStart, Workspace};
 use mari_units::Memory;
 use std::alloc::Global;
 
@@ -93,7 +93,39 @@ impl Root {
         }
     }
 
-    /// Examines a prefix of the market from it.
+    /// A workspace for examinations from it, one after the other.
+    pub fn workspace(&self, alloc: Global) -> Result<Workspace, Memory>
+        ensures { IfOk result (IsWorkspaceAt self.now) }
+    {
+        match &self.ahead {
+            Ahead::Known(_) => Ok(Workspace::empty(alloc)),
+            Ahead::Warm { start, .. } => Ok(start.workspace(alloc)?),
+        }
+    }
+
+    /// Examines a prefix of the market from it, in a workspace, which may be used again.
+    pub fn examine_in(
+        &self,
+        alloc: Global,
+        market: &Market,
+        prefix: &Prefix,
+        workspace: &mut Workspace,
+    ) -> Result<Finding, Memory>
+        requires market { IsValid market.now }
+        requires prefix { IsFeasiblePrefix market.now prefix.now }
+        requires root { IsRootOf market.now self.now }
+        requires workspace { IsWorkspaceAt self.now workspace.old }
+        ensures finding { IfOk result (IsFinding market.now (word_of prefix.now)) }
+        ensures empty { IfOk result (IsEmptyWhereNone market.now (word_of prefix.now)) }
+        ensures workspace { IsWorkspaceAt self.now workspace.new }
+    {
+        match &self.ahead {
+            Ahead::Known(closed) => Ok(closed.finding()?),
+            Ahead::Warm { start, .. } => examine_in(alloc, market, prefix, start, workspace),
+        }
+    }
+
+    /// Examines a prefix of the market from it, in a workspace of its own.
     pub fn examine(
         &self,
         alloc: Global,
@@ -106,9 +138,7 @@ impl Root {
         ensures finding { IfOk result (IsFinding market.now (word_of prefix.now)) }
         ensures empty { IfOk result (IsEmptyWhereNone market.now (word_of prefix.now)) }
     {
-        match &self.ahead {
-            Ahead::Known(closed) => Ok(closed.finding()?),
-            Ahead::Warm { start, .. } => examine_warm(alloc, market, prefix, start),
-        }
+        let mut workspace = self.workspace(alloc)?;
+        self.examine_in(alloc, market, prefix, &mut workspace)
     }
 }

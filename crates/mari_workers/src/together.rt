@@ -91,6 +91,7 @@ fn settle_rest<'m, N: SearchName, R: Wait>(
     for _ in rt.forever() {
         match pool.take(worker) {
             Took::Took(ticket) => {
+                let mut workspace = root.workspace(alloc)?;
                 let finding = visit(
                     alloc,
                     market,
@@ -100,6 +101,7 @@ fn settle_rest<'m, N: SearchName, R: Wait>(
                     mine,
                     &FreeTurnstile,
                     root,
+                    &mut workspace,
                 )?;
                 pool.settle(incumbent, ticket, finding, &mut mine.seat);
             }

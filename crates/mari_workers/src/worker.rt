@@ -8,7 +8,7 @@ ghost use Rattle.mari_market.specs.Finding.{IsAttained};
 ghost use Rattle.mari_market.specs.Market.{IsValid};
 ghost use Rattle.mari_market.specs.Prefix.{word_of, IsFeasiblePrefix};
 ghost use Rattle.mari_workers.specs.Alone.{best_in};
-ghost use Rattle.mari_workers.specs.Root.{IsRootOf};
+ghost use Rattle.mari_workers.specs.Root.{IsRootOf, IsWorkspaceAt};
 ghost use Rattle.mari_workers.specs.Worked.{HoldsBest, IsSeen};
 
 use crate::alone::{best_of, copy_of};
@@ -17,6 +17,7 @@ use crate::rounding::best_rounded;
 use crate::turnstile::Turnstile;
 use mari_incumbent::{Incumbent, Seat};
 use mari_market::{Attained, Finding, Market, Prefix};
+use mari_paths::Workspace;
 use mari_pool::{Pool, SearchName, Settled, Took};
 use mari_units::Memory;
 use std::alloc::Global;
@@ -104,16 +105,19 @@ pub(crate) fn visit<G: Turnstile>(
     worked: &mut Worked,
     turnstile: &G,
     root: &Root,
+    workspace: &mut Workspace,
 ) -> Result<Finding, Memory>
     requires market { IsValid market.now }
     requires prefix { IsFeasiblePrefix market.now prefix.now }
     requires root { IsRootOf market.now root.now }
+    requires workspace { IsWorkspaceAt root.now workspace.old }
     requires holds { HoldsBest market.now incumbent.now worked.old }
     ensures holds { HoldsBest market.now incumbent.now worked.new }
     ensures parts { worked.new.seat.parts ≡ worked.old.seat.parts }
     ensures may { IfOk result (λ finding. MaySettle market.now worked.new.seat.seen finding (new_node (word_of prefix.now))) }
+    ensures workspace { IsWorkspaceAt root.now workspace.new }
 {
-    let finding = turnstile.through(alloc, worker, market, prefix, root)?;
+    let finding = turnstile.through(alloc, worker, market, prefix, root, workspace)?;
     offer_found(market, incumbent, worked, &finding)?;
     incumbent.look(&mut worked.seat);
     Ok(finding)
@@ -156,7 +160,7 @@ pub fn work<'m, N: SearchName, G: Turnstile, R: Wait>(
     }
 }
 
-/// The same where the root's optimum is known, from which each prefix is examined.
+/// The same where the root's optimum is known, from which each prefix is examined in this worker's workspace.
 pub(crate) fn work_from<'m, N: SearchName, G: Turnstile, R: Wait>(
     rt: &R,
     alloc: Global,
@@ -178,6 +182,10 @@ pub(crate) fn work_from<'m, N: SearchName, G: Turnstile, R: Wait>(
     ensures parts { result.seat.parts ≡ 1 }
 {
     let mut worked = Worked { seat, best: None };
+    let Ok(mut workspace) = root.workspace(alloc) else {
+        bell.notify_all();
+        return worked;
+    };
     for _ in rt.forever() {
         let Took::Took(ticket) = next(rt, worker, pool, bell) else {
             break;
@@ -192,6 +200,7 @@ pub(crate) fn work_from<'m, N: SearchName, G: Turnstile, R: Wait>(
             &mut worked,
             turnstile,
             root,
+            &mut workspace,
         );
         let Ok(finding) = found else {
             pool.lock(rt).give_back(ticket);

@@ -1,4 +1,5 @@
 use Rattle.std.proofs.Common.{◌≡◌}
+use Rattle.mari_workers.specs.Root.{IsWorkspaceAt}
 use Rattle.mari_workers.specs.Worked.{HoldsBest}
 use Rattle.mari_workers.proofs.worker.work_from.Given as goal
 
@@ -8,4 +9,5 @@ invariant-loop g l = record {
   is_finite : (goal.iterator-loop g).is_finite l.iterator';
   holds : HoldsBest g.N.SearchName.market g.N.SearchName.incumbent l.worked;
   parts : l.worked.seat.parts ≡ 1;
+  workspace : IsWorkspaceAt l.root l.workspace;
 }

@@ -5,7 +5,7 @@ use Rattle.mari_node.specs.Nodes.{IsEmptyWhereNone, SomeWithin}
 use Rattle.mari_workers.specs.Closed.{closed_finding, IsClosedOptimum}
 use Rattle.mari_workers.specs.Root.{IsAhead}
 use Rattle.mari_workers.proofs.Closed.{one_word, something_within}
-use Rattle.mari_workers.proofs.root.Root.examine.Goals as goal
+use Rattle.mari_workers.proofs.root.Root.examine_in.Goals as goal
 
 pub returns-in_ok-finding-in-Known-clause-empty : goal.returns-in_ok-finding-in-Known-clause-empty
 returns-in_ok-finding-in-Known-clause-empty c =

@@ -9,7 +9,7 @@ Without options it makes all tables. A count is the same for the same program an
 It is no test: nothing fails where a count is high. Of a copy by `rep movsb`, which is one instruction, valgrind counts each
 byte, so all programs are counted with the C library's copies by 32 bytes at a time.
 
-A node of ours is one examination from the root (`Root::examine`) with all that it calls, the mean of all that the search
+A node of ours is one examination from the root (`Root::examine_in`) with all that it calls, the mean of all that the search
 makes; LEMON's is its search less its reading, by the nodes that it solves. Of a run without gates ours are the solver and
 the price test of all examinations (one, since the closed prefix is the root there; up to 30 November 2026 12:00 the
 program made two), and LEMON's its program less its reading. A run by itself is the command on a folder with the run,
@@ -72,7 +72,7 @@ def nodes(counter):
     for name, shape in NODES.items():
         folder = counter.folder(folders.market(**shape))
         _, _, profile = counter.clear(folder, "--nodes", "50000")
-        spent, calls = counter.of_function(profile, "mari_workers::root::Root::examine")
+        spent, calls = counter.of_function(profile, "mari_workers::root::Root::examine_in")
         ours = spent / calls
         whole, text, _ = counter.count([counter.lemon, folder])
         read, _, _ = counter.count([counter.lemon, "--read", folder])

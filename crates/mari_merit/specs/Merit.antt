@@ -1,10 +1,11 @@
 -- The merit order of one zone: all orders, the cheapest first, in which each meets a part of the need. The need is what
 -- the withdrawals take at most; an injection meets it by running, a withdrawal by standing back.
-use Rattle.std.specs.Prelude.{◌≡◌, ◌≤◌, ◌-◌, ◌+◌, ◌<◌, if◌then◌else◌, ℕ, ℤ, ◌≤ℤ◌, int_lt, min, List, [], ◌∷◌, length, map, slice_index_or, sum_by}
+use Rattle.std.specs.Prelude.{◌≡◌, ◌≤◌, ◌-◌, ◌+◌, if◌then◌else◌, ℕ, ℤ, int_lt, min, List, [], ◌∷◌, map, sum_by}
 use Rattle.mari_market.specs.declared.market.Side.{Side}
 use Rattle.mari_market.specs.declared.market.Side.TheVariants.{Inject, Withdraw}
 use Rattle.mari_market.specs.declared.market.Order.{Order}
 use Rattle.mari_market.specs.Price.{IsPrice}
+use Rattle.mari_market.specs.Rising.{RisesBy}
 use Rattle.mari_market.specs.declared.certificate.Leaf.TheVariants.{Bound}
 use Rattle.mari_market.specs.declared.certificate.TreeItem.{TreeItem}
 use Rattle.mari_market.specs.declared.certificate.TreeItem.TheVariants.{Leaf}
@@ -25,7 +26,7 @@ withdrawn_in orders = sum_by (λ (o : Order). withdrawn_by o.side o.greatest) or
 
 -- no rung is dearer than a later one
 abbrev pub IsAscending : List Rung → Type 0
-IsAscending rungs = (i j : ℕ) (d : Rung) → i ≤ j → j < length rungs → (slice_index_or rungs i d).price ≤ℤ (slice_index_or rungs j d).price
+IsAscending rungs = RisesBy (λ (r : Rung). r.price) rungs
 
 -- one of three, as a price c is below the price p, above it, or at it
 abbrev pub by_price : ℤ → ℤ → (below above at : ℕ) → ℕ

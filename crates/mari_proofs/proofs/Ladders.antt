@@ -1,17 +1,14 @@
 -- What ladders gain is what their orders gain.
-use Rattle.std.proofs.Common.{◌≡◌, if◌then◌else◌, Bool, true, false, ℕ, zero, suc, ◌+◌, ◌-◌, ◌==◌, ◌<◌, ◌≤◌, ℤ, pos, neg_ℤ, ◌+ℤ◌, ◌-ℤ◌, ◌*ℤ◌, ◌≤ℤ◌, ◌<ℤ◌, List, [], ◌∷◌, ◌++◌, Vec, Global, length, take, set, get_or, get_or-take, arith, ap, refl, sym, ◌∙◌, subst, inl, inr, nat_lt, Option, Some, None, Result, Ok, Err}
+use Rattle.std.proofs.Common.{◌≡◌, if◌then◌else◌, Bool, true, false, ℕ, zero, suc, ◌+◌, ◌-◌, ◌==◌, ◌<◌, ◌≤◌, ℤ, pos, neg_ℤ, ◌+ℤ◌, ◌-ℤ◌, ◌*ℤ◌, ◌≤ℤ◌, ◌<ℤ◌, List, [], ◌∷◌, ◌++◌, Vec, Global, length, take, get_or, arith, ap, refl, sym, ◌∙◌, subst, inl, inr, nat_lt, Option, Some, None, Result, Ok, Err}
 use Rattle.std.specs.Int.{int_max}
 use Rattle.std.proofs.lemmas.Int.{ints, clamps}
-use Rattle.std.proofs.lemmas.Bool.{cases_lt, cases_eq}
-use Rattle.std.proofs.lemmas.List.{length-append, length-take-le, get_or_append_left, get_or_default, get_or_push, get_or-set_same, get_or-set_other, length-set, take_more}
-use Rattle.std.proofs.lemmas.List.Edits.{swap_is}
-use Rattle.std.proofs.lemmas.List.Elements.{All-push, All-head, All-tail}
-use Rattle.std.proofs.lemmas.List.Sorted.{IsPermutation-keeps}
-use Rattle.std.specs.List.{swap, All}
-use Rattle.std.specs.List.Sorted.{IsPermutation, IsPartitionedBy, IsSortedByKey}
+use Rattle.std.proofs.lemmas.Bool.{cases_lt}
+use Rattle.std.proofs.lemmas.List.{length-append, length-take-le, get_or_default, get_or_push, take_more}
+use Rattle.std.proofs.lemmas.List.Elements.{All-pop, All-push, All-head, All-tail}
+use Rattle.std.specs.List.{All}
+use Rattle.std.specs.List.Sorted.{IsPermutation}
 use Rattle.std.specs.Option.{is_some}
 use Rattle.std.specs.Result.{IfOk}
-use Rattle.std.specs.Ordering.{int_cmp, is_lt}
 use lib.Signed.{lt_z}
 use Rattle.mari_market.specs.declared.limits.TheConstants.{MOST_ORDERS, MOST_WORTH}
 use Rattle.mari_units.specs.declared.limits.TheConstants.{MOST_MW}
@@ -24,10 +21,12 @@ use Rattle.mari_market.specs.declared.market.Market.{Market}
 use Rattle.mari_market.specs.Market.{IsValidOrder}
 use Rattle.mari_market.specs.Sums.{int_sum}
 use Rattle.mari_market.proofs.Sums.{int_sum_more}
+use Rattle.mari_market.proofs.Moved.{sum_moved, sum_push}
+use Rattle.mari_market.proofs.Rising.{if_less, last_below_first, last_below_push, last_of, less, not_less, rises_on, rises_to}
 use Rattle.mari_market.proofs.Ints.{mul-add_z, sub-mul_z, pos_mul_le, end_is_best}
 use Rattle.mari_proofs.specs.declared.table.Offer.{Offer}
 use Rattle.mari_proofs.specs.declared.table.Rung.{Rung}
-use Rattle.mari_proofs.specs.Tables.{gain_at, gain_from, gain_of, ladder_at, last_rung, no_rung, of_gated, of_offer, offer_by, offer_of, rung_after, sum_below, zone_gain, AreLaddersOf, AreOffersOf, AreRising, IsLadderOf, IsOffer, IsRising, IsSmallRung}
+use Rattle.mari_proofs.specs.Tables.{gain_at, gain_from, gain_of, ladder_at, last_rung, no_rung, of_gated, of_offer, offer_by, offer_of, rung_after, sum_below, zone_gain, AreLaddersOf, AreOffersOf, AreRising, IsLadderOf, IsOffer, IsSmallRung}
 
 -- what is read past the end of a list of orders
 abbrev pub no_order : Order
@@ -37,112 +36,13 @@ no_order = record { zone = 0; side = Inject; price = record { 0 = pos 0 }; least
 abbrev pub no_offer : Offer
 no_offer = record { zone = 0; price = pos 0; mw = 0 }
 
--- one offer more at the end of a sum
-pub sum_push : {X : Type 0} (f : X → ℤ) (xs : List X) (x : X) → int_sum f (xs ++ x ∷ []) ≡ int_sum f xs +ℤ f x
-sum_push f [] x = omega (arith, ints)
-sum_push f (y ∷ ys) x = omega (arith, ints, sum_push f ys x)
-
-sum_set : {X : Type 0} (f : X → ℤ) (xs : List X) (i : ℕ) (x d : X) → i < length xs → int_sum f (set xs i x) +ℤ f (get_or xs i d) ≡ int_sum f xs +ℤ f x
-sum_set f [] i x d l = absurd (omega arith)
-sum_set f (y ∷ ys) zero x d l = omega (arith, ints)
-sum_set f (y ∷ ys) (suc i) x d l = omega (arith, ints, sum_set f ys i x d (omega arith))
-
-read_set : {X : Type 0} (xs : List X) (i j : ℕ) (d : X) → i < length xs → get_or (set xs i (get_or xs j d)) j d ≡ get_or xs j d
-read_set xs i j d l = elim (cases_eq j i) [
-  | inl same ↦ ap (λ (k : ℕ). get_or (set xs i (get_or xs j d)) k d) same ∙ get_or-set_same xs i (get_or xs j d) d l
-  | inr other ↦ get_or-set_other xs i j (get_or xs j d) d other
-]
-
-sum_swap : {X : Type 0} (f : X → ℤ) (xs : List X) (i j : ℕ) → i < length xs → j < length xs → int_sum f (swap xs i j) ≡ int_sum f xs
-sum_swap f [] i j l m = absurd (omega arith)
-sum_swap f (d ∷ ys) i j l m =
-    let xs = d ∷ ys in
-    let first = sum_set f xs i (get_or xs j d) d l in
-    let second = sum_set f (set xs i (get_or xs j d)) j (get_or xs i d) d (omega (arith, m, length-set xs i (get_or xs j d))) in
-    omega (arith, ints, first, second, ap f (read_set xs i j d l), ap (int_sum f) (swap_is xs i j d l m))
-
--- a sum is the same in another order
-pub sum_moved : {X : Type 0} (f : X → ℤ) (xs ys : List X) → IsPermutation xs ys → int_sum f ys ≡ int_sum f xs
-sum_moved f xs ys same = IsPermutation-keeps xs (λ l. int_sum f l ≡ int_sum f xs) refl (λ l i j a b e. sum_swap f l i j a b ∙ e) ys same
-
-not_below : (a b : ℤ) → is_lt (int_cmp b a) ≡ false → a ≤ℤ b
-not_below a b h = grind (arith, ints)
-
-far : (rs : List Offer) → IsSortedByKey (λ (r : Offer). r.price) int_cmp rs → (i m : ℕ) (d : Offer) → i + m < length rs → (get_or rs i d).price ≤ℤ (get_or rs (i + m) d).price
-far rs up i zero d l = let same : i ≡ i + zero = omega arith in omega (arith, ints, ap (λ k. (get_or rs k d).price) same)
-far rs up i (suc m) d l =
-    let on : i + m + 1 ≡ i + suc m = omega arith in
-    omega (
-      arith,
-      ints,
-      ap (λ k. (get_or rs k d).price) on,
-      far rs up i m d (omega arith),
-      not_below ((get_or rs (i + m) d).price) ((get_or rs (i + m + 1) d).price) (up (i + m) d (omega arith) (omega arith)),
-    )
-
--- a sort leaves no offer dearer than a later one
-pub rising : (rs : List Offer) → IsSortedByKey (λ (r : Offer). r.price) int_cmp rs → AreRising rs
-rising rs up i j d le l =
-    let at : i + (j - i) ≡ j = omega arith in
-    omega (arith, ints, ap (λ k. (get_or rs k d).price) at, far rs up i (j - i) d (omega arith))
-
--- a rung more, at the end
-gain_push : (p before : ℤ) (rs : List Rung) (r : Rung) → gain_from p before (rs ++ r ∷ []) ≡ (if lt_z r.price p then gain_of p r else gain_from p before rs)
-gain_push p before [] r = refl
-gain_push p before (t ∷ rs) r = gain_push p (if lt_z t.price p then gain_of p t else before) rs r
-
--- what the last of the first n rungs gains
-abbrev pub last_of : ℕ → ℤ → ℤ → List Rung → ℤ
-last_of zero p before rs = before
-last_of (suc n) p before rs = gain_of p (get_or rs n no_rung)
-
-yes_less : (a b x y : ℤ) → a <ℤ b → (if lt_z a b then x else y) ≡ x
-yes_less a b x y h = grind (arith, ints)
-
-not_less : (a b x y : ℤ) → b ≤ℤ a → (if lt_z a b then x else y) ≡ y
-not_less a b x y h = grind (arith, ints)
-
--- the first n rungs are those that cost less
-pub gain_of_first : (n : ℕ) (p before : ℤ) (rs : List Rung) → n ≤ length rs
-    → ((k : ℕ) (d : Rung) → k < n → (get_or rs k d).price <ℤ p)
-    → ((k : ℕ) (d : Rung) → n ≤ k → k < length rs → p ≤ℤ (get_or rs k d).price)
-    → gain_from p before rs ≡ last_of n p before rs
-gain_of_first zero p before [] l below rest = refl
-gain_of_first (suc n) p before [] l below rest = absurd (omega arith)
-gain_of_first zero p before (r ∷ rs) l below rest =
-    ap (λ (x : ℤ). gain_from p x rs) (not_less r.price p (gain_of p r) before (rest 0 no_rung (omega arith) (omega arith)))
-    ∙ gain_of_first zero p before rs (omega arith) (λ k d m. absurd (omega arith)) (λ k d m h. rest (suc k) d (omega arith) (omega arith))
-gain_of_first (suc zero) p before (r ∷ rs) l below rest =
-    ap (λ (x : ℤ). gain_from p x rs) (yes_less r.price p (gain_of p r) before (below 0 no_rung (omega arith)))
-    ∙ gain_of_first zero p (gain_of p r) rs (omega arith) (λ k d m. absurd (omega arith)) (λ k d m h. rest (suc k) d (omega arith) (omega arith))
-gain_of_first (suc (suc n)) p before (r ∷ rs) l below rest =
-    ap (λ (x : ℤ). gain_from p x rs) (yes_less r.price p (gain_of p r) before (below 0 no_rung (omega arith)))
-    ∙ gain_of_first (suc n) p (gain_of p r) rs (omega arith) (λ k d m. below (suc k) d (omega arith)) (λ k d m h. rest (suc k) d (omega arith) (omega arith))
-
--- the same of a level that is read as another number
+-- the first n rungs are those that cost less than a level, which is read as another number
 pub gain_first : (n : ℕ) (p q : ℤ) (rs : List Rung) → q ≡ p → n ≤ length rs
     → ((k : ℕ) (d : Rung) → k < n → (get_or rs k d).price <ℤ q)
     → ((k : ℕ) (d : Rung) → n ≤ k → k < length rs → q ≤ℤ (get_or rs k d).price)
-    → last_of n p (pos 0) rs ≡ gain_from p (pos 0) rs
+    → last_of (gain_of p) n (pos 0) rs no_rung ≡ gain_from p (pos 0) rs
 gain_first n p q rs e l below rest =
-    subst (λ (x : ℤ). last_of n x (pos 0) rs ≡ gain_from x (pos 0) rs) e (sym (gain_of_first n q (pos 0) rs l below rest))
-
-pub last_some : (n : ℕ) (p before : ℤ) (rs : List Rung) → 1 ≤ n → last_of n p before rs ≡ gain_of p (get_or rs (n - 1) no_rung)
-last_some zero p before rs l = absurd (omega arith)
-last_some (suc n) p before rs l = let e : n ≡ suc n - 1 = omega arith in ap (λ (k : ℕ). gain_of p (get_or rs k no_rung)) e
-
-is_less : (a b : ℤ) → a <ℤ b → lt_z a b ≡ true
-is_less a b h = grind (arith, ints)
-
-pub less : (a b : ℤ) → lt_z a b ≡ true → a <ℤ b
-less a b h = grind (arith, ints)
-
-pub not_less_than : (a b : ℤ) → lt_z a b ≡ false → b ≤ℤ a
-not_less_than a b h = grind (arith, ints)
-
--- the rungs that cost less than a level are the first
-pub parted : (rs : List Rung) (p : ℤ) → IsRising rs → IsPartitionedBy (λ (r : Rung). lt_z r.price p) rs
-parted rs p up i j d le l h = is_less ((get_or rs i d).price) p (omega (arith, ints, up i j d le l, less ((get_or rs j d).price) p h))
+    subst (λ (x : ℤ). last_of (gain_of x) n (pos 0) rs no_rung ≡ gain_from x (pos 0) rs) e (sym (last_below_first (λ (r : Rung). r.price) (gain_of q) n q (pos 0) rs no_rung l below rest))
 
 zero_gain : (p : ℤ) → pos 0 ≡ p *ℤ pos 0 -ℤ pos 0
 zero_gain p = omega (arith, ints)
@@ -156,23 +56,6 @@ no_ladder z = record {
   whole = λ p h. zero_gain p;
   gain = λ p. refl;
 }
-
-first_of : {X : Type 0} (P : X → Type 0) (xs : List X) (x : X) → All P (xs ++ x ∷ []) → All P xs
-first_of P xs x a k d l = subst P (get_or_append_left xs (x ∷ []) d k l) (a k d (omega (arith, l, length-append xs (x ∷ []))))
-
-end_of : {X : Type 0} (P : X → Type 0) (xs : List X) (x : X) → All P (xs ++ x ∷ []) → P x
-end_of P xs x a = subst P (get_or_push xs x x (length xs) refl) (a (length xs) x (omega (arith, length-append xs (x ∷ []))))
-
-rising_push : (rs : List Rung) (r : Rung) → IsRising rs → All (λ (t : Rung). t.price ≤ℤ r.price) rs → IsRising (rs ++ r ∷ [])
-rising_push rs r up all i j d le l = elim (cases_lt j (length rs)) [
-  | inl b ↦ omega (arith, ints, up i j d le b, ap (λ (t : Rung). t.price) (get_or_append_left rs (r ∷ []) d i (omega (arith, le, b))), ap (λ (t : Rung). t.price) (get_or_append_left rs (r ∷ []) d j b))
-  | inr b ↦
-      let last : (get_or (rs ++ r ∷ []) j d).price ≡ r.price = ap (λ (t : Rung). t.price) (get_or_push rs r d j (omega (arith, b, l, length-append rs (r ∷ [])))) in
-      elim (cases_lt i (length rs)) [
-        | inl a ↦ omega (arith, ints, last, all i d a, ap (λ (t : Rung). t.price) (get_or_append_left rs (r ∷ []) d i a))
-        | inr a ↦ omega (arith, ints, last, ap (λ (t : Rung). t.price) (get_or_push rs r d i (omega (arith, a, le, l, length-append rs (r ∷ [])))))
-      ]
-]
 
 last_push : (rs : List Rung) (r : Rung) → last_rung (rs ++ r ∷ []) ≡ r
 last_push rs r = get_or_push rs r no_rung (length (rs ++ r ∷ []) - 1) (omega (arith, length-append rs (r ∷ [])))
@@ -197,7 +80,7 @@ loses gap mw h = omega (arith, ints, clamps, end_is_best gap (pos 0) (pos 0) (po
 slot_more : (b : Bool) (p below whole sum : ℤ) (r : Rung) (x : Offer) → lt_z x.price p ≡ b → below ≡ sum → (b ≡ true → below ≡ whole)
     → gain_of p r ≡ whole +ℤ (p -ℤ x.price) *ℤ pos x.mw → (if b then gain_of p r else below) ≡ sum +ℤ gain_at p x
 slot_more true p below whole sum r x is s w g = omega (arith, ints, s, w refl, g, gains (p -ℤ x.price) x.mw (omega (arith, ints, less x.price p is)))
-slot_more false p below whole sum r x is s w g = omega (arith, ints, s, loses (p -ℤ x.price) x.mw (omega (arith, ints, not_less_than x.price p is)))
+slot_more false p below whole sum r x is s w g = omega (arith, ints, s, loses (p -ℤ x.price) x.mw (omega (arith, ints, not_less x.price p is)))
 
 zone_here : (z : ℕ) (p : ℤ) (x : Offer) → x.zone ≡ z → zone_gain z p x ≡ gain_at p x
 zone_here z p x e = by x.zone (gain_at p x) e
@@ -222,15 +105,15 @@ ladder_take z before x rungs e up small a =
     let new = rung_after (last_rung rungs) x in
     let long : length (before ++ x ∷ []) ≡ length before + 1 = omega (arith, length-append before (x ∷ [])) in
     record {
-      rising = rising_push rungs new a.rising (a.cheap x.price up);
+      rising = rises_on (λ (r : Rung). r.price) rungs new a.rising (a.cheap x.price up);
       small = subst (λ (n : ℕ). All (IsSmallRung n) (rungs ++ new ∷ [])) (sym long)
           (All-push (IsSmallRung (length before + 1)) rungs new (λ k d l. wider (length before) (length before + 1) (get_or rungs k d) (omega arith) (a.small k d l)) small);
-      cheap = λ p h. All-push (λ (r : Rung). r.price ≤ℤ p) rungs new (a.cheap p (first_of (λ (y : Offer). y.price ≤ℤ p) before x h)) (end_of (λ (y : Offer). y.price ≤ℤ p) before x h);
+      cheap = λ p h. All-push (λ (r : Rung). r.price ≤ℤ p) rungs new (a.cheap p (All-pop (λ (y : Offer). y.price ≤ℤ p) (before ++ x ∷ []) before (Some x) refl h).0) (All-pop (λ (y : Offer). y.price ≤ℤ p) (before ++ x ∷ []) before (Some x) refl h).1;
       whole = λ p h.
-          gain_push p (pos 0) rungs new ∙ yes_less x.price p (gain_of p new) (gain_from p (pos 0) rungs) (end_of (λ (r : Rung). r.price <ℤ p) rungs new h)
+          last_below_push (λ (r : Rung). r.price) (gain_of p) p (pos 0) rungs new ∙ if_less x.price p (gain_of p new) (gain_from p (pos 0) rungs) (All-pop (λ (r : Rung). r.price <ℤ p) (rungs ++ new ∷ []) rungs (Some new) refl h).1
           ∙ ap (gain_of p) (sym (last_push rungs new));
       gain = λ p.
-          gain_push p (pos 0) rungs new
+          last_below_push (λ (r : Rung). r.price) (gain_of p) p (pos 0) rungs new
           ∙ slot_more (lt_z x.price p) p (gain_from p (pos 0) rungs) (gain_of p (last_rung rungs)) (int_sum (zone_gain z p) before) new x refl (a.gain p)
           (λ b. a.whole p (λ k d l. omega (arith, ints, less x.price p b, a.cheap x.price up k d l)))
           (more_gain p (last_rung rungs).worth x.price (last_rung rungs).mw x.mw)
@@ -243,16 +126,10 @@ pub ladder_skip : (z : ℕ) (before : List Offer) (x : Offer) (rungs : List Rung
 ladder_skip z before x rungs other a = record {
   rising = a.rising;
   small = λ k d l. wider (length before) (length (before ++ x ∷ [])) (get_or rungs k d) (omega (arith, length-append before (x ∷ []))) (a.small k d l);
-  cheap = λ p h. a.cheap p (first_of (λ (y : Offer). y.price ≤ℤ p) before x h);
+  cheap = λ p h. a.cheap p (All-pop (λ (y : Offer). y.price ≤ℤ p) (before ++ x ∷ []) before (Some x) refl h).0;
   whole = a.whole;
   gain = λ p. a.gain p ∙ omega (arith, ints, zone_elsewhere z p x other, sum_push (zone_gain z p) before x);
 }
-
--- no offer is dearer than those before it
-pub up_to : (xs : List Offer) (i : ℕ) (e : Offer) → AreRising xs → i < length xs → All (λ (x : Offer). x.price ≤ℤ (get_or xs i e).price) (take i xs)
-up_to xs i e up l k d m =
-    let before : k < i = omega (arith, m, length-take-le i xs (omega (arith, l))) in
-    omega (arith, ints, up k i e (omega (arith, before)) l, ap (λ (x : Offer). x.price) (get_or-take i xs k d before), ap (λ (x : Offer). x.price) (get_or_default xs k d e (omega (arith, before, l))))
 
 sum_below_same : (f g : ℕ → ℤ) (n : ℕ) → ((z : ℕ) → z < n → f z ≡ g z) → sum_below f n ≡ sum_below g n
 sum_below_same f g zero e = refl
@@ -415,7 +292,7 @@ ladder_take_at offers i e rungs new n up l fine is a =
     let long : length (take i offers) ≡ i = length-take-le i offers (omega (arith, l)) in
     subst (IsLadderOf x.zone (take (i + 1) offers)) (sym is)
     (subst (λ (xs : List Offer). IsLadderOf x.zone xs (rungs ++ rung_after (last_rung rungs) x ∷ [])) (sym (take_more offers i e l))
-    (ladder_take x.zone (take i offers) x rungs refl (up_to offers i e up l) (next_small (length (take i offers)) (last_rung rungs) x n (last_small (length (take i offers)) rungs a.small) (fine i e l)) a))
+    (ladder_take x.zone (take i offers) x rungs refl (rises_to (λ (y : Offer). y.price) offers i e up l) (next_small (length (take i offers)) (last_rung rungs) x n (last_small (length (take i offers)) rungs a.small) (fine i e l)) a))
 
 pub ladder_skip_at : (z : ℕ) (offers : List Offer) (i : ℕ) (e : Offer) (rungs : List Rung) → i < length offers
     → ((get_or offers i e).zone ≡ z → ⊥) → IsLadderOf z (take i offers) rungs → IsLadderOf z (take (i + 1) offers) rungs

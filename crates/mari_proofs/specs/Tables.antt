@@ -3,7 +3,6 @@ use Rattle.std.specs.Prelude.{◌≡◌, if◌then◌else◌, ℕ, zero, suc, �
 use Rattle.std.specs.Int.{int_max}
 use Rattle.std.specs.List.{All}
 use Rattle.std.specs.declared.alloc.Global.{Global}
-use lib.Signed.{lt_z}
 use Rattle.mari_units.specs.declared.limits.TheConstants.{MOST_MW}
 use Rattle.mari_market.specs.declared.limits.TheConstants.{MOST_ORDERS, MOST_WORTH}
 use Rattle.mari_market.specs.declared.market.Side.{Side}
@@ -12,6 +11,7 @@ use Rattle.mari_market.specs.declared.market.Order.{Order}
 use Rattle.mari_market.specs.declared.market.Market.{Market}
 use Rattle.mari_market.specs.Market.{IsValidOrder}
 use Rattle.mari_market.specs.Price.{IsPrice}
+use Rattle.mari_market.specs.Rising.{last_below, RisesBy}
 use Rattle.mari_market.specs.Sums.{int_sum}
 use Rattle.mari_proofs.specs.declared.table.Offer.{Offer}
 use Rattle.mari_proofs.specs.declared.table.Rung.{Rung}
@@ -81,16 +81,15 @@ gain_of level r = level *ℤ pos r.mw -ℤ r.worth
 
 -- what a ladder's orders gain at a level: those up to its last rung below the level gain
 abbrev pub gain_from : ℤ → ℤ → List Rung → ℤ
-gain_from level before [] = before
-gain_from level before (r ∷ rs) = gain_from level (if lt_z r.price level then gain_of level r else before) rs
+gain_from level before rs = last_below (λ (r : Rung). r.price) (gain_of level) level before rs
 
 -- no rung is dearer than a later one
 abbrev pub IsRising : List Rung → Type 0
-IsRising rs = (i j : ℕ) (d : Rung) → i ≤ j → j < length rs → (slice_index_or rs i d).price ≤ℤ (slice_index_or rs j d).price
+IsRising rs = RisesBy (λ (r : Rung). r.price) rs
 
 -- no offer is dearer than a later one
 abbrev pub AreRising : List Offer → Type 0
-AreRising xs = (i j : ℕ) (d : Offer) → i ≤ j → j < length xs → (slice_index_or xs i d).price ≤ℤ (slice_index_or xs j d).price
+AreRising xs = RisesBy (λ (x : Offer). x.price) xs
 
 -- the sums up to a rung are those of at most n orders
 pub record IsSmallRung (n : ℕ) (r : Rung) : Type 0 where

@@ -2,15 +2,15 @@ use Rattle.std.proofs.Common.{arith, rules, get_or}
 use Rattle.std.proofs.lemmas.List.Sorted.{IsPartitionPoint-from_clause}
 use lib.Signed.{lt_z}
 use Rattle.mari_proofs.specs.declared.table.Rung.{Rung}
-use Rattle.mari_proofs.proofs.Ladders.{parted, less, not_less_than}
+use Rattle.mari_market.proofs.Rising.{less, not_less, parts_below}
 use Rattle.mari_proofs.proofs.table.rungs_below.Goals as goal
 
 pub returns-clause-below : goal.returns-clause-below
 returns-clause-below c =
-    let point = IsPartitionPoint-from_clause (λ (r : Rung). lt_z r.price c.args.level) _ _ c.partition_point.ensures.partitioned (parted c.args.ladder.now c.args.level c.requires) (λ a r q k. search rules) in
+    let point = IsPartitionPoint-from_clause (λ (r : Rung). lt_z r.price c.args.level) _ _ c.partition_point.ensures.partitioned (parts_below (λ (r : Rung). r.price) c.args.ladder.now c.args.level c.requires) (λ a r q k. search rules) in
     λ j d l. less ((get_or c.args.ladder.now j d).price) c.args.level (point.0 j d (omega arith) l)
 
 pub returns-clause-rest : goal.returns-clause-rest
 returns-clause-rest c =
-    let point = IsPartitionPoint-from_clause (λ (r : Rung). lt_z r.price c.args.level) _ _ c.partition_point.ensures.partitioned (parted c.args.ladder.now c.args.level c.requires) (λ a r q k. search rules) in
-    λ j d l m. not_less_than ((get_or c.args.ladder.now j d).price) c.args.level (point.1 j d l m)
+    let point = IsPartitionPoint-from_clause (λ (r : Rung). lt_z r.price c.args.level) _ _ c.partition_point.ensures.partitioned (parts_below (λ (r : Rung). r.price) c.args.ladder.now c.args.level c.requires) (λ a r q k. search rules) in
+    λ j d l m. not_less ((get_or c.args.ladder.now j d).price) c.args.level (point.1 j d l m)

@@ -22,7 +22,7 @@ pub fn run(
     let mut search = search_of(alloc, network.meeting.len())?;
     loop {
         let margins = margins_of(alloc, network, amounts)?;
-        match find_chain(alloc, network, amounts, flows, &margins, &mut search)? {
+        match find_chain(alloc, network, amounts, flows, &margins.all, &mut search)? {
             Some(chain) => {
                 improve(network, amounts, flows, &chain);
                 search.hops = chain.hops;

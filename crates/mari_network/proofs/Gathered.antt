@@ -133,10 +133,10 @@ these_stay These before after old new zones margins long same slots amounts a = 
   };
 }
 
--- among all slots they are the zones' own
-pub margins_of_all : (These : ℕ → Type 0) (slots : List Slot) (xs : List ℤ) (zones : ℕ) (margins : List Margin) → ((k : ℕ) → k < length slots → These k)
-    → AreMarginsOfThese These slots xs zones margins → AreMargins slots xs zones (length slots) margins
-margins_of_all These slots xs zones margins all a = record {
+-- among the first n they are those of the first n
+pub margins_of_first : (These : ℕ → Type 0) (slots : List Slot) (xs : List ℤ) (zones n : ℕ) (margins : List Margin) → ((k : ℕ) → k < n → These k)
+    → AreMarginsOfThese These slots xs zones margins → AreMargins slots xs zones n margins
+margins_of_first These slots xs zones n margins all a = record {
   long = a.long;
   dearest = λ z l. record { one = λ i e. let o = (a.dearest z l).one i e in (o.0, o.1); all = λ k h can e. (a.dearest z l).all k (all k h) can e };
   cheapest = λ z l. record { one = λ i e. let o = (a.cheapest z l).one i e in (o.0, o.1); all = λ k h can e. (a.cheapest z l).all k (all k h) can e };

@@ -18,3 +18,4 @@ pub mod Transfers
 pub mod Worths
 pub mod Written
 pub mod Zones
+pub mod Words

@@ -1,52 +1,23 @@
 -- Ladders: the rungs of a zone's slots, and what the first or the last that may go on say of all.
-use Rattle.std.proofs.Common.{◌≡◌, ℕ, zero, suc, ◌+◌, ◌-◌, ◌<◌, ◌≤◌, ℤ, pos, ◌+ℤ◌, ◌≤ℤ◌, ◌<ℤ◌, List, [], ◌∷◌, ◌++◌, length, set, get_or, get_or-set_other, arith, refl, sym, ap, subst, ◌∙◌, inl, inr, true, false, not, Option, Some, ◌⊎◌}
+use Rattle.std.proofs.Common.{◌≡◌, ℕ, zero, suc, ◌+◌, ◌<◌, ◌≤◌, ℤ, pos, ◌+ℤ◌, ◌≤ℤ◌, ◌<ℤ◌, List, [], ◌∷◌, ◌++◌, length, get_or, arith, refl, sym, ap, subst, ◌∙◌, inl, inr, true, false, not, Option, Some}
 use Rattle.std.proofs.lemmas.Int.{ints}
 use Rattle.std.proofs.lemmas.Bool.{cases_eq, cases_lt}
-use Rattle.std.proofs.lemmas.List.{get_or_default, get_or-set_same, length-append, length-set}
-use Rattle.std.proofs.lemmas.List.Edits.{swap_is}
+use Rattle.std.proofs.lemmas.List.{get_or_default, length-append}
 use Rattle.std.proofs.lemmas.List.Elements.{All-push, Contains-append_left, Contains-push}
-use Rattle.std.proofs.lemmas.List.Sorted.{All-permutation, Contains-permutation, length_permutation, IsPermutation-keeps}
+use Rattle.std.proofs.lemmas.List.Sorted.{All-permutation, Contains-permutation, length_permutation}
 use lib.Signed.{lt_z}
-use Rattle.std.specs.List.{swap, All, Contains}
-use Rattle.std.specs.List.Sorted.{IsPermutation, IsPartitionedBy, IsSortedByKey}
-use Rattle.std.specs.Ordering.{int_cmp, is_lt}
+use Rattle.std.specs.List.{All, Contains}
+use Rattle.std.specs.List.Sorted.{IsPermutation, IsPartitionedBy}
 use Rattle.mari_network.specs.declared.slots.Slot.{Slot}
 use Rattle.mari_network.specs.declared.slots.TheConstants.{BEYOND}
 use Rattle.mari_network.specs.declared.network.Places.{Places}
 use Rattle.mari_network.specs.declared.network.Rung.{Rung}
 use Rattle.mari_market.specs.declared.market.Border.{Border}
-use Rattle.mari_market.specs.Sums.{int_sum}
+use Rattle.mari_market.proofs.Moved.{sum_moved, sum_push}
 use Rattle.mari_network.specs.Slots.{at_zone, slot_at, zone_of, price_of, no_slot, CanLess, CanMore, IsSmallSlot}
 use Rattle.mari_network.specs.Network.{rung_at, rung_of, sum_of_zone, no_rung, ArePlaces, AreRungs, IsLadder, IsRising}
 use Rattle.mari_network.specs.Margins.{IsAbove, IsBelow, IsDearestIn, IsCheapestIn, IsDearestRung, IsCheapestRung, IsDearestTo, IsCheapestFrom}
 use Rattle.mari_network.proofs.Marginal.{some_same}
-
-pub sum_push : {X : Type 0} (f : X → ℤ) (xs : List X) (x : X) → int_sum f (xs ++ x ∷ []) ≡ int_sum f xs +ℤ f x
-sum_push f [] x = omega (arith, ints)
-sum_push f (y ∷ ys) x = omega (arith, ints, sum_push f ys x)
-
-sum_set : {X : Type 0} (f : X → ℤ) (xs : List X) (i : ℕ) (x d : X) → i < length xs → int_sum f (set xs i x) +ℤ f (get_or xs i d) ≡ int_sum f xs +ℤ f x
-sum_set f [] i x d l = absurd (omega arith)
-sum_set f (y ∷ ys) zero x d l = omega (arith, ints)
-sum_set f (y ∷ ys) (suc i) x d l = omega (arith, ints, sum_set f ys i x d (omega arith))
-
-read_set : {X : Type 0} (xs : List X) (i j : ℕ) (d : X) → i < length xs → get_or (set xs i (get_or xs j d)) j d ≡ get_or xs j d
-read_set xs i j d l = elim (cases_eq j i) [
-  | inl same ↦ ap (λ (k : ℕ). get_or (set xs i (get_or xs j d)) k d) same ∙ get_or-set_same xs i (get_or xs j d) d l
-  | inr other ↦ get_or-set_other xs i j (get_or xs j d) d other
-]
-
-sum_swap : {X : Type 0} (f : X → ℤ) (xs : List X) (i j : ℕ) → i < length xs → j < length xs → int_sum f (swap xs i j) ≡ int_sum f xs
-sum_swap f [] i j l m = absurd (omega arith)
-sum_swap f (d ∷ ys) i j l m =
-    let xs = d ∷ ys in
-    let first = sum_set f xs i (get_or xs j d) d l in
-    let second = sum_set f (set xs i (get_or xs j d)) j (get_or xs i d) d (omega (arith, m, length-set xs i (get_or xs j d))) in
-    omega (arith, ints, first, second, ap f (read_set xs i j d l), ap (int_sum f) (swap_is xs i j d l m))
-
--- a sum is the same in another order
-sum_moved : {X : Type 0} (f : X → ℤ) (xs ys : List X) → IsPermutation xs ys → int_sum f ys ≡ int_sum f xs
-sum_moved f xs ys same = IsPermutation-keeps xs (λ l. int_sum f l ≡ int_sum f xs) refl (λ l i j a b e. sum_swap f l i j a b ∙ e) ys same
 
 zone_here : (z y : ℕ) (x : ℤ) → y ≡ z → at_zone z y x ≡ x
 zone_here z y x e = grind (arith)
@@ -115,27 +86,6 @@ ladder_stays before after n z ladder zones prices a = record {
   rising = a.rising;
 }
 
-not_below : (a b : ℤ) → is_lt (int_cmp b a) ≡ false → a ≤ℤ b
-not_below a b h = grind (arith, ints)
-
-far : (rs : List Rung) → IsSortedByKey (λ (r : Rung). r.price) int_cmp rs → (i m : ℕ) (d : Rung) → i + m < length rs → (get_or rs i d).price ≤ℤ (get_or rs (i + m) d).price
-far rs up i zero d l = let same : i ≡ i + zero = omega arith in omega (arith, ints, ap (λ k. (get_or rs k d).price) same)
-far rs up i (suc m) d l =
-    let on : i + m + 1 ≡ i + suc m = omega arith in
-    omega (
-      arith,
-      ints,
-      ap (λ k. (get_or rs k d).price) on,
-      far rs up i m d (omega arith),
-      not_below ((get_or rs (i + m) d).price) ((get_or rs (i + m + 1) d).price) (up (i + m) d (omega arith) (omega arith)),
-    )
-
--- a sort leaves no rung dearer than a later one
-pub rising : (rs : List Rung) → IsSortedByKey (λ (r : Rung). r.price) int_cmp rs → IsRising rs
-rising rs up i j d le l =
-    let at : i + (j - i) ≡ j = omega arith in
-    omega (arith, ints, ap (λ k. (get_or rs k d).price) at, far rs up i (j - i) d (omega arith))
-
 pub not_true : (a b : ℤ) → not (lt_z a b) ≡ true → b ≤ℤ a
 not_true a b h = grind (arith, ints)
 
@@ -145,18 +95,9 @@ is_not a b h = grind (arith, ints)
 pub not_false : (a b : ℤ) → not (lt_z a b) ≡ false → a <ℤ b
 not_false a b h = grind (arith, ints)
 
-is_less : (a b : ℤ) → a <ℤ b → lt_z a b ≡ true
-is_less a b h = grind (arith, ints)
-
-pub less : (a b : ℤ) → lt_z a b ≡ true → a <ℤ b
-less a b h = grind (arith, ints)
-
--- the rungs that cost at most a price, and those that cost less, are the first
+-- the rungs that cost at most a price are the first
 pub parted_to : (ladder : List Rung) (top : ℤ) → IsRising ladder → IsPartitionedBy (λ (r : Rung). not (lt_z top r.price)) ladder
 parted_to ladder top up i j d le l h = is_not top ((get_or ladder i d).price) (omega (arith, ints, up i j d le l, not_true top ((get_or ladder j d).price) h))
-
-pub parted_below : (ladder : List Rung) (least : ℤ) → IsRising ladder → IsPartitionedBy (λ (r : Rung). lt_z r.price least) ladder
-parted_below ladder least up i j d le l h = is_less ((get_or ladder i d).price) least (omega (arith, ints, up i j d le l, less ((get_or ladder j d).price) least h))
 
 -- where a slot of the zone stands on its ladder
 record IsAtRung (ladder : List Rung) (k : ℕ) (v : ℤ) : Type 0 where
@@ -171,66 +112,41 @@ rung_of_slot slots n z ladder k a l e =
     let same : rung_at ladder j.0 ≡ rung_of slots k = get_or_default ladder j.0 no_rung (rung_of slots k) j.1 ∙ j.2 in
     record { at = j.0; there = j.1; place = ap (λ (r : Rung). r.place) same; price = ap (λ (r : Rung). r.price) same }
 
--- the dearest on a ladder's first rungs, with what stands in for the zone, is that of its slots which cost at most so
--- much
-pub dearest_on : (slots : List Slot) (xs : List ℤ) (n z : ℕ) (ladder : List Rung) (top : ℤ) (end : ℕ) (best next : Option ℕ)
+-- the dearest on a ladder's first rungs is that of its slots which cost at most so much
+pub dearest_on : (slots : List Slot) (xs : List ℤ) (n z : ℕ) (ladder : List Rung) (top : ℤ) (end : ℕ) (best : Option ℕ)
     → IsLadder slots n z ladder → end ≤ length ladder
     → ((j : ℕ) (d : Rung) → end ≤ j → j < length ladder → top <ℤ (get_or ladder j d).price)
-    → IsDearestRung slots xs ladder 0 end best
-    → ((i : ℕ) → next ≡ Some i → (best ≡ Some i) ⊎ (CanLess slots xs i × (zone_of slots i ≡ z)))
-    → ((v : ℤ) → IsAbove slots v best → IsAbove slots v next)
-    → ((k : ℕ) → n ≤ k → CanLess slots xs k → zone_of slots k ≡ z → IsAbove slots (price_of slots k) next)
-    → IsDearestTo slots xs z top next
-dearest_on slots xs n z ladder top end best next a few above d one keeps beside = record {
-  one = λ i e. elim (one i e) [
-    | inl was ↦
-        let o = d.one i was in
-        (o.0, sym (ap (zone_of slots) o.4) ∙ a.rungs.zone o.1 no_rung (omega (arith, o.3, few)))
-    | inr is ↦ is
-  ];
-  all = λ k can e low. elim (cases_lt k n) [
-    | inl l ↦
-        let r = rung_of_slot slots n z ladder k a l e in
-        elim (cases_lt r.at end) [
-          | inl before ↦ keeps (price_of slots k) (subst (λ (v : ℤ). IsAbove slots v best) r.price (d.all r.at (omega arith) before (subst (λ (j : ℕ). CanLess slots xs j) (sym r.place) can)))
-          | inr after ↦ absurd (omega (arith, ints, above r.at no_rung after r.there, r.price, low))
-        ]
-    | inr g ↦ beside k g can e
-  ];
+    → IsDearestRung slots xs ladder 0 end best → IsDearestTo slots xs z n top best
+dearest_on slots xs n z ladder top end best a few above d = record {
+  one = λ i e. let o = d.one i e in (o.0, sym (ap (zone_of slots) o.4) ∙ a.rungs.zone o.1 no_rung (omega (arith, o.3, few)));
+  all = λ k l can e low.
+      let r = rung_of_slot slots n z ladder k a l e in
+      elim (cases_lt r.at end) [
+        | inl before ↦ subst (λ (v : ℤ). IsAbove slots v best) r.price (d.all r.at (omega arith) before (subst (λ (j : ℕ). CanLess slots xs j) (sym r.place) can))
+        | inr after ↦ absurd (omega (arith, ints, above r.at no_rung after r.there, r.price, low))
+      ];
 }
 
-pub cheapest_on : (slots : List Slot) (xs : List ℤ) (n z : ℕ) (ladder : List Rung) (least : ℤ) (start : ℕ) (best next : Option ℕ)
+pub cheapest_on : (slots : List Slot) (xs : List ℤ) (n z : ℕ) (ladder : List Rung) (least : ℤ) (start : ℕ) (best : Option ℕ)
     → IsLadder slots n z ladder
     → ((j : ℕ) (d : Rung) → j < start → (get_or ladder j d).price <ℤ least)
-    → IsCheapestRung slots xs ladder start (length ladder) best
-    → ((i : ℕ) → next ≡ Some i → (best ≡ Some i) ⊎ (CanMore slots xs i × (zone_of slots i ≡ z)))
-    → ((v : ℤ) → IsBelow slots v best → IsBelow slots v next)
-    → ((k : ℕ) → n ≤ k → CanMore slots xs k → zone_of slots k ≡ z → IsBelow slots (price_of slots k) next)
-    → IsCheapestFrom slots xs z least next
-cheapest_on slots xs n z ladder least start best next a below d one keeps beside = record {
-  one = λ i e. elim (one i e) [
-    | inl was ↦
-        let o = d.one i was in
-        (o.0, sym (ap (zone_of slots) o.4) ∙ a.rungs.zone o.1 no_rung o.3)
-    | inr is ↦ is
-  ];
-  all = λ k can e high. elim (cases_lt k n) [
-    | inl l ↦
-        let r = rung_of_slot slots n z ladder k a l e in
-        elim (cases_lt r.at start) [
-          | inl before ↦ absurd (omega (arith, ints, below r.at no_rung before, r.price, high))
-          | inr after ↦ keeps (price_of slots k) (subst (λ (v : ℤ). IsBelow slots v best) r.price (d.all r.at after r.there (subst (λ (j : ℕ). CanMore slots xs j) (sym r.place) can)))
-        ]
-    | inr g ↦ beside k g can e
-  ];
+    → IsCheapestRung slots xs ladder start (length ladder) best → IsCheapestFrom slots xs z n least best
+cheapest_on slots xs n z ladder least start best a below d = record {
+  one = λ i e. let o = d.one i e in (o.0, sym (ap (zone_of slots) o.4) ∙ a.rungs.zone o.1 no_rung o.3);
+  all = λ k l can e high.
+      let r = rung_of_slot slots n z ladder k a l e in
+      elim (cases_lt r.at start) [
+        | inl before ↦ absurd (omega (arith, ints, below r.at no_rung before, r.price, high))
+        | inr after ↦ subst (λ (v : ℤ). IsBelow slots v best) r.price (d.all r.at after r.there (subst (λ (j : ℕ). CanMore slots xs j) (sym r.place) can))
+      ];
 }
 
 -- no slot costs more than what stands in where it gives energy, and none less than where it takes it
-pub dearest_of_all : (slots : List Slot) (xs : List ℤ) (z : ℕ) (best : Option ℕ) → All IsSmallSlot slots → IsDearestTo slots xs z BEYOND best → IsDearestIn slots xs z (length slots) best
-dearest_of_all slots xs z best small d = record { one = d.one; all = λ k l can e. d.all k can e (small k no_slot l).dear }
+pub dearest_of_all : (slots : List Slot) (xs : List ℤ) (z n : ℕ) (best : Option ℕ) → All IsSmallSlot slots → IsDearestTo slots xs z n BEYOND best → IsDearestIn slots xs z n best
+dearest_of_all slots xs z n best small d = record { one = d.one; all = λ k l can e. d.all k l can e (small k no_slot can.0).dear }
 
-pub cheapest_of_all : (slots : List Slot) (xs : List ℤ) (z : ℕ) (least : ℤ) (best : Option ℕ) → All IsSmallSlot slots → ((s : Slot) → IsSmallSlot s → least ≤ℤ s.price) → IsCheapestFrom slots xs z least best → IsCheapestIn slots xs z (length slots) best
-cheapest_of_all slots xs z least best small low c = record { one = c.one; all = λ k l can e. c.all k can e (low (slot_at slots k) (small k no_slot l)) }
+pub cheapest_of_all : (slots : List Slot) (xs : List ℤ) (z n : ℕ) (least : ℤ) (best : Option ℕ) → All IsSmallSlot slots → ((s : Slot) → IsSmallSlot s → least ≤ℤ s.price) → IsCheapestFrom slots xs z n least best → IsCheapestIn slots xs z n best
+cheapest_of_all slots xs z n least best small low c = record { one = c.one; all = λ k l can e. c.all k l can e (low (slot_at slots k) (small k no_slot can.0)) }
 
 -- one rung more at the beginning of those that were looked at
 pub dearest_rung_skip : (slots : List Slot) (xs : List ℤ) (ladder : List Rung) (at end : ℕ) (best : Option ℕ) → (CanLess slots xs (rung_at ladder at).place → ⊥)

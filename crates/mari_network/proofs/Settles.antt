@@ -1,5 +1,5 @@
 -- The answer, from where a run ends.
-use Rattle.std.proofs.Common.{◌≡◌, ◌≢◌, false, ℕ, ◌+◌, ◌-◌, ◌<◌, ◌≤◌, ℤ, pos, neg_ℤ, ◌≤ℤ◌, ◌<ℤ◌, List, [], ◌∷◌, ◌++◌, length, take, arith, sym, ap, ◌∙◌, subst, map, length-append, length-drop}
+use Rattle.std.proofs.Common.{◌≡◌, ◌≢◌, ℕ, ◌+◌, ◌-◌, ◌<◌, ◌≤◌, ℤ, pos, neg_ℤ, ◌≤ℤ◌, ◌<ℤ◌, List, [], ◌∷◌, ◌++◌, length, take, arith, sym, ap, ◌∙◌, subst, map, length-append, length-drop}
 use Rattle.std.proofs.lemmas.Int.{ints, by_lt_z}
 use Rattle.std.proofs.lemmas.List.{length-map, get_or-map}
 use Rattle.std.proofs.lemmas.Bool.{not-true, not-false}
@@ -33,7 +33,7 @@ use Rattle.mari_market.specs.declared.market.Border.{Border}
 use Rattle.mari_network.specs.Orders.{amount_gain, slot_of, slots_of, ArePuts, CanPut, capped_cents, is_inside}
 use Rattle.std.specs.Int.{int_max}
 use Rattle.mari_network.proofs.Lists.{zip_long}
-use Rattle.mari_network.proofs.Rungs.{less}
+use Rattle.mari_market.proofs.Rising.{less, not_less}
 use Rattle.mari_network.proofs.Shortfalls.{AreLowest, AreHighest}
 use Rattle.mari_network.proofs.Transfers.{IsBest, capped_prices, puts_gain}
 use Rattle.mari_network.proofs.Outcomes.{Ends, ends_solved, ends_cut_out, ends_cut_in}
@@ -114,9 +114,6 @@ answer_optimum spans m more n o xs fs prices e v network same runs tight amounts
       (w.flow ∙ flows) puts made
       (stated ∙ ap (λ (x : ℤ). int_max (pos 0) x) (puts_gain m.orders (take (length m.orders) xs) a.mw puts)) none;
 }
-
-not_less : (a b : ℤ) → lt_z a b ≡ false → b ≤ℤ a
-not_less a b e = grind (arith, ints)
 
 lowest : (n : ℕ) (p : ℕ → ℤ) (zones : List ℕ) → ((z : ℕ) → z < n → is_in zones z ≡ is_inside Out (p z)) → AreLowest n BEYOND p (is_in zones)
 lowest n p zones h = record {

@@ -8,3 +8,4 @@ pub mod Orders
 pub mod Searching
 pub mod Fits
 pub mod Solving
+pub mod Words

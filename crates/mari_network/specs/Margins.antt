@@ -4,6 +4,8 @@ use Rattle.mari_market.specs.Sums.{int_at}
 use Rattle.mari_network.specs.declared.slots.Slot.{Slot}
 use Rattle.mari_network.specs.declared.chain.Hop.{Hop}
 use Rattle.mari_network.specs.declared.margins.Margin.{Margin}
+use Rattle.mari_network.specs.declared.margins.Margins.{Margins}
+use Rattle.mari_network.specs.declared.network.Network.{Network}
 use Rattle.mari_network.specs.declared.margins.Source.{Source}
 use Rattle.mari_network.specs.Slots.{slot_at, zone_of, price_of, CanLess, CanMore}
 use Rattle.mari_network.specs.declared.network.Rung.{Rung}
@@ -82,25 +84,27 @@ pub record IsCheapestRung (slots : List Slot) (xs : List ℤ) (ladder : List Run
   pub one : (i : ℕ) → best ≡ Some i → CanMore slots xs i × (j : ℕ) × (start ≤ j) × (j < end) × ((rung_at ladder j).place ≡ i)
   pub all : (j : ℕ) → start ≤ j → j < end → CanMore slots xs (rung_at ladder j).place → IsBelow slots (rung_at ladder j).price best
 
--- a slot of zone z that may put in less, at least as dear as each of them that costs at most `top`, if there is one
-pub record IsDearestTo (slots : List Slot) (xs : List ℤ) (z : ℕ) (top : ℤ) (best : Option ℕ) : Type 0 where
+-- a slot of zone z that may put in less, at least as dear as each of the first n that costs at most `top`, if there is
+-- one
+pub record IsDearestTo (slots : List Slot) (xs : List ℤ) (z n : ℕ) (top : ℤ) (best : Option ℕ) : Type 0 where
   pub one : (i : ℕ) → best ≡ Some i → CanLess slots xs i × (zone_of slots i ≡ z)
-  pub all : (k : ℕ) → CanLess slots xs k → zone_of slots k ≡ z → price_of slots k ≤ℤ top → IsAbove slots (price_of slots k) best
+  pub all : (k : ℕ) → k < n → CanLess slots xs k → zone_of slots k ≡ z → price_of slots k ≤ℤ top → IsAbove slots (price_of slots k) best
 
--- a slot of zone z that may put in more, at least as cheap as each of them that costs at least `least`, if there is one
-pub record IsCheapestFrom (slots : List Slot) (xs : List ℤ) (z : ℕ) (least : ℤ) (best : Option ℕ) : Type 0 where
+-- a slot of zone z that may put in more, at least as cheap as each of the first n that costs at least `least`, if there
+-- is one
+pub record IsCheapestFrom (slots : List Slot) (xs : List ℤ) (z n : ℕ) (least : ℤ) (best : Option ℕ) : Type 0 where
   pub one : (i : ℕ) → best ≡ Some i → CanMore slots xs i × (zone_of slots i ≡ z)
-  pub all : (k : ℕ) → CanMore slots xs k → zone_of slots k ≡ z → least ≤ℤ price_of slots k → IsBelow slots (price_of slots k) best
+  pub all : (k : ℕ) → k < n → CanMore slots xs k → zone_of slots k ≡ z → least ≤ℤ price_of slots k → IsBelow slots (price_of slots k) best
 
--- a slot of zone z that may put in less, at least as dear as each of them but one, if there is one
-pub record IsDearestBut (slots : List Slot) (xs : List ℤ) (z other : ℕ) (best : Option ℕ) : Type 0 where
+-- a slot of zone z that may put in less, at least as dear as each of the first n but one, if there is one
+pub record IsDearestBut (slots : List Slot) (xs : List ℤ) (z n other : ℕ) (best : Option ℕ) : Type 0 where
   pub one : (i : ℕ) → best ≡ Some i → CanLess slots xs i × (zone_of slots i ≡ z)
-  pub all : (k : ℕ) → k ≢ other → CanLess slots xs k → zone_of slots k ≡ z → IsAbove slots (price_of slots k) best
+  pub all : (k : ℕ) → k < n → k ≢ other → CanLess slots xs k → zone_of slots k ≡ z → IsAbove slots (price_of slots k) best
 
--- a slot of zone z that may put in more, at least as cheap as each of them but one, if there is one
-pub record IsCheapestBut (slots : List Slot) (xs : List ℤ) (z other : ℕ) (best : Option ℕ) : Type 0 where
+-- a slot of zone z that may put in more, at least as cheap as each of the first n but one, if there is one
+pub record IsCheapestBut (slots : List Slot) (xs : List ℤ) (z n other : ℕ) (best : Option ℕ) : Type 0 where
   pub one : (i : ℕ) → best ≡ Some i → CanMore slots xs i × (zone_of slots i ≡ z)
-  pub all : (k : ℕ) → k ≢ other → CanMore slots xs k → zone_of slots k ≡ z → IsBelow slots (price_of slots k) best
+  pub all : (k : ℕ) → k < n → k ≢ other → CanMore slots xs k → zone_of slots k ≡ z → IsBelow slots (price_of slots k) best
 
 -- the dearest of these slots that are of zone z and may put in less, if there is one
 pub record IsDearestOfThese (These : ℕ → Type 0) (slots : List Slot) (xs : List ℤ) (z : ℕ) (best : Option ℕ) : Type 0 where
@@ -135,10 +139,15 @@ pub record IsMarginWith (slots : List Slot) (xs : List ℤ) (before : Margin) (s
   pub dearest : IsDearestWith slots xs before.dearest slot after.dearest
   pub cheapest : IsCheapestWith slots xs before.cheapest slot after.cheapest
 
--- the zone's marginal slots
-pub record IsMarginOf (slots : List Slot) (xs : List ℤ) (z : ℕ) (m : Margin) : Type 0 where
-  pub dearest : IsDearestIn slots xs z (length slots) m.dearest
-  pub cheapest : IsCheapestIn slots xs z (length slots) m.cheapest
+-- the zone's marginal slots among the first n
+pub record IsMarginIn (slots : List Slot) (xs : List ℤ) (z n : ℕ) (m : Margin) : Type 0 where
+  pub dearest : IsDearestIn slots xs z n m.dearest
+  pub cheapest : IsCheapestIn slots xs z n m.cheapest
+
+-- the marginal slots of each zone of the network
+pub record AreMarginsOf (n : Network) (xs : List ℤ) (m : Margins) : Type 0 where
+  pub on_ladders : AreMargins n.slots.now xs (length n.meeting.now) n.on_ladders m.on_ladders.items
+  pub all : AreMargins n.slots.now xs (length n.meeting.now) (length n.slots.now) m.all.items
 
 -- energy moved from a source to a sink: the source puts in more and the sink less, and no other slot's amount changed
 pub record IsMoved (slots : List Slot) (old new : List ℤ) (sink source : ℕ) : Type 0 where

@@ -1,8 +1,9 @@
 -- Networks: slots and borders between zones, and for each zone its slots by price and the ways into it.
-use Rattle.std.specs.Prelude.{◌≡◌, Bool, true, false, ℕ, zero, suc, ◌+◌, ◌<◌, ◌≤◌, ℤ, pos, ◌+ℤ◌, ◌≤ℤ◌, List, length, slice_index_or}
+use Rattle.std.specs.Prelude.{◌≡◌, Bool, true, false, ℕ, zero, suc, ◌+◌, ◌<◌, ◌≤◌, ℤ, pos, ◌+ℤ◌, List, length, slice_index_or}
 use Rattle.std.specs.List.{All, Contains}
 use Rattle.mari_market.specs.declared.market.Border.{Border}
 use Rattle.mari_market.specs.Market.{IsBetween}
+use Rattle.mari_market.specs.Rising.{RisesBy}
 use Rattle.mari_market.specs.Sums.{int_sum}
 use Rattle.mari_network.specs.declared.slots.Slot.{Slot}
 use Rattle.mari_network.specs.declared.network.Network.{Network}
@@ -72,7 +73,7 @@ pub record AreRungs (slots : List Slot) (n z : ℕ) (rungs : List Rung) : Type 0
 
 -- no rung is dearer than a later one
 abbrev pub IsRising : List Rung → Type 0
-IsRising rungs = (i j : ℕ) (d : Rung) → i ≤ j → j < length rungs → (slice_index_or rungs i d).price ≤ℤ (slice_index_or rungs j d).price
+IsRising rungs = RisesBy (λ (r : Rung). r.price) rungs
 
 -- the rungs of those of the first n slots that are of the zone, the cheapest first
 pub record IsLadder (slots : List Slot) (n z : ℕ) (ladder : List Rung) : Type 0 where

@@ -84,7 +84,7 @@ fn cheapest_rung(slots: &[Slot], amounts: &[i64], ladder: &[Rung], start: usize)
 }
 
 /// The dearest of some slots that may put in less, with what stands in for a zone.
-fn dearest_with_stand_in(
+pub fn dearest_with_stand_in(
     network: &Network,
     amounts: &[i64],
     best: Option<usize>,
@@ -107,7 +107,7 @@ fn dearest_with_stand_in(
 }
 
 /// The cheapest of some slots that may put in more, with what stands in for a zone.
-fn cheapest_with_stand_in(
+pub fn cheapest_with_stand_in(
     network: &Network,
     amounts: &[i64],
     best: Option<usize>,
@@ -129,28 +129,24 @@ fn cheapest_with_stand_in(
     cheapest_with_in_order(slots, amounts, best, place)
 }
 
-/// The dearest of a zone's slots that may put in less, of those on its ladder that cost at most this and what stands in
-/// for it, at any price.
+/// The dearest of the slots on a zone's ladder that may put in less and cost at most this.
 pub fn dearest_to(network: &Network, amounts: &[i64], zone: usize, top: i64) -> Option<usize>
     requires network { IsNetwork network.now }
     requires amounts { length amounts.now ≡ length network.now.slots.now }
     requires zone { zone < length network.now.meeting.now }
-    ensures { IsDearestTo network.now.slots.now amounts.now zone top result }
+    ensures { IsDearestTo network.now.slots.now amounts.now zone network.now.on_ladders top result }
 {
     let ladder = ladder_at(network, zone);
-    let best = dearest_rung(network.slots, amounts, ladder, rungs_to(ladder, top));
-    dearest_with_stand_in(network, amounts, best, zone)
+    dearest_rung(network.slots, amounts, ladder, rungs_to(ladder, top))
 }
 
-/// The cheapest of a zone's slots that may put in more, of those on its ladder that cost at least this and what stands
-/// in for it, at any price.
+/// The cheapest of the slots on a zone's ladder that may put in more and cost at least this.
 pub fn cheapest_from(network: &Network, amounts: &[i64], zone: usize, least: i64) -> Option<usize>
     requires network { IsNetwork network.now }
     requires amounts { length amounts.now ≡ length network.now.slots.now }
     requires zone { zone < length network.now.meeting.now }
-    ensures { IsCheapestFrom network.now.slots.now amounts.now zone least result }
+    ensures { IsCheapestFrom network.now.slots.now amounts.now zone network.now.on_ladders least result }
 {
     let ladder = ladder_at(network, zone);
-    let best = cheapest_rung(network.slots, amounts, ladder, rungs_below(ladder, least));
-    cheapest_with_stand_in(network, amounts, best, zone)
+    cheapest_rung(network.slots, amounts, ladder, rungs_below(ladder, least))
 }

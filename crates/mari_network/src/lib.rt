@@ -19,9 +19,9 @@ mod slots;
 
 pub use chain::{Chain, Hop, has_room, improve};
 pub use ladders::rungs_to;
-pub use margins::{Margin, add_to_margin};
+pub use margins::{Margin, Margins, add_to_margin};
 pub use network::{Network, Places, Rung, Way, network_of, places_of};
 pub use optimum::{Optimum, SolveFault, Solved, answer};
-pub use renewal::{margins_of, renew};
+pub use renewal::{margins_of, margins_on_ladders, renew, with_stand_ins};
 pub use search::{Search, find_chain, next_chain, search_of};
 pub use slots::{BEYOND, Slot, gain_of, order_slots, slot_from, stand_in, worth_of};

@@ -18,6 +18,15 @@ pub struct Margin {
     pub cheapest: Option<usize>,
 }
 
+/// The margin of each zone, by itself and with what stands in for it.
+#[derive(Drop)]
+pub struct Margins {
+    /// Those of the slots on its ladder.
+    pub on_ladders: Vec<Margin>,
+    /// Those of all its slots.
+    pub all: Vec<Margin>,
+}
+
 /// A slot that may put in more, of the zone of a hop.
 #[derive(Clone, Copy, Drop)]
 pub struct Source {

@@ -1,15 +1,18 @@
 //! What a solver works on: slots, and borders between zones.
 
-ghost use Rattle.std.specs.Prelude.{◌≡◌, ◌≢◌, ◌<◌, ◌≤◌, ◌++◌, ◌∷◌, [], ℕ, length, take, IfOk, OnOk, slice_index_or};
+ghost use Rattle.std.specs.Prelude.{◌≡◌, ◌≢◌, ◌<◌, ◌≤◌, ◌^◌, ◌++◌, ◌∷◌, [], ℕ, length, map, take, IfOk, OnOk, slice_index_or};
 ghost use Rattle.std.specs.List.{All, AllZip};
 ghost use Rattle.std.specs.List.Sorted.{IsPermutation};
 ghost use Rattle.mari_market.specs.Market.{IsValid, IsBetween};
 ghost use Rattle.mari_network.specs.Fits.{IsNetworkSlot};
-ghost use Rattle.mari_network.specs.Network.{rung_of, tail_of, way_of, AreInOrder, AreMeeting, ArePlaces, AreRungs, IsLadder, IsNetwork, IsRising};
+ghost use Rattle.mari_network.specs.Network.{tail_of, way_of, AreInOrder, AreMeeting, ArePlaces, AreRungs, IsLadder, IsNetwork, IsRising};
 ghost use Rattle.mari_network.specs.Orders.{CanPut};
+ghost use Rattle.mari_network.specs.Slots.{IsSmallSlot};
 ghost use Rattle.mari_network.specs.Solving.{IsNetworkOf};
+ghost use Rattle.mari_network.specs.Words.{rung_in};
+ghost use Rattle.mari_network.specs.declared.network.TheConstants.{WORD_PLACES};
 
-use crate::slots::Slot;
+use crate::slots::{BEYOND, Slot};
 use mari_market::{Border, Market};
 use std::alloc::{AllocError, Global};
 
@@ -124,46 +127,67 @@ fn meeting_borders(
     Ok(meeting)
 }
 
-/// The rung of a slot.
-fn rung_at(slots: &[Slot], place: usize) -> Rung
-    requires { place < length slots.now }
-    ensures { result ≡ rung_of slots.now place }
+/// How many places a word tells apart.
+const WORD_PLACES: u64 = 1 << 32;
+
+/// The rung of a slot, as one word. Words are in the order of prices, and at one price in that of places.
+fn word_of(slot: Slot, place: usize) -> u64
+    requires slot { IsSmallSlot slot }
+    requires place { place < WORD_PLACES }
+    ensures { rung_in result ≡ record { price = slot.price; place = place } }
+{
+    (slot.price + BEYOND) as u64 * WORD_PLACES + place as u64
+}
+
+/// The rung of a word.
+fn rung_of_word(word: u64) -> Rung
+    ensures { result ≡ rung_in word }
 {
     Rung {
-        price: slots[place].price,
-        place,
+        price: (word / WORD_PLACES) as i64 - BEYOND,
+        place: (word % WORD_PLACES) as usize,
     }
 }
 
-/// For each zone the rungs of those of the first slots that are of it.
-fn rungs_by_zone(
+/// For each zone the words of those of the first slots that are of it.
+fn words_by_zone(
     alloc: Global,
     slots: &[Slot],
     zones: usize,
     on_ladders: usize,
-) -> Result<Vec<Vec<Rung>>, AllocError>
-    requires zones { All (λ s. s.zone < zones) slots.now }
+) -> Result<Vec<Vec<u64>>, AllocError>
+    requires slots { All (IsNetworkSlot zones) slots.now }
     requires some { 0 < zones }
     requires few { on_ladders ≤ length slots.now }
+    requires places { on_ladders ≤ WORD_PLACES }
     ensures long { IfOk result (λ v. length v.items ≡ zones) }
-    ensures rungs { IfOk result (λ v. (z : ℕ) (d : _) → z < zones → AreRungs slots.now on_ladders z (slice_index_or v.items z d).items) }
+    ensures rungs { IfOk result (λ v. (z : ℕ) (d : _) → z < zones → AreRungs slots.now on_ladders z (map rung_in (slice_index_or v.items z d).items)) }
 {
     let even = on_ladders / zones;
-    let mut rungs = empty_lists(alloc, zones, even + even / 2)?;
+    let mut words = empty_lists(alloc, zones, even + even / 2)?;
     for place in 0..on_ladders {
-        let zone = slots[place].zone as usize;
-        add_to(&mut rungs, zone, rung_at(slots, place))?;
+        let slot = slots[place];
+        add_to(&mut words, slot.zone as usize, word_of(slot, place))?;
     }
-    Ok(rungs)
+    Ok(words)
 }
 
-/// Sorts rungs by their price, the cheapest first. Two that cost the same stay in their order; no clause says so.
-fn sort_rungs(rungs: &mut Vec<Rung>) -> Result<(), AllocError>
-    ensures same { IsPermutation rungs.old.items rungs.new.items }
-    ensures rising { OnOk result (IsRising rungs.new.items) }
+/// The rungs of words.
+fn rungs_of(alloc: Global, words: &[u64]) -> Result<Vec<Rung>, AllocError>
+    ensures { IfOk result (λ v. v.items ≡ map rung_in words.now) }
 {
-    rungs.sort_by_key(|rung| rung.price)?;
-    Ok(())
+    words.iter().map(|word| rung_of_word(*word)).collect(alloc)
+}
+
+/// The ladder of rungs given as words, which it sorts: the cheapest first, and of two that cost the same the one that
+/// stands first among the slots; of that no clause speaks.
+fn ladder_of(alloc: Global, words: &mut Vec<u64>) -> Result<Vec<Rung>, AllocError>
+    ensures words { IsPermutation words.old.items words.new.items }
+    ensures same { IfOk result (λ v. IsPermutation (map rung_in words.old.items) v.items) }
+    ensures rising { IfOk result (λ v. IsRising v.items) }
+{
+    words.sort_unstable();
+    rungs_of(alloc, words)
 }
 
 /// For each zone its ladder: the rungs of those of the first slots that are of it, the cheapest first.
@@ -173,15 +197,17 @@ fn ladders_of(
     zones: usize,
     on_ladders: usize,
 ) -> Result<Vec<Vec<Rung>>, AllocError>
-    requires zones { All (λ s. s.zone < zones) slots.now }
+    requires slots { All (IsNetworkSlot zones) slots.now }
     requires some { 0 < zones }
     requires few { on_ladders ≤ length slots.now }
+    requires places { on_ladders ≤ WORD_PLACES }
     ensures long { IfOk result (λ v. length v.items ≡ zones) }
     ensures ladders { IfOk result (λ v. (z : ℕ) (d : _) → z < zones → IsLadder slots.now on_ladders z (slice_index_or v.items z d).items) }
 {
-    let mut ladders = rungs_by_zone(alloc, slots, zones, on_ladders)?;
+    let mut words = words_by_zone(alloc, slots, zones, on_ladders)?;
+    let mut ladders = Vec::with_capacity(alloc, zones)?;
     for zone in 0..zones {
-        sort_rungs(&mut ladders[zone])?;
+        ladders.push(ladder_of(alloc, &mut words[zone])?)?;
     }
     Ok(ladders)
 }
@@ -198,6 +224,7 @@ pub fn places_of(
     requires market { IsValid market.now }
     requires slots { All (IsNetworkSlot market.now.zones) slots.now }
     requires few { on_ladders ≤ length slots.now }
+    requires places { on_ladders ≤ 2 ^ 32 }
     requires stand_ins { AreInOrder on_ladders slots.now }
     ensures places { IfOk result (ArePlaces market.now.zones slots.now market.now.borders) }
     ensures on_ladders { IfOk result (λ p. p.on_ladders ≡ on_ladders) }
@@ -222,6 +249,7 @@ pub fn network_of<'a>(market: &'a Market, slots: &'a [Slot], places: &'a Places)
     ensures network { IsNetwork result }
     ensures same { IsNetworkOf market.now result }
     ensures slots { result.slots.now ≡ slots.now }
+    ensures on_ladders { result.on_ladders ≡ places.now.on_ladders }
 {
     let borders = market.borders.as_slice();
     let ladders = places.ladders.as_slice();

@@ -1,5 +1,5 @@
 -- Supply curves of zones, and what runs at one price for the whole market.
-use Rattle.std.specs.Prelude.{◌≡◌, if◌then◌else◌, ◌⊎◌, ℕ, ◌<◌, ◌≤◌, ℤ, pos, ◌+ℤ◌, neg_ℤ, ◌≤ℤ◌, ◌<ℤ◌, List, [], ◌∷◌, Vec, length, slice_index_or}
+use Rattle.std.specs.Prelude.{◌≡◌, if◌then◌else◌, ◌⊎◌, ℕ, ◌<◌, ◌≤◌, ℤ, pos, ◌+ℤ◌, neg_ℤ, ◌≤ℤ◌, ◌<ℤ◌, List, Vec, length, slice_index_or}
 use Rattle.std.specs.Int.{int_max, int_min}
 use Rattle.std.specs.List.{All}
 use Rattle.std.specs.declared.alloc.Global.{Global}
@@ -7,6 +7,7 @@ use lib.Signed.{lt_z}
 use Rattle.mari_market.specs.declared.market.Border.{Border}
 use Rattle.mari_market.specs.declared.market.Market.{Market}
 use Rattle.mari_market.specs.declared.limits.TheConstants.{MOST_ORDERS}
+use Rattle.mari_market.specs.Rising.{last_below, RisesBy}
 use Rattle.mari_market.specs.Sums.{int_at, int_sum}
 use Rattle.mari_network.specs.declared.network.Rung.{Rung}
 use Rattle.mari_network.specs.declared.slots.Slot.{Slot}
@@ -71,12 +72,11 @@ supply_of_all slots p = int_sum (run_at p) slots
 
 -- no step is dearer than a later one
 abbrev pub AreRising : List Step → Type 0
-AreRising steps = (i j : ℕ) (d : Step) → i ≤ j → j < length steps → (slice_index_or steps i d).price ≤ℤ (slice_index_or steps j d).price
+AreRising steps = RisesBy (λ (s : Step). s.price) steps
 
 -- how much more is put in at the last step that costs less than the price, or `before` if there is none
 abbrev pub more_below : ℤ → ℤ → List Step → ℤ
-more_below p before [] = before
-more_below p before (s ∷ ss) = more_below p (if lt_z s.price p then s.more else before) ss
+more_below p before steps = last_below (λ (s : Step). s.price) (λ (s : Step). s.more) p before steps
 
 -- what a zone puts in at a price, by its supply curve
 abbrev pub supplied : ℤ → Curve → ℤ

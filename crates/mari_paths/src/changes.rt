@@ -150,7 +150,7 @@ fn change_slots(
 }
 
 /// Gives the orders of gates their bounds at a prefix, brings up to date what all amounts are worth together, in
-/// quarter-cents, and makes the margins of the orders without a gate those of all slots.
+/// quarter-cents, and makes the margins of the orders without a gate those of all orders.
 pub fn set_bounds(
     market: &Market,
     prefix: &Prefix,
@@ -174,10 +174,10 @@ pub fn set_bounds(
     requires worth { worth.old ≡ sum_along slot_gain slots.old amounts.old }
     requires margins { AreMarginsOfThese (IsPlain market.now) slots.old amounts.old market.now.zones margins.old }
 
-    // The same of what runs then, with the margins of all slots, where each zone puts in what it did.
+    // The same of what runs then, with the margins of all orders, where each zone puts in what it did.
     ensures filled { AreFilled market.now slots.new amounts.new }
     ensures places { (places : PlacesRecord) → places.on_ladders ≡ length market.now.orders → ArePlaces market.now.zones slots.old market.now.borders places → ArePlaces market.now.zones slots.new market.now.borders places }
-    ensures margins { AreMargins slots.new amounts.new market.now.zones (length slots.new) margins.new }
+    ensures margins { AreMargins slots.new amounts.new market.now.zones (length market.now.orders) margins.new }
     ensures into { (z : ℕ) → sum_along (slot_into z) slots.new amounts.new ≡ sum_along (slot_into z) slots.old amounts.old }
     ensures worth { worth.new ≡ sum_along slot_gain slots.new amounts.new }
 

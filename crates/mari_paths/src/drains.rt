@@ -6,12 +6,12 @@ ghost use Rattle.mari_market.specs.Sums.{sum_along};
 ghost use Rattle.mari_market.specs.Activation.{IsWithinLimits};
 ghost use Rattle.mari_network.specs.Chain.{hop_at, HasRoom, IsImproving};
 ghost use Rattle.mari_paths.specs.Drains.{AreHops, AreEnds};
-ghost use Rattle.mari_network.specs.Margins.{dearest_at, cheapest_at, AreMargins};
+ghost use Rattle.mari_network.specs.Margins.{dearest_at, cheapest_at, AreMargins, AreMarginsOf};
 ghost use Rattle.mari_network.specs.Network.{IsNetwork, Runs};
 ghost use Rattle.mari_network.specs.Searching.{IsMovedAlong};
 ghost use Rattle.mari_network.specs.Slots.{slot_gain};
 
-use mari_network::{Chain, Hop, Margin, Network, Slot, has_room, improve, renew};
+use mari_network::{Chain, Hop, Margin, Margins, Network, Slot, has_room, improve, renew};
 
 /// Where a chain ends and starts.
 #[derive(Clone, Copy, Drop)]
@@ -154,20 +154,20 @@ fn push_along(
     amounts: &mut [i64],
     flows: &mut [i64],
     worth: &mut i128,
-    margins: &mut [Margin],
+    margins: &mut Margins,
     chain: &Chain,
 )
     // What the caller knows of what runs and what it is worth, and of the chain.
     requires network { IsNetwork network.now }
     requires runs { Runs network.now amounts.old flows.old }
     requires worth { worth.old ≡ sum_along slot_gain network.now.slots.now amounts.old }
-    requires margins { AreMargins network.now.slots.now amounts.old (length network.now.meeting.now) (length network.now.slots.now) margins.old }
+    requires margins { AreMarginsOf network.now amounts.old margins.old }
     requires chain { IsImproving network.now amounts.old flows.old chain.now }
 
     // The same of what runs then, and that it is better.
     ensures runs { Runs network.now amounts.new flows.new }
     ensures worth { worth.new ≡ sum_along slot_gain network.now.slots.now amounts.new }
-    ensures margins { AreMargins network.now.slots.now amounts.new (length network.now.meeting.now) (length network.now.slots.now) margins.new }
+    ensures margins { AreMarginsOf network.now amounts.new margins.new }
     ensures rises { sum_along slot_gain network.now.slots.now amounts.old <ℤ sum_along slot_gain network.now.slots.now amounts.new }
     ensures along { IsMovedAlong network.now.slots.now network.now.borders.now chain.now.hops.items amounts.old flows.old amounts.new flows.new }
 {
@@ -188,20 +188,20 @@ pub fn drain(
     amounts: &mut [i64],
     flows: &mut [i64],
     worth: &mut i128,
-    margins: &mut [Margin],
+    margins: &mut Margins,
     chain: &mut Chain,
 )
     // What the caller knows of what runs and what it is worth, and of the first chain.
     requires network { IsNetwork network.now }
     requires runs { Runs network.now amounts.old flows.old }
     requires worth { worth.old ≡ sum_along slot_gain network.now.slots.now amounts.old }
-    requires margins { AreMargins network.now.slots.now amounts.old (length network.now.meeting.now) (length network.now.slots.now) margins.old }
+    requires margins { AreMarginsOf network.now amounts.old margins.old }
     requires chain { IsImproving network.now amounts.old flows.old chain.old }
 
     // The same of what runs then, and that it is better.
     ensures runs { Runs network.now amounts.new flows.new }
     ensures worth { worth.new ≡ sum_along slot_gain network.now.slots.now amounts.new }
-    ensures margins { AreMargins network.now.slots.now amounts.new (length network.now.meeting.now) (length network.now.slots.now) margins.new }
+    ensures margins { AreMarginsOf network.now amounts.new margins.new }
     ensures rises { sum_along slot_gain network.now.slots.now amounts.old <ℤ sum_along slot_gain network.now.slots.now amounts.new }
 
     // The hops are those of before, and energy moved along them alone.
@@ -210,7 +210,7 @@ pub fn drain(
 {
     let price = network.slots[chain.sink].price;
     push_along(network, amounts, flows, worth, margins, chain);
-    while go_on(network, amounts, flows, margins, chain, price) {
+    while go_on(network, amounts, flows, &margins.all, chain, price) {
         push_along(network, amounts, flows, worth, margins, chain);
     }
 }

@@ -35,7 +35,7 @@ pub fn plain_margins(
     Ok(margins)
 }
 
-/// Adds the orders of gates, which are at these places, and what stands in to the margins of the orders without a gate.
+/// Adds the orders of gates, which are at these places, to the margins of the orders without a gate.
 pub fn complete_margins(
     market: &Market,
     gated: &[usize],
@@ -46,13 +46,9 @@ pub fn complete_margins(
     requires gated { AreGated market.now gated.now }
     requires filled { AreFilled market.now slots.now amounts.now }
     requires margins { AreMarginsOfThese (IsPlain market.now) slots.now amounts.now market.now.zones margins.old }
-    ensures { AreMargins slots.now amounts.now market.now.zones (length slots.now) margins.new }
+    ensures { AreMargins slots.now amounts.now market.now.zones (length market.now.orders) margins.new }
 {
     for place in gated {
         add_to_margin(slots, amounts, margins, *place);
-    }
-    let orders = market.orders.as_slice().len();
-    for zone in 0..margins.len() {
-        add_to_margin(slots, amounts, margins, orders + zone);
     }
 }

@@ -25,8 +25,8 @@ use crate::run::run;
 use crate::start::start_from;
 use mari_market::{Activation, Market, Prefix};
 use mari_network::{
-    Margin, Network, Optimum, Places, Slot, SolveFault, Solved, answer, margins_of, network_of,
-    order_slots, places_of, worth_of,
+    Margin, Network, Optimum, Places, Slot, SolveFault, Solved, answer, margins_on_ladders,
+    network_of, order_slots, places_of, with_stand_ins, worth_of,
 };
 use std::alloc::Global;
 
@@ -38,29 +38,30 @@ pub fn solve_network(
     mut amounts: Vec<i64>,
     mut flows: Vec<i64>,
     mut worth: i128,
-    margins: &mut [Margin],
+    on_ladders: Vec<Margin>,
 ) -> Result<Optimum, SolveFault>
     // The network is the market's.
     requires market { IsValid market.now }
     requires network { IsNetwork network.now }
     requires same { IsNetworkOf market.now network.now }
 
-    // What runs in it and what it is worth, in quarter-cents, with its margins.
+    // What runs in it and what it is worth, in quarter-cents, with the margins of its ladders.
     requires runs { Runs network.now amounts.items flows.items }
     requires worth { worth ≡ sum_along slot_gain network.now.slots.now amounts.items }
-    requires margins { AreMargins network.now.slots.now amounts.items (length network.now.meeting.now) (length network.now.slots.now) margins.old }
+    requires margins { AreMargins network.now.slots.now amounts.items (length network.now.meeting.now) network.now.on_ladders on_ladders.items }
     requires long { length market.now.orders ≤ length amounts.items }
 
     // The answer, by whatever bounds the slots were made.
     ensures { (spans : Order → Span) (more : List Slot) → AreSlotsOf spans market.now more network.now.slots.now → IsFoundOptimum spans market.now result }
 {
+    let mut margins = with_stand_ins(alloc, network, &amounts, on_ladders)?;
     let prices = run(
         alloc,
         network,
         &mut amounts,
         &mut flows,
         &mut worth,
-        margins,
+        &mut margins,
     )?;
     answer(alloc, market, network, amounts, flows, worth, &prices)
 }
@@ -85,8 +86,8 @@ fn solve_slots(
 {
     let network = network_of(market, slots, places);
     let worth = worth_of(network.slots, &amounts);
-    let mut margins = margins_of(alloc, &network, &amounts)?;
-    solve_network(alloc, market, &network, amounts, flows, worth, &mut margins)
+    let margins = margins_on_ladders(alloc, &network, &amounts)?;
+    solve_network(alloc, market, &network, amounts, flows, worth, margins)
 }
 
 /// The relaxed optimum of a market whose orders may run within these slots, from an activation to start with; or a

@@ -144,7 +144,7 @@ impl WarmStart {
             &mut margins,
         );
         let network = network_of(market, slots, &self.places);
-        let found = solve_network(alloc, market, &network, amounts, flows, worth, &mut margins);
+        let found = solve_network(alloc, market, &network, amounts, flows, worth, margins);
         put_back(slots, self.slots.as_slice(), gated, self.places.on_ladders);
         found
     }

@@ -6,5 +6,5 @@ use Rattle.mari_network.proofs.ladders.cheapest_from.Goals as goal
 pub returns : goal.returns
 returns c =
     let below : (j : ℕ) (d : Rung) → j < c.rungs_below.result → (get_or c.ladder_at-ladder.result.now j d).price <ℤ c.args.least = search rules in
-    cheapest_on c.args.network.now.slots.now c.args.amounts.now c.args.network.now.on_ladders c.args.zone c.ladder_at-ladder.result.now c.args.least c.rungs_below.result c.cheapest_rung-best.result c.cheapest_with_stand_in.result
-    c.ladder_at-ladder.ensures below c.cheapest_rung-best.ensures c.cheapest_with_stand_in.ensures.one c.cheapest_with_stand_in.ensures.keeps c.cheapest_with_stand_in.ensures.below
+    cheapest_on c.args.network.now.slots.now c.args.amounts.now c.args.network.now.on_ladders c.args.zone c.ladder_at-ladder.result.now c.args.least c.rungs_below.result c.cheapest_rung.result
+    c.ladder_at-ladder.ensures below c.cheapest_rung.ensures

@@ -6,5 +6,5 @@ use Rattle.mari_network.proofs.ladders.dearest_to.Goals as goal
 pub returns : goal.returns
 returns c =
     let above : (j : ℕ) (d : Rung) → c.rungs_to.result ≤ j → j < length c.ladder_at-ladder.result.now → c.args.top <ℤ (get_or c.ladder_at-ladder.result.now j d).price = search rules in
-    dearest_on c.args.network.now.slots.now c.args.amounts.now c.args.network.now.on_ladders c.args.zone c.ladder_at-ladder.result.now c.args.top c.rungs_to.result c.dearest_rung-best.result c.dearest_with_stand_in.result
-    c.ladder_at-ladder.ensures c.rungs_to.ensures.few above c.dearest_rung-best.ensures c.dearest_with_stand_in.ensures.one c.dearest_with_stand_in.ensures.keeps c.dearest_with_stand_in.ensures.above
+    dearest_on c.args.network.now.slots.now c.args.amounts.now c.args.network.now.on_ladders c.args.zone c.ladder_at-ladder.result.now c.args.top c.rungs_to.result c.dearest_rung.result
+    c.ladder_at-ladder.ensures c.rungs_to.ensures.few above c.dearest_rung.ensures

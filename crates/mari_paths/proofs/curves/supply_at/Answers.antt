@@ -2,7 +2,8 @@ use Rattle.std.proofs.Common.{◌≡◌, ◌<◌, ◌≤◌, ◌-◌, ℤ, pos, 
 use Rattle.std.proofs.lemmas.Int.{ints}
 use Rattle.mari_paths.specs.declared.curves.Step.{Step}
 use Rattle.mari_paths.specs.Starts.{IsNear}
-use Rattle.mari_paths.proofs.Supplies.{last_some, no_step, supply_first}
+use Rattle.mari_market.proofs.Rising.{last_some}
+use Rattle.mari_paths.proofs.Supplies.{no_step, supply_first}
 use Rattle.mari_paths.proofs.curves.supply_at.Goals as goal
 
 pub returns-in-0-clause-supply : goal.returns-in-0-clause-supply
@@ -23,7 +24,7 @@ returns-in_default-clause-supply c =
     let is : to_z w64 (of_z w64 (to_z w64 (of_z w64 c.args.curve.now.least) +ℤ to_z w64 (of_z w64 (get_or c.as_slice-steps.result.now (c.steps_below.result - 1) no_step).more)))
     ≡ c.args.curve.now.least +ℤ (get_or c.as_slice-steps.result.now (c.steps_below.result - 1) no_step).more =
     omega (arith, ints, c.requires.least.low, c.requires.least.high, small.low, small.high, last) in
-    is ∙ ap (λ (x : ℤ). c.args.curve.now.least +ℤ x) (sym (last_some c.steps_below.result (pos 0) c.as_slice-steps.result.now some))
+    is ∙ ap (λ (x : ℤ). c.args.curve.now.least +ℤ x) (sym (last_some (λ (s : Step). s.more) c.steps_below.result (pos 0) c.as_slice-steps.result.now no_step some))
     ∙ supply_first c.steps_below.result c.args.price _ c.args.curve.now.least c.as_slice-steps.result.now c.args.curve.now.steps.items c.as_slice-steps.ensures.value (to_z-of_z fits) c.steps_below.ensures.few
     c.steps_below.ensures.below c.steps_below.ensures.rest
 

@@ -2,7 +2,7 @@ use Rattle.std.proofs.Common.{◌≡◌, length, ◌<ℤ◌}
 use Rattle.mari_market.specs.Sums.{sum_along}
 use Rattle.mari_network.specs.Searching.{IsMovedAlong}
 use Rattle.mari_network.specs.Slots.{slot_gain}
-use Rattle.mari_network.specs.Margins.{AreMargins}
+use Rattle.mari_network.specs.Margins.{AreMarginsOf}
 use Rattle.mari_network.specs.Network.{Runs}
 use Rattle.mari_paths.specs.Drains.{AreHops}
 use Rattle.mari_network.proofs.Worths.{room_left}
@@ -12,7 +12,7 @@ abbrev pub invariant-loop-amounts : goal.invariant-loop-amounts
 invariant-loop-amounts l = record {
   runs : Runs l.network l.amounts l.flows;
   worth : l.worth ≡ sum_along slot_gain l.network.slots.now l.amounts;
-  margins : AreMargins l.network.slots.now l.amounts (length l.network.meeting.now) (length l.network.slots.now) l.margins;
+  margins : AreMarginsOf l.network l.amounts l.margins;
   hops : AreHops (length l.network.meeting.now) l.network.borders.now l.chain.hops.items;
   same : l.chain.hops ≡ l.fn.chain.hops;
   along : IsMovedAlong l.network.slots.now l.network.borders.now l.fn.chain.hops.items l.fn.amounts l.fn.flows l.amounts l.flows;

@@ -1,11 +1,10 @@
-use Rattle.std.proofs.Common.{◌≡◌, ◌≢◌, ◌<◌, ◌^◌, ℕ, ℤ, length, get_or, sym, ap, ◌∙◌, subst, rules, inl, inr, to_z, of_z, to_z-of_z, FitsSigned}
+use Rattle.std.proofs.Common.{◌≡◌, ◌≢◌, ◌<◌, ◌^◌, ℕ, ℤ, length, get_or, sym, ap, ◌∙◌, subst, rules, to_z, of_z, to_z-of_z, FitsSigned}
 use Rattle.std.specs.Int.{w128}
-use Rattle.std.proofs.lemmas.Bool.{cases_eq}
 use Rattle.mari_network.specs.declared.margins.Margin.{Margin}
 use Rattle.mari_market.specs.Sums.{sum_along}
 use Rattle.mari_network.specs.Slots.{no_slot, slot_gain, zone_of}
-use Rattle.mari_network.specs.Margins.{no_margin, IsMarginOf}
-use Rattle.mari_network.proofs.Marginal.{margins_from, margins_at, margin_stays}
+use Rattle.mari_network.specs.Margins.{no_margin, IsMarginIn}
+use Rattle.mari_network.proofs.Marginal.{margins_after, margins_at}
 use Rattle.mari_network.proofs.Worths.{worth_fits}
 use Rattle.mari_paths.proofs.Steps.{rise_step}
 use Rattle.mari_paths.proofs.drains.push_along.Goals as goal
@@ -13,43 +12,54 @@ use Rattle.mari_paths.proofs.drains.push_along.Goals as goal
 pub returns-then-from-to-clause-margins : goal.returns-then-from-to-clause-margins
 returns-then-from-to-clause-margins c =
     let slots = c.args.network.now.slots.now in
-    let to = zone_of slots c.args.chain.now.sink in
-    let from = zone_of slots c.args.chain.now.source in
+    let old = c.args.amounts.now in
     let new = c.improve.new.amounts in
-    let apart : from ≢ to = search rules in
-    let right : (z : ℕ) → z < length c.args.network.now.meeting.now → IsMarginOf slots c.args.amounts.now z (get_or c.args.margins.now z no_margin) = λ z l. margins_at slots c.args.amounts.now (length c.args.network.now.meeting.now) c.args.margins.now z c.requires.margins l in
-    margins_from slots new (length c.args.network.now.meeting.now) c.renew-then-from-to.new.margins (c.renew-then-from-to.ensures.long ∙ c.renew.ensures.long ∙ c.requires.margins.long)
-    (λ z l. elim (cases_eq z from) [
-      | inl e ↦ subst (λ (k : ℕ). IsMarginOf slots new k (get_or c.renew-then-from-to.new.margins k no_margin)) (sym e)
-          (c.renew-then-from-to.ensures.here c.args.amounts.now c.improve.ensures.moved
-          (subst (λ (m : Margin). IsMarginOf slots c.args.amounts.now from m) (sym (c.renew.ensures.others from apart)) (right from (subst (λ (k : ℕ). k < length c.args.network.now.meeting.now) e l))))
-      | inr other ↦ subst (λ (m : Margin). IsMarginOf slots new z m) (sym (c.renew-then-from-to.ensures.others z other))
-          (elim (cases_eq z to) [
-            | inl e ↦ subst (λ (k : ℕ). IsMarginOf slots new k (get_or c.renew.new.margins k no_margin)) (sym e)
-                (c.renew.ensures.here c.args.amounts.now c.improve.ensures.moved (right to (subst (λ (k : ℕ). k < length c.args.network.now.meeting.now) e l)))
-            | inr first ↦ subst (λ (m : Margin). IsMarginOf slots new z m) (sym (c.renew.ensures.others z first))
-                (margin_stays slots c.args.amounts.now new z (get_or c.args.margins.now z no_margin)
-                (λ k e. c.improve.ensures.moved.others k (λ s. first (sym e ∙ ap (zone_of slots) s)) (λ s. other (sym e ∙ ap (zone_of slots) s)))
-                (right z l))
-          ])
-    ])
+    let zones = length c.args.network.now.meeting.now in
+    let sink = c.args.chain.now.sink in
+    let source = c.args.chain.now.source in
+    let moved = c.improve.ensures.moved in
+    let was = c.args.margins.now.on_ladders.items in
+    let n = c.args.network.now.on_ladders in
+    let apart : zone_of c.args.network.now.slots.now c.args.chain.now.source ≢ zone_of c.args.network.now.slots.now c.args.chain.now.sink = search rules in
+    let away : zone_of slots sink ≢ zone_of slots source = λ e. apart (sym e) in
+    let to_there : zone_of slots sink < zones = c.requires.network.zones sink no_slot c.requires.chain.less.0 in
+    let from_there : zone_of slots source < zones = c.requires.network.zones source no_slot c.requires.chain.more.0 in
+    let to = c.renew.ensures.here old moved (margins_at slots old zones n was (zone_of slots sink) c.requires.margins.on_ladders to_there) in
+    let from = c.renew-then-from-to.ensures.here old moved
+    (subst (λ (m : Margin). IsMarginIn slots old (zone_of slots source) n m) (sym (c.renew.ensures.others (zone_of slots source) apart).0) (margins_at slots old zones n was (zone_of slots source) c.requires.margins.on_ladders from_there)) in
+    let stays = c.renew-then-from-to.ensures.others (zone_of slots sink) away in
+    let long = c.renew-then-from-to.ensures.long in
+    record {
+      on_ladders = margins_after slots old new zones n sink source was c.renew-then-from-to.new.margins.on_ladders.items moved (long.0 ∙ c.renew.ensures.long.0 ∙ c.requires.margins.on_ladders.long)
+          (subst (λ (m : Margin). IsMarginIn slots new (zone_of slots sink) n m) (sym stays.0) to.0) from.0
+          (λ z first other. (c.renew-then-from-to.ensures.others z other).0 ∙ (c.renew.ensures.others z first).0) c.requires.margins.on_ladders;
+      all = margins_after slots old new zones (length slots) sink source c.args.margins.now.all.items c.renew-then-from-to.new.margins.all.items moved (long.1 ∙ c.renew.ensures.long.1 ∙ c.requires.margins.all.long)
+          (subst (λ (m : Margin). IsMarginIn slots new (zone_of slots sink) (length slots) m) (sym stays.1) to.1) from.1
+          (λ z first other. (c.renew-then-from-to.ensures.others z other).1 ∙ (c.renew.ensures.others z first).1) c.requires.margins.all;
+    }
 
 pub returns-else-from-to-clause-margins : goal.returns-else-from-to-clause-margins
 returns-else-from-to-clause-margins c =
     let slots = c.args.network.now.slots.now in
-    let to = zone_of slots c.args.chain.now.sink in
+    let old = c.args.amounts.now in
     let new = c.improve.new.amounts in
-    let same : zone_of slots c.args.chain.now.source ≡ to = search rules in
-    let right : (z : ℕ) → z < length c.args.network.now.meeting.now → IsMarginOf slots c.args.amounts.now z (get_or c.args.margins.now z no_margin) = λ z l. margins_at slots c.args.amounts.now (length c.args.network.now.meeting.now) c.args.margins.now z c.requires.margins l in
-    margins_from slots new (length c.args.network.now.meeting.now) c.renew.new.margins (c.renew.ensures.long ∙ c.requires.margins.long)
-    (λ z l. elim (cases_eq z to) [
-      | inl e ↦ subst (λ (k : ℕ). IsMarginOf slots new k (get_or c.renew.new.margins k no_margin)) (sym e)
-          (c.renew.ensures.here c.args.amounts.now c.improve.ensures.moved (right to (subst (λ (k : ℕ). k < length c.args.network.now.meeting.now) e l)))
-      | inr first ↦ subst (λ (m : Margin). IsMarginOf slots new z m) (sym (c.renew.ensures.others z first))
-          (margin_stays slots c.args.amounts.now new z (get_or c.args.margins.now z no_margin)
-          (λ k e. c.improve.ensures.moved.others k (λ s. first (sym e ∙ ap (zone_of slots) s)) (λ s. first (sym e ∙ ap (zone_of slots) s ∙ same)))
-          (right z l))
-    ])
+    let zones = length c.args.network.now.meeting.now in
+    let sink = c.args.chain.now.sink in
+    let source = c.args.chain.now.source in
+    let moved = c.improve.ensures.moved in
+    let was = c.args.margins.now.on_ladders.items in
+    let n = c.args.network.now.on_ladders in
+    let same : zone_of c.args.network.now.slots.now c.args.chain.now.source ≡ zone_of c.args.network.now.slots.now c.args.chain.now.sink = search rules in
+    let to_there : zone_of slots sink < zones = c.requires.network.zones sink no_slot c.requires.chain.less.0 in
+    let to = c.renew.ensures.here old moved (margins_at slots old zones n was (zone_of slots sink) c.requires.margins.on_ladders to_there) in
+    record {
+      on_ladders = margins_after slots old new zones n sink source was c.renew.new.margins.on_ladders.items moved (c.renew.ensures.long.0 ∙ c.requires.margins.on_ladders.long)
+          to.0 (subst (λ (z : ℕ). IsMarginIn slots new z n (get_or c.renew.new.margins.on_ladders.items z no_margin)) (sym same) to.0)
+          (λ z first other. (c.renew.ensures.others z first).0) c.requires.margins.on_ladders;
+      all = margins_after slots old new zones (length slots) sink source c.args.margins.now.all.items c.renew.new.margins.all.items moved (c.renew.ensures.long.1 ∙ c.requires.margins.all.long)
+          to.1 (subst (λ (z : ℕ). IsMarginIn slots new z (length slots) (get_or c.renew.new.margins.all.items z no_margin)) (sym same) to.1)
+          (λ z first other. (c.renew.ensures.others z first).1) c.requires.margins.all;
+    }
 
 pub overflow_add-worth : goal.overflow_add-worth
 overflow_add-worth c =
@@ -59,6 +69,15 @@ overflow_add-worth c =
     let new = worth_fits c.args.network.now.slots.now c.improve.new.amounts c.requires.network.small c.improve.ensures.runs.amounts few in
     subst (λ (x : ℤ). FitsSigned w128 x) (sym (rise_step c.args.worth.now (sum_along slot_gain c.args.network.now.slots.now c.args.amounts.now) c.improve.result (sum_along slot_gain c.args.network.now.slots.now c.improve.new.amounts) old rise c.requires.worth c.improve.ensures.worth)) new
 
+pub renew-requires-then-from-to-clause-dearest : goal.renew-requires-then-from-to-clause-dearest
+renew-requires-then-from-to-clause-dearest c = λ i e.
+    let slots = c.args.network.now.slots.now in
+    let to = zone_of slots c.args.chain.now.sink in
+    let from = zone_of slots c.args.chain.now.source in
+    let apart : from ≢ to = search rules in
+    let there : from < length c.args.network.now.meeting.now = c.requires.network.zones c.args.chain.now.source no_slot c.requires.chain.more.0 in
+    ((c.requires.margins.on_ladders.dearest from there).one i (ap (λ (m : Margin). m.dearest) (sym (c.renew.ensures.others from apart).0) ∙ e)).0.0
+
 pub renew-requires-then-from-to-clause-cheapest : goal.renew-requires-then-from-to-clause-cheapest
 renew-requires-then-from-to-clause-cheapest c = λ i e.
     let slots = c.args.network.now.slots.now in
@@ -66,7 +85,7 @@ renew-requires-then-from-to-clause-cheapest c = λ i e.
     let from = zone_of slots c.args.chain.now.source in
     let apart : from ≢ to = search rules in
     let there : from < length c.args.network.now.meeting.now = c.requires.network.zones c.args.chain.now.source no_slot c.requires.chain.more.0 in
-    ((c.requires.margins.cheapest from there).one i (ap (λ (m : Margin). m.cheapest) (sym (c.renew.ensures.others from apart)) ∙ e)).0.0
+    ((c.requires.margins.on_ladders.cheapest from there).one i (ap (λ (m : Margin). m.cheapest) (sym (c.renew.ensures.others from apart).0) ∙ e)).0.0
 
 pub returns-then-from-to-clause-worth : goal.returns-then-from-to-clause-worth
 returns-then-from-to-clause-worth c =

@@ -1,7 +1,7 @@
-use Rattle.std.proofs.Common.{◌≡◌, length}
+use Rattle.std.proofs.Common.{◌≡◌}
 use Rattle.mari_market.specs.Sums.{sum_along}
 use Rattle.mari_network.specs.Slots.{slot_gain}
-use Rattle.mari_network.specs.Margins.{AreMargins}
+use Rattle.mari_network.specs.Margins.{AreMarginsOf}
 use Rattle.mari_network.specs.Network.{Runs}
 use Rattle.mari_network.specs.Searching.{HasLevels}
 use Rattle.mari_network.proofs.Worths.{room_left}
@@ -11,7 +11,7 @@ abbrev pub invariant-loop-search : goal.invariant-loop-search
 invariant-loop-search l = record {
   runs : Runs l.network l.amounts l.flows;
   worth : l.worth ≡ sum_along slot_gain l.network.slots.now l.amounts;
-  margins : AreMargins l.network.slots.now l.amounts (length l.network.meeting.now) (length l.network.slots.now) l.margins;
+  margins : AreMarginsOf l.network l.amounts l.margins;
   search : HasLevels l.network l.amounts l.flows l.search;
 }
 

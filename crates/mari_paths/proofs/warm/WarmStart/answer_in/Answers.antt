@@ -1,12 +1,10 @@
-use Rattle.std.proofs.Common.{◌≡◌, ◌<◌, ◌∙◌, ℕ, ℤ, length, drop, sym, subst, arith, inl, inr, to_z-of_z, FitsSigned}
+use Rattle.std.proofs.Common.{◌≡◌, ◌<◌, ◌∙◌, ℤ, length, drop, sym, subst, arith, inl, inr, to_z-of_z, FitsSigned}
 use Rattle.std.specs.Prelude.{is_some}
 use Rattle.std.specs.Int.{w128}
-use Rattle.std.specs.List.{Contains}
 use Rattle.std.proofs.lemmas.Bool.{cases_Bool}
 use Rattle.std.proofs.lemmas.List.{with_items_is}
 use Rattle.mari_market.specs.Prefix.{bounds_at}
 use Rattle.mari_market.specs.Sums.{sum_along}
-use Rattle.mari_network.specs.declared.slots.Slot.{Slot}
 use Rattle.mari_network.specs.Slots.{slot_at, slot_gain}
 use Rattle.mari_paths.specs.Starts.{order_at, AreEven}
 use Rattle.mari_paths.proofs.Bounded.{not_gated}
@@ -40,6 +38,14 @@ solve_network-found-requires-clause-worth c =
     let worth : c.set_bounds.new.worth ≡ sum_along slot_gain c.set_bounds.new.slots c.set_bounds.new.amounts = c.set_bounds.ensures.worth in
     let fits : FitsSigned w128 c.set_bounds.new.worth = subst (λ (x : ℤ). FitsSigned w128 x) (sym worth) (filled_worth c.args.market.now c.set_bounds.new.slots c.set_bounds.new.amounts c.requires.market c.set_bounds.ensures.filled) in
     rw (to_z-of_z fits, slots, amounts) worth
+
+pub solve_network-found-requires-clause-margins : goal.solve_network-found-requires-clause-margins
+solve_network-found-requires-clause-margins c =
+    let slots : c.network_of-network.result.slots.now ≡ c.set_bounds.new.slots = c.network_of-network.ensures.slots in
+    let amounts = with_items_is c.in_ok-amounts.amounts c.set_bounds.new.amounts (c.set_bounds.auto.amounts ∙ c.deref_mut.ensures.len) in
+    let margins = with_items_is c.in_ok-margins.margins c.set_bounds.new.margins (c.set_bounds.auto.margins ∙ c.deref_mut-2.ensures.len) in
+    let ladders : c.network_of-network.result.on_ladders ≡ length c.args.market.now.orders = c.network_of-network.ensures.on_ladders ∙ c.requires.warm.on_ladders in
+    rw (slots, amounts, c.network_of-network.ensures.same.zones, ladders, margins) c.set_bounds.ensures.margins
 
 pub put_back-requires-clause-rest : goal.put_back-requires-clause-rest
 put_back-requires-clause-rest c = λ k l.

@@ -1,9 +1,9 @@
 -- Numbers that stand first in a text.
-use Rattle.std.proofs.Common.{◌≡◌, ◌≤◌, ◌<◌, ◌^◌, ◌/◌, ◌%◌, ◌+◌, ◌*◌, ◌-◌, ℕ, true, List, [], ◌∷◌, ◌++◌, length, take, drop, get_or, eqb, pos, Result, Ok, Err, sym, ap, ◌∙◌, refl, arith}
+use Rattle.std.proofs.Common.{◌≡◌, ◌≤◌, ◌<◌, ◌^◌, ◌/◌, ◌%◌, ◌+◌, ◌*◌, ◌-◌, ℕ, suc, true, List, [], ◌∷◌, ◌++◌, length, take, drop, get_or, eqb, pos, Result, Ok, Err, sym, ap, ◌∙◌, refl, add-one, drop-cons, arith}
 use Rattle.std.specs.Prelude.{codes}
 use Rattle.std.proofs.lemmas.Int.{ints}
 use Rattle.std.specs.List.{slice_split}
-use Rattle.std.proofs.lemmas.List.{append-nil, append_assoc, take_all, take_more, take-append-drop, length-take-le, length-drop, get_or-take}
+use Rattle.std.proofs.lemmas.List.{append-nil, append_assoc, take_all, take_more, take-take, take-append-drop, length-take, length-take-le, length-drop, get_or-take}
 use Rattle.std.proofs.lemmas.List.Folds.{list_all-append}
 use Rattle.std.proofs.lemmas.List.Sums.{fold_push}
 use Rattle.std.specs.Char.{is_ascii_digit}
@@ -61,6 +61,20 @@ written_price n = price_of_parts (pos n) _ n (hundredths_text n) (hundredths_tex
 
 pub hundredths_lack : (n : ℕ) → n ≤ 9999900 → Lacks 32 (hundredths_text n)
 hundredths_lack n le = lacks_space (hundredths_text n) (rw (sym (written_price n)) (graphic_cents (pos n) (omega arith)))
+
+-- the bytes before a space among a text's first bytes, and what stands after it
+pub space_then : (most place : ℕ) (text first : List ℕ) → first ≡ take most text → place < length first → get_or first place 0 ≡ 32
+    → text ≡ take place first ++ 32 ∷ take (length text - (place + 1)) (drop (place + 1) text)
+space_then most place text first same some is =
+    let long = ap length same ∙ length-take most text in
+    let within : place < length text = omega (arith, long, some) in
+    let few : place < most = omega (arith, long, some) in
+    let front : take place first ≡ take place text = ap (take place) same ∙ take-take place most text (omega (arith, few)) in
+    let at : get_or text place 0 ≡ 32 = sym (get_or-take most text place 0 few) ∙ ap (λ (bs : List ℕ). get_or bs place 0) (sym same) ∙ is in
+    let cut : drop place text ≡ 32 ∷ drop (place + 1) text = rw add-one (drop-cons text place 0 within ∙ ap (λ (b : ℕ). b ∷ drop (suc place) text) at) in
+    let rest : length (drop (place + 1) text) ≤ length text - (place + 1) = omega (arith, length-drop (place + 1) text) in
+    sym (take-append-drop place text) ∙ ap (λ (bs : List ℕ). take place text ++ bs) cut ∙ ap (λ (bs : List ℕ). bs ++ 32 ∷ drop (place + 1) text) (sym front)
+    ∙ ap (λ (bs : List ℕ). take place first ++ 32 ∷ bs) (sym (take_all (length text - (place + 1)) (drop (place + 1) text) rest))
 
 -- a name and a number after the first word, and the line's end after them, are a bid's line
 bid_parts : (name number after : List ℕ) → ((name ++ 32 ∷ (number ++ [])) ++ 10 ∷ []) ++ after ≡ name ++ 32 ∷ (number ++ 10 ∷ after)

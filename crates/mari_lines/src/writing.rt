@@ -10,7 +10,7 @@ mod pieces;
 mod tree;
 
 use crate::line::{AmountLine, BidLine, BorderLine, Heading, MoneyLine, ZoneLine};
-use mari_units::{Memory, Name, put};
+use mari_units::{Memory, Name, put, put_number_end};
 pub use pieces::{put_field, put_money, put_number_field};
 use pieces::{put_flow, put_price};
 use std::alloc::Global;
@@ -29,8 +29,7 @@ pub fn put_head(
     put(out, b"mari 1")?;
     put_field(out, date.bytes())?;
     put_number_field(alloc, out, u64::from(quarters))?;
-    put_number_field(alloc, out, u64::from(budget))?;
-    put(out, b"\n")
+    put_number_end(alloc, out, u64::from(budget))
 }
 
 /// Appends the kind of a run.
@@ -73,8 +72,7 @@ pub fn put_unpublished(
 {
     put_heading(alloc, out, heading)?;
     put(out, b" unpublished")?;
-    put_number_field(alloc, out, u64::from(count))?;
-    put(out, b"\n")
+    put_number_end(alloc, out, u64::from(count))
 }
 
 /// Appends a run's welfare.
@@ -82,8 +80,7 @@ pub fn put_welfare(alloc: Global, out: &mut Vec<u8>, welfare: u64) -> Result<(),
     ensures { OnOk result (out.new.items ≡ out.old.items ++ line_text (line.Welfare welfare)) }
 {
     put(out, b"welfare")?;
-    put_number_field(alloc, out, welfare)?;
-    put(out, b"\n")
+    put_number_end(alloc, out, welfare)
 }
 
 /// Appends a zone's line.
@@ -95,8 +92,7 @@ pub fn put_zone(alloc: Global, out: &mut Vec<u8>, zone: &ZoneLine) -> Result<(),
     put_price(alloc, out, zone.price)?;
     put_price(alloc, out, zone.least)?;
     put_price(alloc, out, zone.greatest)?;
-    put_number_field(alloc, out, u64::from(zone.area))?;
-    put(out, b"\n")
+    put_number_end(alloc, out, u64::from(zone.area))
 }
 
 /// Appends a border's line.
@@ -116,10 +112,9 @@ pub fn put_border(alloc: Global, out: &mut Vec<u8>, border: &BorderLine) -> Resu
 pub fn put_bid(alloc: Global, out: &mut Vec<u8>, bid: &BidLine) -> Result<(), Memory>
     ensures { OnOk result (out.new.items ≡ out.old.items ++ line_text (line.Bid bid.now)) }
 {
-    put(out, b"bid")?;
-    put_field(out, bid.id.bytes())?;
-    put_number_field(alloc, out, u64::from(bid.mw))?;
-    put(out, b"\n")
+    put(out, b"bid ")?;
+    put(out, bid.id.bytes())?;
+    put_number_end(alloc, out, u64::from(bid.mw))
 }
 
 /// Appends the line of the demand at a place from 1.
@@ -128,8 +123,7 @@ pub fn put_demand(alloc: Global, out: &mut Vec<u8>, place: u32, mw: u32) -> Resu
 {
     put(out, b"demand")?;
     put_number_field(alloc, out, u64::from(place))?;
-    put_number_field(alloc, out, u64::from(mw))?;
-    put(out, b"\n")
+    put_number_end(alloc, out, u64::from(mw))
 }
 
 /// Appends the first line of a certificate tree.
@@ -137,8 +131,7 @@ pub fn put_tree(alloc: Global, out: &mut Vec<u8>, count: u32) -> Result<(), Memo
     ensures { OnOk result (out.new.items ≡ out.old.items ++ line_text (line.Tree count)) }
 {
     put(out, b"tree")?;
-    put_number_field(alloc, out, u64::from(count))?;
-    put(out, b"\n")
+    put_number_end(alloc, out, u64::from(count))
 }
 
 /// Appends an operator's name and amounts.
@@ -214,8 +207,7 @@ pub fn put_end(alloc: Global, out: &mut Vec<u8>, run: u32) -> Result<(), Memory>
     ensures { OnOk result (out.new.items ≡ out.old.items ++ line_text (line.End run)) }
 {
     put(out, b"end")?;
-    put_number_field(alloc, out, u64::from(run))?;
-    put(out, b"\n")
+    put_number_end(alloc, out, u64::from(run))
 }
 
 /// Appends the last line of the text.
@@ -229,6 +221,5 @@ pub fn put_done(
 {
     put(out, b"done")?;
     put_number_field(alloc, out, u64::from(published))?;
-    put_number_field(alloc, out, u64::from(unpublished))?;
-    put(out, b"\n")
+    put_number_end(alloc, out, u64::from(unpublished))
 }

@@ -1,6 +1,6 @@
 //! Texts that grow piece by piece.
 
-ghost use Rattle.std.specs.Prelude.{◌≡◌, ◌≤◌, ◌<◌, ◌^◌, ◌++◌, OnOk, OnErr, unsigned_abs};
+ghost use Rattle.std.specs.Prelude.{◌≡◌, ◌≤◌, ◌<◌, ◌^◌, ◌++◌, ◌∷◌, [], OnOk, OnErr, unsigned_abs};
 ghost use Rattle.std.specs.Fmt.{decimal, signed_decimal};
 ghost use Rattle.mari_units.specs.Numbers.{printed_cents, printed_euros, sign_of};
 
@@ -17,25 +17,109 @@ pub fn put(text: &mut Vec<u8>, piece: &[u8]) -> Result<(), Memory>
     Ok(text.extend_from_slice(piece)?)
 }
 
+/// The digits of a number below 10,000, as they are printed.
+#[derive(Clone, Copy, Drop)]
+struct Digits {
+    thousands: u8,
+    hundreds: u8,
+    tens: u8,
+    ones: u8,
+}
+
+/// The digits that a number is printed with, after leading zeros.
+fn digits_of(number: u32) -> Digits
+    requires short { number < 10_000 }
+    ensures one { number < 10 → decimal number ≡ result.ones ∷ [] }
+    ensures two { 10 ≤ number → number < 100 → decimal number ≡ result.tens ∷ result.ones ∷ [] }
+    ensures three { 100 ≤ number → number < 1_000 → decimal number ≡ result.hundreds ∷ result.tens ∷ result.ones ∷ [] }
+    ensures four { 1_000 ≤ number → decimal number ≡ result.thousands ∷ result.hundreds ∷ result.tens ∷ result.ones ∷ [] }
+{
+    Digits {
+        thousands: b'0' + (number / 1_000) as u8,
+        hundreds: b'0' + (number / 100 % 10) as u8,
+        tens: b'0' + (number / 10 % 10) as u8,
+        ones: b'0' + (number % 10) as u8,
+    }
+}
+
 /// Appends a number of up to four digits to a text, as one piece. Most numbers are such, and need no buffer.
 fn put_short(text: &mut Vec<u8>, number: u32) -> Result<(), Memory>
     requires short { number < 10_000 }
     ensures put { OnOk result (text.new.items ≡ text.old.items ++ decimal number) }
     ensures same { OnErr result (text.new.items ≡ text.old.items) }
 {
-    let ones = b'0' + (number % 10) as u8;
+    let digits = digits_of(number);
     if number < 10 {
-        return put(text, &[ones]);
+        return put(text, &[digits.ones]);
     }
-    let tens = b'0' + (number / 10 % 10) as u8;
     if number < 100 {
-        return put(text, &[tens, ones]);
+        return put(text, &[digits.tens, digits.ones]);
     }
-    let hundreds = b'0' + (number / 100 % 10) as u8;
     if number < 1_000 {
-        return put(text, &[hundreds, tens, ones]);
+        return put(text, &[digits.hundreds, digits.tens, digits.ones]);
     }
-    put(text, &[b'0' + (number / 1_000) as u8, hundreds, tens, ones])
+    put(
+        text,
+        &[digits.thousands, digits.hundreds, digits.tens, digits.ones],
+    )
+}
+
+/// Appends a space and a number of up to four digits to a text, as one piece.
+fn put_short_field(text: &mut Vec<u8>, number: u32) -> Result<(), Memory>
+    requires short { number < 10_000 }
+    ensures { OnOk result (text.new.items ≡ text.old.items ++ 32 ∷ decimal number) }
+{
+    let digits = digits_of(number);
+    if number < 10 {
+        return put(text, &[b' ', digits.ones]);
+    }
+    if number < 100 {
+        return put(text, &[b' ', digits.tens, digits.ones]);
+    }
+    if number < 1_000 {
+        return put(text, &[b' ', digits.hundreds, digits.tens, digits.ones]);
+    }
+    put(
+        text,
+        &[
+            b' ',
+            digits.thousands,
+            digits.hundreds,
+            digits.tens,
+            digits.ones,
+        ],
+    )
+}
+
+/// Appends a space, a number of up to four digits and the end of a line to a text, as one piece.
+fn put_short_end(text: &mut Vec<u8>, number: u32) -> Result<(), Memory>
+    requires short { number < 10_000 }
+    ensures { OnOk result (text.new.items ≡ text.old.items ++ 32 ∷ decimal number ++ 10 ∷ []) }
+{
+    let digits = digits_of(number);
+    if number < 10 {
+        return put(text, &[b' ', digits.ones, b'\n']);
+    }
+    if number < 100 {
+        return put(text, &[b' ', digits.tens, digits.ones, b'\n']);
+    }
+    if number < 1_000 {
+        return put(
+            text,
+            &[b' ', digits.hundreds, digits.tens, digits.ones, b'\n'],
+        );
+    }
+    put(
+        text,
+        &[
+            b' ',
+            digits.thousands,
+            digits.hundreds,
+            digits.tens,
+            digits.ones,
+            b'\n',
+        ],
+    )
 }
 
 /// Appends a number of any size to a text, in digits.
@@ -62,6 +146,31 @@ pub fn put_number(alloc: Global, text: &mut Vec<u8>, number: u128) -> Result<(),
     }
 }
 
+/// Appends a space and a number to a text, in digits, without leading zeros. Out of memory, a first part of them may
+/// stay, here and below.
+pub fn put_spaced_number(alloc: Global, text: &mut Vec<u8>, number: u64) -> Result<(), Memory>
+    ensures { OnOk result (text.new.items ≡ text.old.items ++ 32 ∷ decimal number) }
+{
+    if number < 10_000 {
+        put_short_field(text, number as u32)
+    } else {
+        put(text, b" ")?;
+        put_long(alloc, text, u128::from(number))
+    }
+}
+
+/// Appends a space, a number and the end of a line to a text.
+pub fn put_number_end(alloc: Global, text: &mut Vec<u8>, number: u64) -> Result<(), Memory>
+    ensures { OnOk result (text.new.items ≡ text.old.items ++ 32 ∷ decimal number ++ 10 ∷ []) }
+{
+    if number < 10_000 {
+        put_short_end(text, number as u32)
+    } else {
+        put_spaced_number(alloc, text, number)?;
+        put(text, b"\n")
+    }
+}
+
 /// Appends a minus to a text, or nothing.
 fn put_sign(text: &mut Vec<u8>, negative: bool) -> Result<(), Memory>
     ensures { OnOk result (text.new.items ≡ text.old.items ++ sign_of negative) }
@@ -69,8 +178,7 @@ fn put_sign(text: &mut Vec<u8>, negative: bool) -> Result<(), Memory>
     if negative { put(text, b"-") } else { Ok(()) }
 }
 
-/// Appends a whole number to a text, in digits, without leading zeros, after a minus where it is negative. Out of memory,
-/// a first part of it may stay, here and below.
+/// Appends a whole number to a text, in digits, without leading zeros, after a minus where it is negative.
 pub fn put_whole(alloc: Global, text: &mut Vec<u8>, n: i128) -> Result<(), Memory>
     ensures { OnOk result (text.new.items ≡ text.old.items ++ signed_decimal n) }
 {

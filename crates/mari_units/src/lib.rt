@@ -14,7 +14,9 @@ mod numbers;
 mod printing;
 mod reading;
 
-pub use appending::{put, put_cents, put_euros, put_number, put_whole};
+pub use appending::{
+    put, put_cents, put_euros, put_number, put_number_end, put_spaced_number, put_whole,
+};
 pub use faults::{Memory, NameFault, NumberFault, Refusal};
 pub use items::Items;
 pub use limits::{
@@ -22,7 +24,7 @@ pub use limits::{
     MOST_MW, MOST_NAME, MOST_NODES, MOST_PAGE, MOST_PROVIDERS, MOST_QUARTERS, MOST_RAISE,
     MOST_RUNS, MOST_WORKERS, MOST_ZONES,
 };
-pub use name::{Name, is_name_byte, is_name_text, name_of, read_name};
+pub use name::{Name, is_name_byte, is_name_text, name_of, name_of_first, read_name};
 pub use numbers::{CAP, Cents, Mw, Quarters};
 pub use printing::{cents_text, euros_text, whole_text};
 pub use reading::{read_cents, read_mw};

@@ -5,7 +5,9 @@ ghost use Rattle.std.specs.Int.RustNames.{unsigned_abs};
 ghost use Rattle.std.specs.Fmt.{decimal, signed_decimal};
 ghost use Rattle.mari_lines.specs.Spelling.{price_text, money_text};
 
-use mari_units::{Cents, Memory, Quarters, put, put_cents, put_euros, put_number, put_whole};
+use mari_units::{
+    Cents, Memory, Quarters, put, put_cents, put_euros, put_spaced_number, put_whole,
+};
 use std::alloc::Global;
 
 /// Appends a space and a piece.
@@ -20,8 +22,7 @@ pub fn put_field(out: &mut Vec<u8>, piece: &[u8]) -> Result<(), Memory>
 pub fn put_number_field(alloc: Global, out: &mut Vec<u8>, n: u64) -> Result<(), Memory>
     ensures { OnOk result (out.new.items ≡ out.old.items ++ 32 ∷ decimal n) }
 {
-    put(out, b" ")?;
-    put_number(alloc, out, u128::from(n))
+    put_spaced_number(alloc, out, n)
 }
 
 /// Appends a space and a price.

@@ -1,6 +1,7 @@
 -- Bounds of prices by their heights, order by order.
-use Rattle.std.proofs.Common.{◌≡◌, ◌⊎◌, ℕ, ◌+◌, ◌<◌, ◌≤◌, ℤ, List, length, take, get_or, arith, refl, sym, set, subst, inl, inr, get_or-set_same, get_or-set_other, [], ◌∷◌}
+use Rattle.std.proofs.Common.{◌≡◌, ◌⊎◌, ℕ, ◌+◌, ◌<◌, ◌≤◌, ℤ, List, length, take, get_or, arith, refl, sym, set, subst, inl, inr, get_or-set_same, get_or-set_other, [], ◌∷◌, ◌∙◌}
 use Rattle.std.specs.List.{All}
+use Rattle.std.specs.Prelude.{slice_index}
 use Rattle.std.proofs.lemmas.Int.{ints}
 use Rattle.std.proofs.lemmas.Bool.{cases_eq}
 use Rattle.std.proofs.lemmas.List.Elements.{All-from_get_or, All-head, All-tail, All-weaker}
@@ -12,7 +13,7 @@ use Rattle.mari_market.specs.Sums.{AnyZip}
 use Rattle.mari_market.proofs.Sums.{AnyZip_cases, AnyZip_kept, AnyZip_new}
 use Rattle.mari_check.specs.declared.ends.End.{End}
 use Rattle.mari_check.specs.declared.ends.End.TheVariants.{Greatest, Least}
-use Rattle.mari_check.specs.Ends.{IsBoundBy, IsHeight, IsRaised, IsTightest, IsTightestOf, SetsAt}
+use Rattle.mari_check.specs.Ends.{AreTightest, IsBoundBy, IsHeight, IsRaised, IsTightestOf, SetsAt}
 use Rattle.mari_check.specs.Spread.{AreSmall, most_value}
 
 pub height_most : (end : End) (c : ℤ) (n : ℕ) → IsPrice c → IsHeight end c n → n ≤ most_value
@@ -42,6 +43,15 @@ tightest_more end os qs i z d old new h l t r = record { bound = bound r.from; t
     tightest k (inl e) = omega (arith, t.tightest k (inl e), r.kept)
     tightest k (inr a) = by k (AnyZip_cases (SetsAt end z k) os qs i d 0 h l a)
 
+pub all_tightest_more : (end : End) (os : List Order) (qs : List ℕ) (i zones : ℕ) (d : Order) (old new : List ℕ) → i < length os
+    → i < length qs → AreTightest end (take i os) (take i qs) zones old → length new ≡ length old
+    → ((z : ℕ) → IsRaised end (get_or os i d) (get_or qs i 0) z (slice_index old z) (slice_index new z))
+    → AreTightest end (take (i + 1) os) (take (i + 1) qs) zones new
+all_tightest_more end os qs i zones d old new h l t long r = record {
+  one_each = long ∙ t.one_each;
+  each = λ z within. tightest_more end os qs i z d (slice_index old z) (slice_index new z) h l (t.each z within) (r z);
+}
+
 -- an order raises its own zone's bound, and sets nothing in other zones
 pub raised_at : (end : End) (o : Order) (q : ℕ) (values : List ℕ) (new : ℕ) → o.zone < length values
     → IsRaised end o q o.zone (get_or values o.zone 0) new → (z : ℕ)
@@ -65,7 +75,7 @@ bound_small end os qs z n p (inl e) = omega (arith, e)
 bound_small end os qs z n p (inr a) = set_small end z n os qs p a
 
 -- the tightest bounds of a valid market's orders are small
-pub tight_small : (end : End) (m : Market) (qs bounds : List ℕ) → IsValid m → length bounds ≡ m.zones → ((z : ℕ) → z < m.zones → IsTightest end m.orders qs z bounds) → AreSmall bounds
-tight_small end m qs bounds v e t =
+pub tight_small : (end : End) (m : Market) (qs bounds : List ℕ) → IsValid m → AreTightest end m.orders qs m.zones bounds → AreSmall bounds
+tight_small end m qs bounds v t =
     let prices = All-weaker (IsValidOrder m.zones (length m.gates)) (λ (o : Order). IsPrice o.price.0) (λ o h. h.price) m.orders v.orders in
-    All-from_get_or (λ (n : ℕ). n ≤ most_value) bounds 0 (λ z l. bound_small end m.orders qs z (get_or bounds z 0) prices (t z (omega (arith, l, e))).bound)
+    All-from_get_or (λ (n : ℕ). n ≤ most_value) bounds 0 (λ z l. bound_small end m.orders qs z (get_or bounds z 0) prices (t.each z (omega (arith, l, t.one_each))).bound)

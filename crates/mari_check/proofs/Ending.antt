@@ -15,7 +15,6 @@ use Rattle.mari_remain.specs.declared.books.Books.{Books}
 use Rattle.mari_settle.specs.declared.ledger.Ledger.{Ledger}
 use Rattle.mari_check.specs.declared.day.DayCheck.{DayCheck}
 use Rattle.mari_check.specs.declared.fault.Fault.{Fault}
-use Rattle.mari_check.specs.declared.fault.Fault.TheVariants as fault
 use Rattle.mari_progress.specs.After.{run_after}
 use Rattle.mari_progress.specs.Progress.{AreTotals}
 use Rattle.mari_check.specs.declared.verdict.Verdict.{Verdict}

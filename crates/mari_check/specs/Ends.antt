@@ -50,6 +50,11 @@ pub record IsTightestOf (end : End) (os : List Order) (qs : List ℕ) (z n : ℕ
 abbrev pub IsTightest : End → List Order → List ℕ → (z : ℕ) → List ℕ → Type 0
 IsTightest end os qs z bounds = IsTightestOf end os qs z (slice_index bounds z)
 
+-- each zone's entry is
+pub record AreTightest (end : End) (os : List Order) (qs : List ℕ) (zones : ℕ) (bounds : List ℕ) : Type 0 where
+  pub one_each : length bounds ≡ zones
+  pub each : (z : ℕ) → z < zones → IsTightest end os qs z bounds
+
 -- a zone's bound before and after one order
 pub record IsRaised (end : End) (o : Order) (q z old new : ℕ) : Type 0 where
   pub kept : old ≤ new

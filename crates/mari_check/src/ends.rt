@@ -4,13 +4,13 @@
 //! fault in the code that finds the published prices must not be one of the check too. Both are proved from the
 //! definitions of `mari_market`. These ask its functions what an order or a border says of a price.
 
-ghost use Rattle.std.specs.Prelude.{◌≡◌, ◌<◌, ◌≤◌, ℕ, List, length, IfOk, IsTrue, ◌↔◌};
+ghost use Rattle.std.specs.Prelude.{◌≡◌, ◌<◌, ◌≤◌, ℕ, List, length, slice_index, IfOk, IsTrue, ◌↔◌};
 ghost use Rattle.std.specs.List.{All};
 ghost use Rattle.mari_market.specs.Market.{IsValid};
 ghost use Rattle.mari_market.specs.Optimal.{IsConsistent, IsFeasible};
 ghost use Rattle.mari_market.specs.Price.{IsPrice};
 ghost use Rattle.mari_units.specs.declared.numbers.Cents.{Cents as TheCents};
-ghost use Rattle.mari_check.specs.Ends.{AreEndPrices, ArePricesOf, IsHeight, IsRaised, IsTightest, SetsAtEnd, along_of};
+ghost use Rattle.mari_check.specs.Ends.{AreEndPrices, ArePricesOf, AreTightest, IsHeight, IsRaised, SetsAtEnd, along_of};
 ghost use Rattle.mari_market.specs.Consistent.{own_standing};
 ghost use Rattle.mari_check.specs.Spread.{AreSmall, most_value};
 
@@ -76,36 +76,84 @@ impl End {
 
 /// The bound of an order's zone, raised to what the order sets.
 fn raised(bound: u64, order: &Order, mw: u32, end: End) -> u64
-    requires { IsPrice order.now.price.0 }
+    requires price { IsPrice order.now.price.0 }
+    requires sets { SetsAtEnd end (own_standing order.now.gate mw) order.now.side order.now.greatest mw }
     ensures { IsRaised end order.now mw order.now.zone bound result }
 {
+    bound.max(end.height(order.price))
+}
+
+/// Raises the bound of an order's zone, if the order sets one.
+fn raise(bounds: &mut [u64], order: &Order, mw: u32, end: End)
+    requires zone { order.now.zone < length bounds.old }
+    requires price { IsPrice order.now.price.0 }
+    ensures one_each { length bounds.new ≡ length bounds.old }
+    ensures raised { (z : ℕ) → IsRaised end order.now mw z (slice_index bounds.old z) (slice_index bounds.new z) }
+{
     if end.is_set_by(order, mw) {
-        bound.max(end.height(order.price))
-    } else {
-        bound
+        let zone = order.zone as usize;
+        bounds[zone] = raised(bounds[zone], order, mw, end);
     }
 }
 
-/// Each zone's tightest bound, by its height.
-fn tightest(
-    alloc: Global,
-    zones: u32,
-    orders: &[Order],
-    mw: &[u32],
-    end: End,
-) -> Result<Vec<u64>, Memory>
+/// A bound of each zone's price at both ends, by its height.
+#[derive(Drop)]
+pub(crate) struct Heights {
+    /// Those at the least end.
+    pub least: Vec<u64>,
+    /// Those at the greatest end.
+    pub greatest: Vec<u64>,
+}
+
+impl Heights {
+    /// Raises the bounds of an order's zone to what the order sets at both ends.
+    fn raise(&mut self, order: &Order, mw: u32)
+        // The zone is there at both ends, and the price is one that there may be.
+        requires least { order.now.zone < length self.old.least.items }
+        requires greatest { order.now.zone < length self.old.greatest.items }
+        requires price { IsPrice order.now.price.0 }
+
+        // As many zones as before, each with its bounds raised.
+        ensures lows { length self.new.least.items ≡ length self.old.least.items }
+        ensures highs { length self.new.greatest.items ≡ length self.old.greatest.items }
+        ensures least { (z : ℕ) → IsRaised End.Least order.now mw z (slice_index self.old.least.items z) (slice_index self.new.least.items z) }
+        ensures greatest { (z : ℕ) → IsRaised End.Greatest order.now mw z (slice_index self.old.greatest.items z) (slice_index self.new.greatest.items z) }
+    {
+        raise(&mut self.least, order, mw, End::Least);
+        raise(&mut self.greatest, order, mw, End::Greatest);
+    }
+}
+
+/// Each zone's tightest bounds at both ends, in one pass over the orders.
+fn tightest(alloc: Global, zones: u32, orders: &[Order], mw: &[u32]) -> Result<Heights, Memory>
     requires lengths { length mw.now ≡ length orders.now }
     requires zones { All (λ o. o.zone < zones) orders.now }
     requires prices { All (λ o. IsPrice o.price.0) orders.now }
-    ensures one_each { IfOk result (λ v. length v.items ≡ zones) }
-    ensures tightest { IfOk result (λ v. (z : ℕ) → z < zones → IsTightest end orders.now mw.now z v.items) }
+    ensures least { IfOk result (λ h. AreTightest End.Least orders.now mw.now zones h.least.items) }
+    ensures greatest { IfOk result (λ h. AreTightest End.Greatest orders.now mw.now zones h.greatest.items) }
 {
-    let mut bounds = vec![in alloc; 0u64; zones as usize]?;
+    let least = vec![in alloc; 0u64; zones as usize]?;
+    let greatest = vec![in alloc; 0u64; zones as usize]?;
+    let mut heights = Heights { least, greatest };
     for (i, order) in orders.iter().enumerate() {
-        let zone = order.zone as usize;
-        bounds[zone] = raised(bounds[zone], order, mw[i], end);
+        heights.raise(order, mw[i]);
     }
-    Ok(bounds)
+    Ok(heights)
+}
+
+/// Each zone's tightest bounds by the orders of a market, at both ends.
+pub(crate) fn heights_of(
+    alloc: Global,
+    market: &Market,
+    activation: &Activation,
+) -> Result<Heights, Memory>
+    requires valid { IsValid market.now }
+    requires feasible { IsFeasible market.now activation.now }
+    ensures least { IfOk result (λ h. AreTightest End.Least market.now.orders activation.now.mw market.now.zones h.least.items) }
+    ensures greatest { IfOk result (λ h. AreTightest End.Greatest market.now.orders activation.now.mw market.now.zones h.greatest.items) }
+{
+    let (orders, mw) = (market.orders.as_slice(), activation.mw.as_slice());
+    tightest(alloc, market.zones, orders, mw)
 }
 
 /// The prices of heights.
@@ -120,21 +168,21 @@ fn prices_of_heights(alloc: Global, heights: &[u64], end: End) -> Result<Vec<Cen
     Ok(prices)
 }
 
-/// The prices at an end of all zones' intervals, where some prices are consistent.
+/// The prices at an end of all zones' intervals, by the tightest bounds there, where some prices are consistent.
 pub(crate) fn ends_of(
     alloc: Global,
     market: &Market,
     activation: &Activation,
+    bounds: Vec<u64>,
     end: End,
 ) -> Result<Vec<Cents>, Memory>
     requires valid { IsValid market.now }
     requires feasible { IsFeasible market.now activation.now }
     requires some { (ps : List TheCents) × IsConsistent market.now activation.now ps }
+    requires bounds { AreTightest end market.now.orders activation.now.mw market.now.zones bounds.items }
     ensures { IfOk result (λ prices. AreEndPrices end market.now activation.now prices.items) }
 {
-    let (orders, mw) = (market.orders.as_slice(), activation.mw.as_slice());
     let (borders, flow) = (market.borders.as_slice(), activation.flow.as_slice());
-    let bounds = tightest(alloc, market.zones, orders, mw, end)?;
     let heights = spread(bounds, borders, flow, end.along());
     let prices = prices_of_heights(alloc, &heights, end)?;
     Ok(prices)

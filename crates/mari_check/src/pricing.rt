@@ -6,12 +6,12 @@ ghost use Rattle.mari_units.specs.declared.numbers.Cents.{Cents as TheCents};
 ghost use Rattle.mari_market.specs.Interval.{ArePublishedPrices, IsNearest};
 ghost use Rattle.mari_market.specs.Market.{IsValid};
 ghost use Rattle.mari_market.specs.Optimal.{IsConsistent, IsFeasible};
-ghost use Rattle.mari_check.specs.Ends.{AreEndPrices};
+ghost use Rattle.mari_check.specs.Ends.{AreEndPrices, AreTightest};
 ghost use Rattle.mari_check.specs.Faults.{HasIntervals};
 ghost use Rattle.mari_check.specs.Lines.{IsInOrder, IsNearestLine, IsSamePrice};
 ghost use Rattle.mari_progress.specs.Reported.{activation_of as activation_reported, prices_of as prices_reported};
 
-use crate::ends::{End, ends_of};
+use crate::ends::{End, ends_of, heights_of};
 use crate::reported::{greatest_of, least_of};
 use mari_market::{Activation, Market};
 use mari_publish::{FullBlock, ZoneLine};
@@ -40,20 +40,22 @@ fn are_same(prices: &[Cents], others: &[Cents]) -> bool
     true
 }
 
-/// Whether these are the prices at an end of all zones' intervals.
+/// Whether these are the prices at an end of all zones' intervals, by the tightest bounds there.
 fn are_ends(
     alloc: Global,
     market: &Market,
     activation: &Activation,
     reported: &[Cents],
+    bounds: Vec<u64>,
     end: End,
 ) -> Result<bool, Memory>
     requires valid { IsValid market.now }
     requires feasible { IsFeasible market.now activation.now }
     requires some { (ps : List TheCents) × IsConsistent market.now activation.now ps }
+    requires bounds { AreTightest end market.now.orders activation.now.mw market.now.zones bounds.items }
     ensures { IfOk result (λ is. IsTrue is ↔ AreEndPrices end market.now activation.now reported.now) }
 {
-    let prices = ends_of(alloc, market, activation, end)?;
+    let prices = ends_of(alloc, market, activation, bounds, end)?;
     Ok(are_same(reported, &prices))
 }
 
@@ -72,10 +74,18 @@ pub(crate) fn has_intervals(
 {
     let least = least_of(alloc, block)?;
     let greatest = greatest_of(alloc, block)?;
-    if !are_ends(alloc, market, activation, &least, End::Least)? {
+    let bounds = heights_of(alloc, market, activation)?;
+    if !are_ends(alloc, market, activation, &least, bounds.least, End::Least)? {
         return Ok(false);
     }
-    are_ends(alloc, market, activation, &greatest, End::Greatest)
+    are_ends(
+        alloc,
+        market,
+        activation,
+        &greatest,
+        bounds.greatest,
+        End::Greatest,
+    )
 }
 
 /// The price from the least to the greatest that is nearest to the reference.

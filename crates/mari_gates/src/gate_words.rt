@@ -32,9 +32,13 @@ pub fn gate_word(market: &Market, activation: &Activation) -> Prefix
     ensures length { result.length ≡ length market.now.gates }
     ensures feasible { IsFeasiblePrefix market.now result }
 {
-    let mw = activation.mw.as_slice();
     let mut word = empty_prefix();
-    word.length = market.gates.as_slice().len() as u32;
+    let gates = market.gates.as_slice().len();
+    if gates == 0 {
+        return word;
+    }
+    word.length = gates as u32;
+    let mw = activation.mw.as_slice();
     for (i, order) in market.orders.as_slice().iter().enumerate() {
         mark(&mut word, order, mw[i]);
     }

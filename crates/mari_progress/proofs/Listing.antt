@@ -1,11 +1,15 @@
 -- Providers of a run's bids.
-use Rattle.std.proofs.Common.{ℕ, ◌+◌, ◌<◌, ◌≤◌, ◌==◌, true, false, List, [], ◌∷◌, ◌++◌, length, length-append, map, fold, cond, arith}
+use Rattle.std.proofs.Common.{◌≡◌, ℕ, zero, suc, ◌+◌, ◌-◌, ◌<◌, ◌≤◌, ◌==◌, ◌||◌, Bool, true, false, List, [], ◌∷◌, ◌++◌, length, length-append, map, fold, cond, get_or, set, take, get_or-set_same, get_or-set_other, refl, sym, ap, subst, ◌∙◌, arith}
+use Rattle.std.proofs.Math.Bool.{or_comm}
+use Rattle.std.proofs.Math.ListN.{replicate}
 use Rattle.std.specs.List.{All, list_any}
-use Rattle.std.proofs.lemmas.List.{length-map}
+use Rattle.std.proofs.lemmas.Bool.{eqb-false, eqb-true}
+use Rattle.std.proofs.lemmas.List.{length-map, take_all}
+use Rattle.std.proofs.lemmas.List.Folds.{list_any-append}
 use Rattle.std.proofs.lemmas.List.Elements.{All-head, All-tail, All-push, All-nil, All-map}
 use Rattle.mari_bids.specs.Bids.{bid_numbered}
 use Rattle.mari_bids.specs.declared.bids.Bid.{Bid}
-use Rattle.mari_progress.specs.Money.{each_once, providers_among, with_number}
+use Rattle.mari_progress.specs.Money.{AreMarked, each_once, providers_among, with_number}
 
 -- what holds of each number holds of each one once
 module _ (P : ℕ → Type 0) where
@@ -42,3 +46,27 @@ pub providers-there : (bids : List Bid) (numbers : List ℕ) (n : ℕ) → All (
 providers-there bids numbers n all there =
     all-once (λ place. place < n) (map (λ i. (bid_numbered bids i).provider) numbers)
     (All-map (λ place. place < n) (λ i. (bid_numbered bids i).provider) numbers (λ k d below. all _ _ (there k d below)))
+
+-- more places without a mark change nothing
+padded : (xs : List Bool) (k p : ℕ) → get_or (xs ++ replicate k false) p false ≡ get_or xs p false
+padded [] zero p = refl
+padded [] (suc k) zero = refl
+padded [] (suc k) (suc p) = padded [] k p
+padded (x ∷ xs) k zero = refl
+padded (x ∷ xs) k (suc p) = padded xs k p
+
+pub marked-longer : (places : List ℕ) (marks : List Bool) (n : ℕ) → length marks ≤ n → AreMarked places marks → AreMarked places (take n marks ++ replicate (n - length marks) false)
+marked-longer places marks n long marked p = ap (λ (bs : List Bool). get_or (bs ++ replicate (n - length marks) false) p false) (take_all n marks long) ∙ padded marks (n - length marks) p ∙ marked p
+
+-- one more place is marked
+pub marked-more : (places : List ℕ) (marks : List Bool) (place : ℕ) → place < length marks → AreMarked places marks → AreMarked (places ++ place ∷ []) (set marks place true)
+marked-more places marks place there marked p = by (place == p) refl ∙ sym (list_any-append (λ m. m == p) places (place ∷ []))
+  where
+    listed : Bool
+    listed = list_any (λ m. m == p) places
+
+    by : (b : Bool) → (place == p) ≡ b → get_or (set marks place true) p false ≡ (listed || (place == p || false))
+    by true e =
+        let here : get_or (set marks place true) p false ≡ true = subst (λ (q : ℕ). get_or (set marks place true) q false ≡ true) (eqb-true place p e) (get_or-set_same marks place true false there) in
+        here ∙ sym (ap (λ (b : Bool). listed || (b || false)) e ∙ or_comm listed true)
+    by false e = get_or-set_other marks place p true false (λ q. eqb-false place p e (sym q)) ∙ marked p ∙ sym (ap (λ (b : Bool). listed || (b || false)) e ∙ or_comm listed false)

@@ -1,5 +1,6 @@
 -- The money of a block: its lines of operators and providers, and its ledger.
-use Rattle.std.specs.Prelude.{◌≡◌, ℕ, ◌==◌, ℤ, List, Option, map, slice_index_or}
+use Rattle.std.specs.Prelude.{◌≡◌, ℕ, ◌==◌, ℤ, Bool, false, List, Option, get_or, map, slice_index_or}
+use Rattle.std.specs.List.{list_any}
 use Rattle.mari_units.specs.declared.numbers.Cents.{Cents}
 use Rattle.mari_units.specs.declared.numbers.Quarters.{Quarters}
 use Rattle.mari_bids.specs.Bids.{bid_numbered}
@@ -30,6 +31,10 @@ amount_line names amounts place = record { name = name_at names place; amount = 
 -- the numbers with this one, which goes last where it is new
 abbrev pub with_number : List ℕ → ℕ → List ℕ
 with_number = listed_with (λ n m. m == n)
+
+-- the marks stand at these places, and at no other
+abbrev pub AreMarked : List ℕ → List Bool → Type 0
+AreMarked places marks = (p : ℕ) → get_or marks p false ≡ list_any (λ m. m == p) places
 
 -- each number once, in order of first appearance
 abbrev pub each_once : List ℕ → List ℕ

@@ -110,11 +110,19 @@ impl Progress {
         ensures { (blocks : List PrintedBlock) (block : PrintedRun) → IsProgress books.now blocks self.old → run ≡ run_after blocks → IsNextRun books.now blocks block settled
             → IsProgress books.now (blocks ++ published_block block ∷ []) self.new }
     {
-        self.remaining
-            .after(books, run, &settled.made, &settled.activation);
-        self.totals.add(&settled.ledger);
+        let SettledRun {
+            made,
+            activation,
+            prices,
+            ledger,
+        } = settled;
+        self.remaining.after(books, run, &made, &activation);
+        drop(made);
+        drop(activation);
+        self.totals.add(&ledger);
+        drop(ledger);
         self.published += 1;
-        self.keep(run_entry(books, run), settled.prices);
+        self.keep(run_entry(books, run), prices);
     }
 
     /// Keeps the prices of a scheduled run, in place of those of an earlier one.

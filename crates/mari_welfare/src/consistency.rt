@@ -117,7 +117,7 @@ fn orders_and_borders_agree(market: &Market, activation: &Activation, prices: &[
 {
     let (orders, mw) = (market.orders.as_slice(), activation.mw.as_slice());
     let (borders, flow) = (market.borders.as_slice(), activation.flow.as_slice());
-    let opened = OpenGates::of(orders, mw);
+    let opened = OpenGates::of(market, activation);
     orders_agree(&opened, orders, mw, prices) && borders_agree(borders, flow, prices)
 }
 

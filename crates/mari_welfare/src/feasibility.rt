@@ -162,7 +162,7 @@ fn orders_and_gates_fit(market: &Market, activation: &Activation) -> bool
     ensures { IsTrue result ↔ OrdersAndGatesFit market.now activation.now }
 {
     let (orders, mw) = (market.orders.as_slice(), activation.mw.as_slice());
-    let opened = OpenGates::of(orders, mw);
+    let opened = OpenGates::of(market, activation);
     orders_fit(&opened, orders, mw) && keep_gate_rules(market.gates.as_slice(), &opened)
 }
 

@@ -1,13 +1,13 @@
 //! Which gates an activation opens, and whether they keep the rules.
 
 ghost use Rattle.std.specs.Prelude.{◌≡◌, ◌||◌, ◌<◌, ◌≤◌, ℕ, false, length, IsTrue, ◌↔◌};
-ghost use Rattle.std.specs.List.{All};
-ghost use Rattle.mari_market.specs.Activation.{is_run_of, runs_gate};
+ghost use Rattle.mari_market.specs.Activation.{HasLengths, is_open, is_run_of};
 ghost use Rattle.mari_market.specs.Gates.{KeepsGateRules, group_of as group_of_gate, parent_of as parent_of_gate};
+ghost use Rattle.mari_market.specs.Market.{IsValid};
 ghost use Rattle.mari_welfare.specs.Gates.{HasOpenParent, IsAlone, IsAloneIn, IsRival, IsOfFewGates, KeepsRulesAt};
 ghost use Rattle.mari_market.specs.Prefix.{opens_in};
 
-use mari_market::{GateInfo, Order};
+use mari_market::{Activation, GateInfo, Market, Order};
 use mari_units::MOST_GATES;
 use std::marker::Model;
 
@@ -48,14 +48,18 @@ impl OpenGates {
         }
     }
 
-    /// The gates of which some order runs.
-    pub(crate) fn of(orders: &[Order], mw: &[u32]) -> OpenGates
-        requires lengths { length mw.now ≡ length orders.now }
-        requires gates { All IsOfFewGates orders.now }
-        ensures { opens_in result ≡ (λ g. runs_gate g orders.now mw.now) }
+    /// The gates of a market that an activation opens. Where the market has none, no order is looked at.
+    pub(crate) fn of(market: &Market, activation: &Activation) -> OpenGates
+        requires market { IsValid market.now }
+        requires lengths { HasLengths market.now activation.now }
+        ensures { opens_in result ≡ is_open market.now activation.now }
     {
         let mut opened = OpenGates::none();
-        for (i, order) in orders.iter().enumerate() {
+        if market.gates.as_slice().is_empty() {
+            return opened;
+        }
+        let mw = activation.mw.as_slice();
+        for (i, order) in market.orders.as_slice().iter().enumerate() {
             opened.mark(order, mw[i]);
         }
         opened

@@ -12,6 +12,8 @@ step : (bids : List Bid) (numbers places : List ℕ) (i : ℕ) → i < length nu
 step bids numbers places i l = rw (add-one, drop-cons numbers i 0) refl
 
 pub loop-number-preserved : goal.loop-number-preserved
-loop-number-preserved c =
-    rw (c.in_ok-list_once.ensures, c.bid_of.ensures)
-    (step c.args.bids.now c.args.numbers.now c.loop-number.places.items c.loop-number.number-index c.loop-number-test.true ∙ c.loop-number.invariant)
+loop-number-preserved c = record {
+  marked = c.in_ok-add.ensures.marked;
+  whole = rw (c.in_ok-add.ensures.places, c.bid_of.ensures)
+      (step c.args.bids.now c.args.numbers.now c.loop-number.listed.places.items c.loop-number.number-index c.loop-number-test.true ∙ c.loop-number.invariant.whole);
+}

@@ -188,17 +188,33 @@ impl LinksSoFar {
         Ok(())
     }
 
+    /// What is said of each bid; what else is held is let go.
+    fn into_entries(self) -> Vec<Entry>
+        ensures { result.items ≡ self.entries.items }
+    {
+        let LinksSoFar { entries, .. } = self;
+        entries
+    }
+
     /// The book, or the refusal of a quarter with too many gates.
     pub fn into_book(self, alloc: Global, bids: &BidBook) -> Result<LinkBook, LineFault<LinkCheck>>
         requires { length self.entries.items ≡ length bids.now.ids }
         ensures { (rows : List Line) → HoldsLinks bids.now (said_by bids.now rows) self
             → TakesLine link_check_number result (first_failing (link_file_checks bids.now rows)) (λ book. book ≡ link_book bids.now rows) }
     {
-        if has_too_many_gates(alloc, bids, self.entries.as_slice())? {
-            return Err(LineFault::Fails(LinkCheck::TooManyGates));
+        let entries = self.into_entries();
+        match has_too_many_gates(alloc, bids, entries.as_slice()) {
+            Ok(false) => Ok(LinkBook {
+                links: Items::of(links_of(alloc, entries)?),
+            }),
+            Ok(true) => {
+                drop(entries);
+                Err(LineFault::Fails(LinkCheck::TooManyGates))
+            }
+            Err(_) => {
+                drop(entries);
+                Err(LineFault::Memory)
+            }
         }
-        Ok(LinkBook {
-            links: Items::of(links_of(alloc, self.entries)?),
-        })
     }
 }

@@ -119,6 +119,10 @@ demand_line i x =
     if draw 2 3 x == 2 then record { text = demand_text i x (printed_cents (pos (5000 + draw 3 10000 x))); state = after 3 x }
     else record { text = demand_text i x []; state = after 2 x }
 
+-- pages with one more after them, of this name and text
+abbrev pub with_page : Pages → (name text : List ℕ) → Pages
+with_page pages name text = pages ++ (name, text) ∷ []
+
 -- the pages' texts, from the states before them
 abbrev pub day_text : List ℕ
 day_text = page_text day_columns ((date_text ∷ rule_text ∷ []) ∷ [])

@@ -1,11 +1,16 @@
 //! The pages of a number.
 
-ghost use Rattle.std.specs.Prelude.{◌≡◌, ◌++◌, ◌≤◌, IfOk, OnOk, length};
+ghost use Rattle.std.specs.Prelude.{◌≡◌, ◌++◌, ◌∷◌, ◌≤◌, ℕ, List, IfOk, OnOk, length};
+ghost use lib.Chars.{codes};
 ghost use Rattle.std.specs.List.{All};
 ghost use Rattle.mari_io.specs.Memory.{pages_of};
 ghost use Rattle.mari_scenario.specs.Accepted.{AreAccepted, IsShort};
 ghost use Rattle.mari_scenario.specs.Draws.{lines};
-ghost use Rattle.mari_scenario.specs.Pages.{bids_at, borders_at, demands_at, link_lines, runs_at, scenario_at, zone_line};
+ghost use Rattle.mari_scenario.specs.Pages.{bids_at, borders_at, day_text, demands_at, link_lines, links_text, runs_at, scenario_at, with_page, zone_line, zones_text};
+ghost use Rattle.mari_zones.specs.Borders.{border_columns};
+ghost use Rattle.mari_bids.specs.Bids.{bid_columns};
+ghost use Rattle.mari_demands.specs.Runs.{run_columns};
+ghost use Rattle.mari_demands.specs.Demands.{demand_columns};
 
 use crate::lines::{
     put_bid_line, put_border_line, put_demand_line, put_link_lines, put_run_line, put_zone_line,
@@ -23,17 +28,19 @@ fn text_of(alloc: Global, head: &[u8]) -> Result<Vec<u8>, Memory>
     Ok(text)
 }
 
-/// The page of this name with this text.
-fn page(alloc: Global, name: &str, text: Vec<u8>) -> Result<Page, Memory>
+/// Adds the page of this name with this text.
+fn add_page(alloc: Global, pages: &mut Vec<Page>, name: &str, text: Vec<u8>) -> Result<(), Memory>
     requires some { 1 ≤ length name.now }
     requires short { length name.now ≤ 64 }
-    ensures name { IfOk result (λ page. page.name ≡ name.now) }
-    ensures bytes { IfOk result (λ page. page.bytes ≡ text.items) }
+    ensures { (bytes : List ℕ) → text.items ≡ bytes
+        → OnOk result (pages_of pages.new.items ≡ with_page (pages_of pages.old.items) name.now bytes) }
 {
-    Ok(Page {
+    let page = Page {
         name: Name64::of(alloc, name)?,
         bytes: Items::of(text),
-    })
+    };
+    pages.push(page)?;
+    Ok(())
 }
 
 /// Appends the lines of the zones.
@@ -106,35 +113,97 @@ fn put_demands(alloc: Global, out: &mut Vec<u8>, number: u32) -> Result<u32, Mem
     Ok(state)
 }
 
-/// Draws the lines of the borders, the bids, the runs and the demands in this order.
-#[tactic(auto, unfolding(crate::specs::Pages::scenario_at, mari_calendar::specs::Columns::day_columns, mari_zones::specs::Zones::zone_columns, mari_zones::specs::Borders::border_columns, mari_bids::specs::Bids::bid_columns, mari_links::specs::Links::link_columns, mari_demands::specs::Runs::run_columns, mari_demands::specs::Demands::demand_columns))]
-fn drawn_pages(alloc: Global, number: u32) -> Result<Vec<Page>, Memory>
-    ensures pages { IfOk result (λ pages. pages_of pages.items ≡ scenario_at number) }
+/// Adds the page of the day.
+fn add_day(alloc: Global, pages: &mut Vec<Page>) -> Result<(), Memory>
+    ensures { OnOk result (pages_of pages.new.items ≡ with_page (pages_of pages.old.items) (codes "s/day.csv") day_text) }
 {
-    let day = text_of(alloc, b"date,rule\n2025-03-12,UTC0\n")?;
-    let mut zones = text_of(alloc, b"zone,operator\n")?;
-    put_zones(alloc, &mut zones)?;
-    let mut borders = text_of(alloc, b"from,to,limit,back\n")?;
-    let before_bids = put_borders(alloc, &mut borders, number)?;
-    let mut bids = text_of(
+    let text = text_of(alloc, b"date,rule\n2025-03-12,UTC0\n")?;
+    add_page(alloc, pages, "s/day.csv", text)
+}
+
+/// Adds the page of the zones.
+fn add_zones(alloc: Global, pages: &mut Vec<Page>) -> Result<(), Memory>
+    ensures { OnOk result (pages_of pages.new.items ≡ with_page (pages_of pages.old.items) (codes "s/zones.csv") zones_text) }
+{
+    let mut text = text_of(alloc, b"zone,operator\n")?;
+    put_zones(alloc, &mut text)?;
+    add_page(alloc, pages, "s/zones.csv", text)
+}
+
+/// Adds the page of the borders, from the state before them.
+fn add_borders(alloc: Global, pages: &mut Vec<Page>, number: u32) -> Result<u32, Memory>
+    ensures page { OnOk result (pages_of pages.new.items ≡ with_page (pages_of pages.old.items) (codes "s/borders.csv") (border_columns ++ 10 ∷ (borders_at number).text)) }
+    ensures state { IfOk result (λ after. after ≡ (borders_at number).state) }
+{
+    let mut text = text_of(alloc, b"from,to,limit,back\n")?;
+    let after = put_borders(alloc, &mut text, number)?;
+    add_page(alloc, pages, "s/borders.csv", text)?;
+    Ok(after)
+}
+
+/// Adds the page of the bids, from the state before them.
+fn add_bids(alloc: Global, pages: &mut Vec<Page>, number: u32) -> Result<u32, Memory>
+    ensures page { OnOk result (pages_of pages.new.items ≡ with_page (pages_of pages.old.items) (codes "s/bids.csv") (bid_columns ++ 10 ∷ (bids_at number).text)) }
+    ensures state { IfOk result (λ after. after ≡ (bids_at number).state) }
+{
+    let mut text = text_of(
         alloc,
         b"id,provider,zone,quarter,direction,price,least,greatest,kind\n",
     )?;
-    let before_runs = put_bids(alloc, &mut bids, before_bids)?;
-    let mut links = text_of(alloc, b"kind,first,second\n")?;
-    put_links(alloc, &mut links)?;
-    let mut runs = text_of(alloc, b"run,quarter,kind,reference\n")?;
-    let before_demands = put_runs(alloc, &mut runs, before_runs)?;
-    let mut demands = text_of(alloc, b"run,zone,mw,price\n")?;
-    put_demands(alloc, &mut demands, before_demands)?;
+    let after = put_bids(alloc, &mut text, number)?;
+    add_page(alloc, pages, "s/bids.csv", text)?;
+    Ok(after)
+}
+
+/// Adds the page of the links.
+fn add_links(alloc: Global, pages: &mut Vec<Page>) -> Result<(), Memory>
+    ensures { OnOk result (pages_of pages.new.items ≡ with_page (pages_of pages.old.items) (codes "s/links.csv") links_text) }
+{
+    let mut text = text_of(alloc, b"kind,first,second\n")?;
+    put_links(alloc, &mut text)?;
+    add_page(alloc, pages, "s/links.csv", text)
+}
+
+/// Adds the page of the runs, from the state before them.
+fn add_runs(alloc: Global, pages: &mut Vec<Page>, number: u32) -> Result<u32, Memory>
+    ensures page { OnOk result (pages_of pages.new.items ≡ with_page (pages_of pages.old.items) (codes "s/runs.csv") (run_columns ++ 10 ∷ (runs_at number).text)) }
+    ensures state { IfOk result (λ after. after ≡ (runs_at number).state) }
+{
+    let mut text = text_of(alloc, b"run,quarter,kind,reference\n")?;
+    let after = put_runs(alloc, &mut text, number)?;
+    add_page(alloc, pages, "s/runs.csv", text)?;
+    Ok(after)
+}
+
+/// Adds the page of the demands, from the state before them.
+fn add_demands(alloc: Global, pages: &mut Vec<Page>, number: u32) -> Result<(), Memory>
+    ensures { OnOk result (pages_of pages.new.items ≡ with_page (pages_of pages.old.items) (codes "s/demands.csv") (demand_columns ++ 10 ∷ (demands_at number).text)) }
+{
+    let mut text = text_of(alloc, b"run,zone,mw,price\n")?;
+    put_demands(alloc, &mut text, number)?;
+    add_page(alloc, pages, "s/demands.csv", text)
+}
+
+/// Adds the pages of a number, of which the borders, the bids, the runs and the demands draw in this order.
+#[tactic(auto, unfolding(crate::specs::Pages::scenario_at))]
+fn add_pages(alloc: Global, pages: &mut Vec<Page>, number: u32) -> Result<(), Memory>
+    ensures { OnOk result (pages_of pages.new.items ≡ pages_of pages.old.items ++ scenario_at number) }
+{
+    add_day(alloc, pages)?;
+    add_zones(alloc, pages)?;
+    let before_bids = add_borders(alloc, pages, number)?;
+    let before_runs = add_bids(alloc, pages, before_bids)?;
+    add_links(alloc, pages)?;
+    let before_demands = add_runs(alloc, pages, before_runs)?;
+    add_demands(alloc, pages, before_demands)
+}
+
+/// The pages of a number.
+fn drawn_pages(alloc: Global, number: u32) -> Result<Vec<Page>, Memory>
+    ensures pages { IfOk result (λ pages. pages_of pages.items ≡ scenario_at number) }
+{
     let mut pages = Vec::new(alloc);
-    pages.push(page(alloc, "s/day.csv", day)?)?;
-    pages.push(page(alloc, "s/zones.csv", zones)?)?;
-    pages.push(page(alloc, "s/borders.csv", borders)?)?;
-    pages.push(page(alloc, "s/bids.csv", bids)?)?;
-    pages.push(page(alloc, "s/links.csv", links)?)?;
-    pages.push(page(alloc, "s/runs.csv", runs)?)?;
-    pages.push(page(alloc, "s/demands.csv", demands)?)?;
+    add_pages(alloc, &mut pages, number)?;
     Ok(pages)
 }
 

@@ -1,8 +1,7 @@
 -- The program's command line as `clap` has it; which words are a command, `Words` says without it.
-use Rattle.std.specs.Prelude.{◌≡◌, Some, true}
+use Rattle.std.specs.Prelude.{Some, true}
 use lib.Chars.{codes}
-use Rattle.clap.specs.Words.{AddsSubcommand, App, Rule, Text, app_of, new_app, new_rule, with_rule, with_subcommand}
-use Rattle.clap.specs.declared.builder.command.Command.{Command}
+use Rattle.clap.specs.Words.{App, Rule, Text, new_app, new_rule, with_rule, with_subcommand}
 use Rattle.clap.specs.declared.builder.ArgAction.TheVariants.{Set}
 
 -- a word that has to be there, which belongs to no option
@@ -26,10 +25,6 @@ three_words name = with_rule (two_words name) (required_word (codes "third"))
 -- the options after the words
 abbrev pub with_options : App → App
 with_options app = with_rule (with_rule app (option_rule (codes "nodes"))) (option_rule (codes "workers"))
-
--- a command of this line, which whatever it is added to has as its subcommand
-abbrev pub IsSubcommand : App → Command → Type 0
-IsSubcommand line command = (old new : Command) → AddsSubcommand old command new → app_of new ≡ with_subcommand (app_of old) line.top
 
 -- the command line before its subcommands are added
 abbrev pub bare_line : App

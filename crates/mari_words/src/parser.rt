@@ -1,8 +1,8 @@
 //! The program's command line: one command with subcommands, one level, without help or version.
 
-ghost use Rattle.std.specs.Prelude.{◌≡◌, IfOk, false};
-ghost use Rattle.clap.specs.Words.{App, app_of, rule_of, with_subcommand as with_more};
-ghost use Rattle.mari_words.specs.Line.{IsSubcommand, bare_line, line, one_word, option_rule, required_word, three_words, two_words, with_options};
+ghost use Rattle.std.specs.Prelude.{◌≡◌, IfOk, false, true};
+ghost use Rattle.clap.specs.Words.{App, Rule, app_of, rule_of, with_rule, with_subcommand as with_more};
+ghost use Rattle.mari_words.specs.Line.{bare_line, line, one_word, option_rule, required_word, three_words, two_words, with_options as with_both};
 
 use clap::{Arg, ArgAction, Command as Parser};
 use mari_units::Memory;
@@ -24,46 +24,54 @@ fn option<'a>(alloc: Global, name: &'a str) -> Arg<'a>
     Arg::new(alloc, name).long(name).action(ArgAction::Set)
 }
 
+/// A subcommand with one more argument, where it could be made.
+fn with_argument<'a>(
+    command: Result<Parser<'a>, Memory>,
+    argument: Arg<'a>,
+) -> Result<Parser<'a>, Memory>
+    requires { argument.global ≡ false }
+    ensures { (old : App) (rule : Rule) → rule_of argument.entry ≡ rule → IfOk command.entry (λ command. app_of command ≡ old)
+        → IfOk result (λ new. app_of new ≡ with_rule old rule) }
+{
+    match command {
+        Ok(command) => Ok(command.arg(argument)?),
+        Err(Memory) => {
+            drop(argument);
+            Err(Memory)
+        }
+    }
+}
+
 /// A subcommand with one word after it.
 fn with_word<'a>(alloc: Global, name: &'a str) -> Result<Parser<'a>, Memory>
-    ensures { IfOk result (IsSubcommand (one_word name.entry.now)) }
+    ensures { IfOk result (λ command. app_of command ≡ one_word name.entry.now) }
 {
-    let command = Parser::new(alloc, name).arg(word(alloc, "first"))?;
-    Ok(command)
+    with_argument(Ok(Parser::new(alloc, name)), word(alloc, "first"))
 }
 
 /// A subcommand with two words after it.
 fn with_two_words<'a>(alloc: Global, name: &'a str) -> Result<Parser<'a>, Memory>
-    ensures { IfOk result (IsSubcommand (two_words name.entry.now)) }
+    ensures { IfOk result (λ command. app_of command ≡ two_words name.entry.now) }
 {
-    let command = Parser::new(alloc, name)
-        .arg(word(alloc, "first"))?
-        .arg(word(alloc, "second"))?;
-    Ok(command)
+    with_argument(with_word(alloc, name), word(alloc, "second"))
 }
 
-/// A subcommand with one word after it, and the options.
-fn with_word_and_options<'a>(alloc: Global, name: &'a str) -> Result<Parser<'a>, Memory>
-    ensures { IfOk result (IsSubcommand (with_options (one_word name.entry.now))) }
+/// A subcommand with three words after it.
+fn with_three_words<'a>(alloc: Global, name: &'a str) -> Result<Parser<'a>, Memory>
+    ensures { IfOk result (λ command. app_of command ≡ three_words name.entry.now) }
 {
-    let command = Parser::new(alloc, name)
-        .arg(word(alloc, "first"))?
-        .arg(option(alloc, "nodes"))?
-        .arg(option(alloc, "workers"))?;
-    Ok(command)
+    with_argument(with_two_words(alloc, name), word(alloc, "third"))
 }
 
-/// A subcommand with three words after it, and the options.
-fn with_three_words_and_options<'a>(alloc: Global, name: &'a str) -> Result<Parser<'a>, Memory>
-    ensures { IfOk result (IsSubcommand (with_options (three_words name.entry.now))) }
+/// A subcommand with the options.
+fn with_options<'a>(
+    alloc: Global,
+    command: Result<Parser<'a>, Memory>,
+) -> Result<Parser<'a>, Memory>
+    ensures { (old : App) → IfOk command.entry (λ command. app_of command ≡ old) → IfOk result (λ new. app_of new ≡ with_both old) }
 {
-    let command = Parser::new(alloc, name)
-        .arg(word(alloc, "first"))?
-        .arg(word(alloc, "second"))?
-        .arg(word(alloc, "third"))?
-        .arg(option(alloc, "nodes"))?
-        .arg(option(alloc, "workers"))?;
-    Ok(command)
+    let command = with_argument(command, option(alloc, "nodes"));
+    with_argument(command, option(alloc, "workers"))
 }
 
 /// The program's command line before its subcommands.
@@ -78,28 +86,40 @@ fn bare<'a>(alloc: Global) -> Parser<'a>
         .subcommand_required(true)
 }
 
-/// The line with one more subcommand, where that could be made.
+/// The line with one more subcommand, where both could be made.
 fn with_subcommand<'a>(
-    line: Parser<'a>,
+    line: Result<Parser<'a>, Memory>,
     command: Result<Parser<'a>, Memory>,
 ) -> Result<Parser<'a>, Memory>
-    ensures { IfOk result (λ new. (sub : App) → IfOk command.entry (IsSubcommand sub) → app_of new ≡ with_more (app_of line.entry) sub.top) }
+    ensures { (old sub : App) → sub.top.is_plain ≡ true → IfOk line.entry (λ line. app_of line ≡ old)
+        → IfOk command.entry (λ command. app_of command ≡ sub) → IfOk result (λ new. app_of new ≡ with_more old sub.top) }
 {
-    let new = line.subcommand(command?)?;
-    Ok(new)
+    match line {
+        Ok(line) => match command {
+            Ok(command) => Ok(line.subcommand(command)?),
+            Err(Memory) => {
+                drop(line);
+                Err(Memory)
+            }
+        },
+        Err(Memory) => {
+            drop(command);
+            Err(Memory)
+        }
+    }
 }
 
-/// The program's command line. Nothing else is held where a step fails, so little is let go there.
+/// The program's command line. What failed is handed on, so that nothing is let go here.
 pub fn parser<'a>(alloc: Global) -> Result<Parser<'a>, Memory>
     ensures { IfOk result (λ parser. app_of parser ≡ line) }
 {
-    let mari = with_subcommand(bare(alloc), with_word_and_options(alloc, "clear"))?;
-    let mari = with_subcommand(mari, with_word(alloc, "check"))?;
-    let mari = with_subcommand(mari, with_word(alloc, "generate"))?;
-    let mari = with_subcommand(mari, with_two_words(alloc, "migrate"))?;
-    let mari = with_subcommand(mari, with_word(alloc, "feed"))?;
-    let mari = with_subcommand(mari, with_word_and_options(alloc, "split"))?;
-    let mari = with_subcommand(mari, with_three_words_and_options(alloc, "blocks"))?;
-    let mari = with_subcommand(mari, with_two_words(alloc, "value"))?;
-    Ok(mari)
+    let mari = Ok(bare(alloc));
+    let mari = with_subcommand(mari, with_options(alloc, with_word(alloc, "clear")));
+    let mari = with_subcommand(mari, with_word(alloc, "check"));
+    let mari = with_subcommand(mari, with_word(alloc, "generate"));
+    let mari = with_subcommand(mari, with_two_words(alloc, "migrate"));
+    let mari = with_subcommand(mari, with_word(alloc, "feed"));
+    let mari = with_subcommand(mari, with_options(alloc, with_word(alloc, "split")));
+    let mari = with_subcommand(mari, with_options(alloc, with_three_words(alloc, "blocks")));
+    with_subcommand(mari, with_two_words(alloc, "value"))
 }

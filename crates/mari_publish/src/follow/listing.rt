@@ -17,16 +17,12 @@ use std::mem;
 fn list_zone(alloc: Global, block: &mut Listing, zone: ZoneLine) -> Result<(), FollowFault>
     ensures { Steps (after_listing block.old (Line.Zone zone)) (held_as.Listing block.old) (held_as.Listing block.new) result }
 {
-    if !block.borders.as_slice().is_empty() {
-        return Err(FollowFault::OutOfOrder);
-    }
-    if !block.bids.as_slice().is_empty() {
-        return Err(FollowFault::OutOfOrder);
-    }
-    if !block.demands.as_slice().is_empty() {
-        return Err(FollowFault::OutOfOrder);
-    }
-    if block.zones.as_slice().len() >= MOST_ZONES {
+    if !block.borders.as_slice().is_empty()
+        || !block.bids.as_slice().is_empty()
+        || !block.demands.as_slice().is_empty()
+        || block.zones.as_slice().len() >= MOST_ZONES
+    {
+        drop(zone);
         return Err(FollowFault::OutOfOrder);
     }
     Ok(push(alloc, &mut block.zones, zone)?)
@@ -36,16 +32,12 @@ fn list_zone(alloc: Global, block: &mut Listing, zone: ZoneLine) -> Result<(), F
 fn list_border(alloc: Global, block: &mut Listing, border: BorderLine) -> Result<(), FollowFault>
     ensures { Steps (after_listing block.old (Line.Border border)) (held_as.Listing block.old) (held_as.Listing block.new) result }
 {
-    if block.zones.as_slice().is_empty() {
-        return Err(FollowFault::OutOfOrder);
-    }
-    if !block.bids.as_slice().is_empty() {
-        return Err(FollowFault::OutOfOrder);
-    }
-    if !block.demands.as_slice().is_empty() {
-        return Err(FollowFault::OutOfOrder);
-    }
-    if block.borders.as_slice().len() >= MOST_BORDERS {
+    if block.zones.as_slice().is_empty()
+        || !block.bids.as_slice().is_empty()
+        || !block.demands.as_slice().is_empty()
+        || block.borders.as_slice().len() >= MOST_BORDERS
+    {
+        drop(border);
         return Err(FollowFault::OutOfOrder);
     }
     Ok(push(alloc, &mut block.borders, border)?)
@@ -55,13 +47,11 @@ fn list_border(alloc: Global, block: &mut Listing, border: BorderLine) -> Result
 fn list_bid(alloc: Global, block: &mut Listing, bid: BidLine) -> Result<(), FollowFault>
     ensures { Steps (after_listing block.old (Line.Bid bid)) (held_as.Listing block.old) (held_as.Listing block.new) result }
 {
-    if block.zones.as_slice().is_empty() {
-        return Err(FollowFault::OutOfOrder);
-    }
-    if !block.demands.as_slice().is_empty() {
-        return Err(FollowFault::OutOfOrder);
-    }
-    if block.bids.as_slice().len() >= MOST_BIDS {
+    if block.zones.as_slice().is_empty()
+        || !block.demands.as_slice().is_empty()
+        || block.bids.as_slice().len() >= MOST_BIDS
+    {
+        drop(bid);
         return Err(FollowFault::OutOfOrder);
     }
     Ok(push(alloc, &mut block.bids, bid)?)

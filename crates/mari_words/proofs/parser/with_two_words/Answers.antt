@@ -1,10 +1,6 @@
-use Rattle.std.proofs.Common.{◌∙◌, ◌||◌, ap, ap₂}
-use Rattle.clap.specs.Words.{App, app_of, with_rule, with_subcommand}
+use Rattle.std.proofs.Common.{codes}
+use Rattle.mari_words.specs.Line.{required_word, one_word}
 use Rattle.mari_words.proofs.parser.with_two_words.Goals as goal
 
 pub returns : goal.returns
-returns c = λ old new adds.
-    let shape = c.in_ok-command.ensures.shape c.word-2.ensures.local
-    ∙ ap₂ with_rule (c.in_ok-arg.ensures.shape c.word.ensures.local ∙ ap₂ with_rule c.new.ensures.app c.word.ensures.rule) c.word-2.ensures.rule in
-    adds.shape (c.in_ok-command.ensures.globals ∙ ap₂ ◌||◌ (c.in_ok-arg.ensures.globals ∙ ap₂ ◌||◌ c.new.ensures.local c.word.ensures.local) c.word-2.ensures.local)
-    ∙ ap (λ (a : App). with_subcommand (app_of old) a.top) shape
+returns c = c.with_argument.ensures (one_word c.args.name.now) (required_word (codes "second")) c.word.ensures.rule c.with_word.ensures

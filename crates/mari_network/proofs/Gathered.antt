@@ -133,11 +133,11 @@ these_stay These before after old new zones margins long same slots amounts a = 
   };
 }
 
--- among the first n they are those of the first n
-pub margins_of_first : (These : ℕ → Type 0) (slots : List Slot) (xs : List ℤ) (zones n : ℕ) (margins : List Margin) → ((k : ℕ) → k < n → These k)
+-- where these are the first n
+pub margins_of_first : (These : ℕ → Type 0) (slots : List Slot) (xs : List ℤ) (zones n : ℕ) (margins : List Margin) → ((k : ℕ) → k < n → These k) → ((k : ℕ) → These k → k < n)
     → AreMarginsOfThese These slots xs zones margins → AreMargins slots xs zones n margins
-margins_of_first These slots xs zones n margins all a = record {
+margins_of_first These slots xs zones n margins all first a = record {
   long = a.long;
-  dearest = λ z l. record { one = λ i e. let o = (a.dearest z l).one i e in (o.0, o.1); all = λ k h can e. (a.dearest z l).all k (all k h) can e };
-  cheapest = λ z l. record { one = λ i e. let o = (a.cheapest z l).one i e in (o.0, o.1); all = λ k h can e. (a.cheapest z l).all k (all k h) can e };
+  dearest = λ z l. record { one = λ i e. let o = (a.dearest z l).one i e in (o.0, o.1, first i o.2); all = λ k h can e. (a.dearest z l).all k (all k h) can e };
+  cheapest = λ z l. record { one = λ i e. let o = (a.cheapest z l).one i e in (o.0, o.1, first i o.2); all = λ k h can e. (a.cheapest z l).all k (all k h) can e };
 }

@@ -34,10 +34,10 @@ module _ (slots : List Slot) (old new : List ℤ) (sink source : ℕ) (moved : I
     one = λ i e.
         let o = d.one i e in
         elim (cases_eq i sink) [
-          | inl is ↦ ((o.0.0, subst (λ (k : ℕ). (slot_at slots k).low <ℤ int_at new k) (sym is) (stays (e ∙ ap (λ (k : ℕ). Some k) is))), o.1)
+          | inl is ↦ ((o.0.0, subst (λ (k : ℕ). (slot_at slots k).low <ℤ int_at new k) (sym is) (stays (e ∙ ap (λ (k : ℕ). Some k) is))), o.1, o.2)
           | inr other ↦ elim (cases_eq i source) [
-            | inl is ↦ ((o.0.0, subst (λ (k : ℕ). (slot_at slots k).low <ℤ int_at new k) (sym is) (omega (arith, ints, moved.least, moved.more))), o.1)
-            | inr far ↦ ((o.0.0, subst (λ (x : ℤ). (slot_at slots i).low <ℤ x) (sym (moved.others i other far)) o.0.1), o.1)
+            | inl is ↦ ((o.0.0, subst (λ (k : ℕ). (slot_at slots k).low <ℤ int_at new k) (sym is) (omega (arith, ints, moved.least, moved.more))), o.1, o.2)
+            | inr far ↦ ((o.0.0, subst (λ (x : ℤ). (slot_at slots i).low <ℤ x) (sym (moved.others i other far)) o.0.1), o.1, o.2)
           ]
         ];
     all = λ k l far can e. less_before d k l far can e;
@@ -46,20 +46,20 @@ module _ (slots : List Slot) (old new : List ℤ) (sink source : ℕ) (moved : I
   -- where it is the sink, none that is dearer may put in less
   pub dearest_anew : (next : Option ℕ) → best ≡ Some sink → IsDearestTo slots new z n (price_of slots sink) next → IsDearestIn slots old z n best → IsDearestBut slots new z n source next
   dearest_anew next was to d = record {
-    one = to.one;
+    one = λ i e. let o = to.one i e in (o.0, o.1, o.2);
     all = λ k l far can e. to.all k l can e (subst (λ (b : Option ℕ). IsAbove slots (price_of slots k) b) was (less_before d k l far can e));
   }
 
-  pub dearest_with_source : (next : Option ℕ) → source < length slots → zone_of slots source ≡ z
+  pub dearest_with_source : (next : Option ℕ) → source < length slots → source < n → zone_of slots source ≡ z
       → ((next ≡ best) ⊎ (next ≡ Some source)) → IsAbove slots (price_of slots source) next
       → ((v : ℤ) → IsAbove slots v best → IsAbove slots v next) → IsDearestBut slots new z n source best
       → IsDearestIn slots new z n next
-  dearest_with_source next there here one above keeps d = record {
+  dearest_with_source next there first here one above keeps d = record {
     one = λ i h. elim one [
       | inl same ↦ d.one i (sym same ∙ h)
       | inr is ↦
           let k_is : source ≡ i = some_same source i (sym is ∙ h) in
-          (subst (λ (k : ℕ). CanLess slots new k) k_is (there, omega (arith, ints, moved.least, moved.more)), sym (ap (zone_of slots) k_is) ∙ here)
+          (subst (λ (k : ℕ). CanLess slots new k) k_is (there, omega (arith, ints, moved.least, moved.more)), sym (ap (zone_of slots) k_is) ∙ here, omega (arith, first, k_is))
     ];
     all = λ k l can e. elim (cases_eq k source) [
       | inl is ↦ subst (λ (j : ℕ). IsAbove slots (price_of slots j) next) (sym is) above
@@ -87,10 +87,10 @@ module _ (slots : List Slot) (old new : List ℤ) (sink source : ℕ) (moved : I
     one = λ i e.
         let o = c.one i e in
         elim (cases_eq i source) [
-          | inl is ↦ ((o.0.0, subst (λ (k : ℕ). int_at new k <ℤ (slot_at slots k).high) (sym is) (stays (e ∙ ap (λ (k : ℕ). Some k) is))), o.1)
+          | inl is ↦ ((o.0.0, subst (λ (k : ℕ). int_at new k <ℤ (slot_at slots k).high) (sym is) (stays (e ∙ ap (λ (k : ℕ). Some k) is))), o.1, o.2)
           | inr other ↦ elim (cases_eq i sink) [
-            | inl is ↦ ((o.0.0, subst (λ (k : ℕ). int_at new k <ℤ (slot_at slots k).high) (sym is) (omega (arith, ints, moved.less, moved.most))), o.1)
-            | inr far ↦ ((o.0.0, subst (λ (x : ℤ). x <ℤ (slot_at slots i).high) (sym (moved.others i far other)) o.0.1), o.1)
+            | inl is ↦ ((o.0.0, subst (λ (k : ℕ). int_at new k <ℤ (slot_at slots k).high) (sym is) (omega (arith, ints, moved.less, moved.most))), o.1, o.2)
+            | inr far ↦ ((o.0.0, subst (λ (x : ℤ). x <ℤ (slot_at slots i).high) (sym (moved.others i far other)) o.0.1), o.1, o.2)
           ]
         ];
     all = λ k l far can e. more_before c k l far can e;
@@ -98,20 +98,20 @@ module _ (slots : List Slot) (old new : List ℤ) (sink source : ℕ) (moved : I
 
   pub cheapest_anew : (next : Option ℕ) → best ≡ Some source → IsCheapestFrom slots new z n (price_of slots source) next → IsCheapestIn slots old z n best → IsCheapestBut slots new z n sink next
   cheapest_anew next was from c = record {
-    one = from.one;
+    one = λ i e. let o = from.one i e in (o.0, o.1, o.2);
     all = λ k l far can e. from.all k l can e (subst (λ (b : Option ℕ). IsBelow slots (price_of slots k) b) was (more_before c k l far can e));
   }
 
-  pub cheapest_with_sink : (next : Option ℕ) → sink < length slots → zone_of slots sink ≡ z
+  pub cheapest_with_sink : (next : Option ℕ) → sink < length slots → sink < n → zone_of slots sink ≡ z
       → ((next ≡ best) ⊎ (next ≡ Some sink)) → IsBelow slots (price_of slots sink) next
       → ((v : ℤ) → IsBelow slots v best → IsBelow slots v next) → IsCheapestBut slots new z n sink best
       → IsCheapestIn slots new z n next
-  cheapest_with_sink next there here one below keeps c = record {
+  cheapest_with_sink next there first here one below keeps c = record {
     one = λ i h. elim one [
       | inl same ↦ c.one i (sym same ∙ h)
       | inr is ↦
           let k_is : sink ≡ i = some_same sink i (sym is ∙ h) in
-          (subst (λ (k : ℕ). CanMore slots new k) k_is (there, omega (arith, ints, moved.less, moved.most)), sym (ap (zone_of slots) k_is) ∙ here)
+          (subst (λ (k : ℕ). CanMore slots new k) k_is (there, omega (arith, ints, moved.less, moved.most)), sym (ap (zone_of slots) k_is) ∙ here, omega (arith, first, k_is))
     ];
     all = λ k l can e. elim (cases_eq k sink) [
       | inl is ↦ subst (λ (j : ℕ). IsBelow slots (price_of slots j) next) (sym is) below
@@ -145,7 +145,7 @@ pub margin_stays_among : (before after : List Slot) (old new : List ℤ) (z n : 
     → ((k : ℕ) → zone_of before k ≡ z → int_at new k ≡ int_at old k) → IsMarginIn before old z n m → IsMarginIn after new z n m
 margin_stays_among before after old new z n m long zones slots amounts a = record {
   dearest = record {
-    one = λ i e. let o = a.dearest.one i e in (less_stays before after old new i (sym long) (sym (slots i o.1)) (sym (amounts i o.1)) o.0, zones i ∙ o.1);
+    one = λ i e. let o = a.dearest.one i e in (less_stays before after old new i (sym long) (sym (slots i o.1)) (sym (amounts i o.1)) o.0, zones i ∙ o.1, o.2);
     all = λ k l can e.
         let here : zone_of before k ≡ z = sym (zones k) ∙ e in
         subst (λ (s : Slot). IsAbove after s.price m.dearest) (sym (slots k here))
@@ -153,7 +153,7 @@ margin_stays_among before after old new z n m long zones slots amounts a = recor
         (a.dearest.all k l (less_stays after before new old k long (slots k here) (amounts k here) can) here));
   };
   cheapest = record {
-    one = λ i e. let o = a.cheapest.one i e in (more_stays before after old new i (sym long) (sym (slots i o.1)) (sym (amounts i o.1)) o.0, zones i ∙ o.1);
+    one = λ i e. let o = a.cheapest.one i e in (more_stays before after old new i (sym long) (sym (slots i o.1)) (sym (amounts i o.1)) o.0, zones i ∙ o.1, o.2);
     all = λ k l can e.
         let here : zone_of before k ≡ z = sym (zones k) ∙ e in
         subst (λ (s : Slot). IsBelow after s.price m.cheapest) (sym (slots k here))
@@ -212,7 +212,7 @@ pub dearest_in_all : (slots : List Slot) (xs : List ℤ) (z n : ℕ) (best next 
     → ((k : ℕ) → n ≤ k → CanLess slots xs k → zone_of slots k ≡ z → IsAbove slots (price_of slots k) next)
     → IsDearestIn slots xs z n best → IsDearestIn slots xs z (length slots) next
 dearest_in_all slots xs z n best next one keeps beside d = record {
-  one = λ i e. elim (one i e) [ inl was ↦ d.one i was | inr is ↦ is ];
+  one = λ i e. elim (one i e) [ inl was ↦ let o = d.one i was in (o.0, o.1, o.0.0) | inr is ↦ (is.0, is.1, is.0.0) ];
   all = λ k l can e. elim (cases_lt k n) [ inl b ↦ keeps (price_of slots k) (d.all k b can e) | inr g ↦ beside k g can e ];
 }
 
@@ -222,7 +222,7 @@ pub cheapest_in_all : (slots : List Slot) (xs : List ℤ) (z n : ℕ) (best next
     → ((k : ℕ) → n ≤ k → CanMore slots xs k → zone_of slots k ≡ z → IsBelow slots (price_of slots k) next)
     → IsCheapestIn slots xs z n best → IsCheapestIn slots xs z (length slots) next
 cheapest_in_all slots xs z n best next one keeps beside c = record {
-  one = λ i e. elim (one i e) [ inl was ↦ c.one i was | inr is ↦ is ];
+  one = λ i e. elim (one i e) [ inl was ↦ let o = c.one i was in (o.0, o.1, o.0.0) | inr is ↦ (is.0, is.1, is.0.0) ];
   all = λ k l can e. elim (cases_lt k n) [ inl b ↦ keeps (price_of slots k) (c.all k b can e) | inr g ↦ beside k g can e ];
 }
 

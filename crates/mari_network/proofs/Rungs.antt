@@ -112,41 +112,61 @@ rung_of_slot slots n z ladder k a l e =
     let same : rung_at ladder j.0 ≡ rung_of slots k = get_or_default ladder j.0 no_rung (rung_of slots k) j.1 ∙ j.2 in
     record { at = j.0; there = j.1; place = ap (λ (r : Rung). r.place) same; price = ap (λ (r : Rung). r.price) same }
 
+-- what a rung says of its slot
+record IsOfRung (slots : List Slot) (n z : ℕ) (k : ℕ) (v : ℤ) : Type 0 where
+  zone : zone_of slots k ≡ z
+  first : k < n
+  price : v ≡ price_of slots k
+
+slot_at_rung : (slots : List Slot) (n z : ℕ) (ladder : List Rung) (k j : ℕ) → IsLadder slots n z ladder → j < length ladder → (rung_at ladder j).place ≡ k → IsOfRung slots n z k (rung_at ladder j).price
+slot_at_rung slots n z ladder k j a l here = record {
+  zone = sym (ap (zone_of slots) here) ∙ a.rungs.zone j no_rung l;
+  first = subst (λ (i : ℕ). i < n) here (a.rungs.there j no_rung l);
+  price = a.rungs.price j no_rung l ∙ ap (price_of slots) here;
+}
+
 -- the dearest on a ladder's first rungs is that of its slots which cost at most so much
 pub dearest_on : (slots : List Slot) (xs : List ℤ) (n z : ℕ) (ladder : List Rung) (top : ℤ) (end : ℕ) (best : Option ℕ)
-    → IsLadder slots n z ladder → end ≤ length ladder
+    → IsLadder slots n z ladder → end ≤ length ladder → ((j : ℕ) (d : Rung) → j < end → (get_or ladder j d).price ≤ℤ top)
     → ((j : ℕ) (d : Rung) → end ≤ j → j < length ladder → top <ℤ (get_or ladder j d).price)
     → IsDearestRung slots xs ladder 0 end best → IsDearestTo slots xs z n top best
-dearest_on slots xs n z ladder top end best a few above d = record {
-  one = λ i e. let o = d.one i e in (o.0, sym (ap (zone_of slots) o.4) ∙ a.rungs.zone o.1 no_rung (omega (arith, o.3, few)));
-  all = λ k l can e low.
+dearest_on slots xs n z ladder top end best a few low above d = record {
+  one = λ i e.
+      let o = d.one i e in
+      let r = slot_at_rung slots n z ladder i o.1 a (omega (arith, o.3, few)) o.4 in
+      (o.0, r.zone, r.first, omega (arith, ints, r.price, low o.1 no_rung o.3));
+  all = λ k l can e most.
       let r = rung_of_slot slots n z ladder k a l e in
       elim (cases_lt r.at end) [
         | inl before ↦ subst (λ (v : ℤ). IsAbove slots v best) r.price (d.all r.at (omega arith) before (subst (λ (j : ℕ). CanLess slots xs j) (sym r.place) can))
-        | inr after ↦ absurd (omega (arith, ints, above r.at no_rung after r.there, r.price, low))
+        | inr after ↦ absurd (omega (arith, ints, above r.at no_rung after r.there, r.price, most))
       ];
 }
 
 pub cheapest_on : (slots : List Slot) (xs : List ℤ) (n z : ℕ) (ladder : List Rung) (least : ℤ) (start : ℕ) (best : Option ℕ)
     → IsLadder slots n z ladder
     → ((j : ℕ) (d : Rung) → j < start → (get_or ladder j d).price <ℤ least)
+    → ((j : ℕ) (d : Rung) → start ≤ j → j < length ladder → least ≤ℤ (get_or ladder j d).price)
     → IsCheapestRung slots xs ladder start (length ladder) best → IsCheapestFrom slots xs z n least best
-cheapest_on slots xs n z ladder least start best a below d = record {
-  one = λ i e. let o = d.one i e in (o.0, sym (ap (zone_of slots) o.4) ∙ a.rungs.zone o.1 no_rung o.3);
-  all = λ k l can e high.
+cheapest_on slots xs n z ladder least start best a below high d = record {
+  one = λ i e.
+      let o = d.one i e in
+      let r = slot_at_rung slots n z ladder i o.1 a o.3 o.4 in
+      (o.0, r.zone, r.first, omega (arith, ints, r.price, high o.1 no_rung o.2 o.3));
+  all = λ k l can e from.
       let r = rung_of_slot slots n z ladder k a l e in
       elim (cases_lt r.at start) [
-        | inl before ↦ absurd (omega (arith, ints, below r.at no_rung before, r.price, high))
+        | inl before ↦ absurd (omega (arith, ints, below r.at no_rung before, r.price, from))
         | inr after ↦ subst (λ (v : ℤ). IsBelow slots v best) r.price (d.all r.at after r.there (subst (λ (j : ℕ). CanMore slots xs j) (sym r.place) can))
       ];
 }
 
 -- no slot costs more than what stands in where it gives energy, and none less than where it takes it
 pub dearest_of_all : (slots : List Slot) (xs : List ℤ) (z n : ℕ) (best : Option ℕ) → All IsSmallSlot slots → IsDearestTo slots xs z n BEYOND best → IsDearestIn slots xs z n best
-dearest_of_all slots xs z n best small d = record { one = d.one; all = λ k l can e. d.all k l can e (small k no_slot can.0).dear }
+dearest_of_all slots xs z n best small d = record { one = λ i e. let o = d.one i e in (o.0, o.1, o.2); all = λ k l can e. d.all k l can e (small k no_slot can.0).dear }
 
 pub cheapest_of_all : (slots : List Slot) (xs : List ℤ) (z n : ℕ) (least : ℤ) (best : Option ℕ) → All IsSmallSlot slots → ((s : Slot) → IsSmallSlot s → least ≤ℤ s.price) → IsCheapestFrom slots xs z n least best → IsCheapestIn slots xs z n best
-cheapest_of_all slots xs z n least best small low c = record { one = c.one; all = λ k l can e. c.all k l can e (low (slot_at slots k) (small k no_slot can.0)) }
+cheapest_of_all slots xs z n least best small low c = record { one = λ i e. let o = c.one i e in (o.0, o.1, o.2); all = λ k l can e. c.all k l can e (low (slot_at slots k) (small k no_slot can.0)) }
 
 -- one rung more at the beginning of those that were looked at
 pub dearest_rung_skip : (slots : List Slot) (xs : List ℤ) (ladder : List Rung) (at end : ℕ) (best : Option ℕ) → (CanLess slots xs (rung_at ladder at).place → ⊥)

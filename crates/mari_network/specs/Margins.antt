@@ -35,12 +35,12 @@ IsBelow slots v best = MatchOption best ⊥ (λ i. price_of slots i ≤ℤ v)
 
 -- the dearest of the first n slots that are of zone z and may put in less, if there is one
 pub record IsDearestIn (slots : List Slot) (xs : List ℤ) (z n : ℕ) (best : Option ℕ) : Type 0 where
-  pub one : (i : ℕ) → best ≡ Some i → CanLess slots xs i × (zone_of slots i ≡ z)
+  pub one : (i : ℕ) → best ≡ Some i → CanLess slots xs i × (zone_of slots i ≡ z) × (i < n)
   pub all : (k : ℕ) → k < n → CanLess slots xs k → zone_of slots k ≡ z → IsAbove slots (price_of slots k) best
 
 -- the cheapest of the first n slots that are of zone z and may put in more, if there is one
 pub record IsCheapestIn (slots : List Slot) (xs : List ℤ) (z n : ℕ) (best : Option ℕ) : Type 0 where
-  pub one : (i : ℕ) → best ≡ Some i → CanMore slots xs i × (zone_of slots i ≡ z)
+  pub one : (i : ℕ) → best ≡ Some i → CanMore slots xs i × (zone_of slots i ≡ z) × (i < n)
   pub all : (k : ℕ) → k < n → CanMore slots xs k → zone_of slots k ≡ z → IsBelow slots (price_of slots k) best
 
 -- the marginal slots of each zone among the first n slots
@@ -84,26 +84,26 @@ pub record IsCheapestRung (slots : List Slot) (xs : List ℤ) (ladder : List Run
   pub one : (i : ℕ) → best ≡ Some i → CanMore slots xs i × (j : ℕ) × (start ≤ j) × (j < end) × ((rung_at ladder j).place ≡ i)
   pub all : (j : ℕ) → start ≤ j → j < end → CanMore slots xs (rung_at ladder j).place → IsBelow slots (rung_at ladder j).price best
 
--- a slot of zone z that may put in less, at least as dear as each of the first n that costs at most `top`, if there is
--- one
+-- the dearest of the first n slots that are of zone z, may put in less and cost at most `top`, if there is one
 pub record IsDearestTo (slots : List Slot) (xs : List ℤ) (z n : ℕ) (top : ℤ) (best : Option ℕ) : Type 0 where
-  pub one : (i : ℕ) → best ≡ Some i → CanLess slots xs i × (zone_of slots i ≡ z)
+  pub one : (i : ℕ) → best ≡ Some i → CanLess slots xs i × (zone_of slots i ≡ z) × (i < n) × (price_of slots i ≤ℤ top)
   pub all : (k : ℕ) → k < n → CanLess slots xs k → zone_of slots k ≡ z → price_of slots k ≤ℤ top → IsAbove slots (price_of slots k) best
 
--- a slot of zone z that may put in more, at least as cheap as each of the first n that costs at least `least`, if there
--- is one
+-- the cheapest of the first n slots that are of zone z, may put in more and cost at least `least`, if there is one
 pub record IsCheapestFrom (slots : List Slot) (xs : List ℤ) (z n : ℕ) (least : ℤ) (best : Option ℕ) : Type 0 where
-  pub one : (i : ℕ) → best ≡ Some i → CanMore slots xs i × (zone_of slots i ≡ z)
+  pub one : (i : ℕ) → best ≡ Some i → CanMore slots xs i × (zone_of slots i ≡ z) × (i < n) × (least ≤ℤ price_of slots i)
   pub all : (k : ℕ) → k < n → CanMore slots xs k → zone_of slots k ≡ z → least ≤ℤ price_of slots k → IsBelow slots (price_of slots k) best
 
--- a slot of zone z that may put in less, at least as dear as each of the first n but one, if there is one
+-- one of the first n slots that is of zone z and may put in less, at least as dear as each of them but one, if there is
+-- one
 pub record IsDearestBut (slots : List Slot) (xs : List ℤ) (z n other : ℕ) (best : Option ℕ) : Type 0 where
-  pub one : (i : ℕ) → best ≡ Some i → CanLess slots xs i × (zone_of slots i ≡ z)
+  pub one : (i : ℕ) → best ≡ Some i → CanLess slots xs i × (zone_of slots i ≡ z) × (i < n)
   pub all : (k : ℕ) → k < n → k ≢ other → CanLess slots xs k → zone_of slots k ≡ z → IsAbove slots (price_of slots k) best
 
--- a slot of zone z that may put in more, at least as cheap as each of the first n but one, if there is one
+-- one of the first n slots that is of zone z and may put in more, at least as cheap as each of them but one, if there is
+-- one
 pub record IsCheapestBut (slots : List Slot) (xs : List ℤ) (z n other : ℕ) (best : Option ℕ) : Type 0 where
-  pub one : (i : ℕ) → best ≡ Some i → CanMore slots xs i × (zone_of slots i ≡ z)
+  pub one : (i : ℕ) → best ≡ Some i → CanMore slots xs i × (zone_of slots i ≡ z) × (i < n)
   pub all : (k : ℕ) → k < n → k ≢ other → CanMore slots xs k → zone_of slots k ≡ z → IsBelow slots (price_of slots k) best
 
 -- the dearest of these slots that are of zone z and may put in less, if there is one

@@ -26,6 +26,7 @@ fn rungs_below(ladder: &[Rung], least: i64) -> usize
     requires { IsRising ladder.now }
     ensures few { result ≤ length ladder.now }
     ensures below { (j : ℕ) (d : RungRecord) → j < result → (slice_index_or ladder.now j d).price <ℤ least }
+    ensures from { (j : ℕ) (d : RungRecord) → result ≤ j → j < length ladder.now → least ≤ℤ (slice_index_or ladder.now j d).price }
 {
     ladder.partition_point(|rung| rung.price < least)
 }

@@ -24,7 +24,7 @@ use std::alloc::{AllocError, Global};
 /// An activation of the greatest welfare within the bounds of a prefix, and potentials that show it.
 ///
 /// The welfare is stated as 0 where it is negative, as it may be where gates are open.
-#[derive(Clone, Drop)]
+#[derive(Drop)]
 pub struct Solved {
     /// The activation.
     pub activation: Activation,
@@ -49,7 +49,7 @@ pub struct Optimum {
 }
 
 /// Why there is no optimum.
-#[derive(Clone, Drop)]
+#[derive(Drop)]
 pub enum SolveFault {
     /// No activation lies within the bounds, as the cut shows.
     Cut(Cut),

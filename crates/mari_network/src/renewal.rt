@@ -1,4 +1,5 @@
-//! The marginal slots of zones, found among all their slots, and brought up to date after energy moved.
+//! The marginal slots of zones, found on their ladders and among all their slots, and brought up to date after energy
+//! moved.
 
 ghost use Rattle.std.specs.Prelude.{◌≡◌, ◌≢◌, ℕ, ℤ, ◌<◌, List, length, slice_index_or, Some, IfOk};
 ghost use Rattle.mari_network.specs.Network.{IsNetwork};

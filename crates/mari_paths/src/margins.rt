@@ -1,4 +1,4 @@
-//! The margins of the orders without a gate, which are the same at every prefix, and those of all slots.
+//! The margins of the orders without a gate, which are the same at every prefix, and those of all orders.
 
 ghost use Rattle.std.specs.Prelude.{length, IfOk};
 ghost use Rattle.mari_market.specs.Market.{IsValid};

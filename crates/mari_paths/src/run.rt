@@ -1,6 +1,6 @@
 //! Improving until no chain is left.
 
-ghost use Rattle.std.specs.Prelude.{◌≡◌, length, IfOk};
+ghost use Rattle.std.specs.Prelude.{◌≡◌, IfOk};
 ghost use Rattle.mari_market.specs.Sums.{sum_along};
 ghost use Rattle.mari_network.specs.Margins.{AreMarginsOf};
 ghost use Rattle.mari_network.specs.Network.{IsNetwork, Runs};

@@ -8,12 +8,16 @@ use Rattle.mari_network.proofs.Resumed.{along_chain}
 use Rattle.mari_network.proofs.chain.improve.Goals as goal
 use Rattle.mari_market.proofs.Sums.{AllZip-at}
 
+-- what is taken at the sink, in words
+less_bits : (more : ℤ) → FitsSigned w64 more → pos 1 ≤ℤ more → to_z w64 (of_z w64 (pos 0 -ℤ to_z w64 (of_z w64 more))) ≡ neg_ℤ more
+less_bits more fits some = omega (arith, ints, fits, some)
+
 pub move_amount-requires-clause-moved : goal.move_amount-requires-clause-moved
 move_amount-requires-clause-moved c =
     let within : IsWithinSlot (slot_at c.args.network.now.slots.now c.args.chain.now.sink) (int_at c.args.amounts.now c.args.chain.now.sink) = AllZip-at IsWithinSlot c.args.network.now.slots.now c.args.amounts.now c.args.chain.now.sink no_slot (pos 0) c.requires.chain.less.0 c.requires.runs.amounts in
     let r : FitsSigned w64 c.most_along-more.result = search rules in
     let some : pos 1 ≤ℤ c.most_along-more.result = c.most_along-more.ensures.some in
-    let less : to_z w64 (of_z w64 (pos 0 -ℤ to_z w64 (of_z w64 c.most_along-more.result))) ≡ neg_ℤ c.most_along-more.result = omega (arith, ints) in
+    let less = less_bits c.most_along-more.result r some in
     rw less (record { least = omega (arith, ints, c.most_along-more.ensures.sink); most = omega (arith, ints, within.most) })
 
 pub move_amount-requires-2-clause-small : goal.move_amount-requires-2-clause-small
@@ -30,7 +34,7 @@ pub returns-clause-runs : goal.returns-clause-runs
 returns-clause-runs c =
     let r : FitsSigned w64 c.most_along-more.result = search rules in
     let some : pos 1 ≤ℤ c.most_along-more.result = c.most_along-more.ensures.some in
-    let less : to_z w64 (of_z w64 (pos 0 -ℤ to_z w64 (of_z w64 c.most_along-more.result))) ≡ neg_ℤ c.most_along-more.result = omega (arith, ints) in
+    let less = less_bits c.most_along-more.result r some in
     record {
       amounts_long = omega arith;
       flows_long = omega arith;
@@ -51,7 +55,7 @@ returns-clause-moved c =
     let new = c.move_amount-2.new.amounts in
     let r : FitsSigned w64 c.most_along-more.result = search rules in
     let some : pos 1 ≤ℤ c.most_along-more.result = c.most_along-more.ensures.some in
-    let less : to_z w64 (of_z w64 (pos 0 -ℤ to_z w64 (of_z w64 c.most_along-more.result))) ≡ neg_ℤ c.most_along-more.result = omega (arith, ints) in
+    let less = less_bits c.most_along-more.result r some in
     let at_sink : IsWithinSlot (slot_at c.args.network.now.slots.now sink) (int_at old sink) = AllZip-at IsWithinSlot c.args.network.now.slots.now old sink no_slot (pos 0) c.requires.chain.less.0 c.requires.runs.amounts in
     let at_source : IsWithinSlot (slot_at c.args.network.now.slots.now source) (int_at old source) = AllZip-at IsWithinSlot c.args.network.now.slots.now old source no_slot (pos 0) c.requires.chain.more.0 c.requires.runs.amounts in
     let apart : source ≢ sink = λ e. other_slot c.args.network.now.slots.now sink source c.requires.chain.dearer (sym e) in
@@ -78,7 +82,7 @@ returns-clause-worth c =
     let sink = slot_at c.args.network.now.slots.now c.args.chain.now.sink in
     let r : FitsSigned w64 c.most_along-more.result = search rules in
     let some : pos 1 ≤ℤ c.most_along-more.result = c.most_along-more.ensures.some in
-    let less : to_z w64 (of_z w64 (pos 0 -ℤ to_z w64 (of_z w64 c.most_along-more.result))) ≡ neg_ℤ c.most_along-more.result = omega (arith, ints) in
+    let less = less_bits c.most_along-more.result r some in
     let gain : c.worth_of_move.result ≡ (sink.price -ℤ source.price) *ℤ c.most_along-more.result = rw (to_z-of_z r) at c.worth_of_move.ensures in
     omega (arith, ints, gain, move_worth source.price sink.price c.most_along-more.result _ _ _ (rw less at c.move_amount.ensures.worth) (rw (to_z-of_z r) at c.move_amount-2.ensures.worth))
 
@@ -86,7 +90,7 @@ pub returns-clause-rises : goal.returns-clause-rises
 returns-clause-rises c =
     let r : FitsSigned w64 c.most_along-more.result = search rules in
     let some : pos 1 ≤ℤ c.most_along-more.result = c.most_along-more.ensures.some in
-    let less : to_z w64 (of_z w64 (pos 0 -ℤ to_z w64 (of_z w64 c.most_along-more.result))) ≡ neg_ℤ c.most_along-more.result = omega (arith, ints) in
+    let less = less_bits c.most_along-more.result r some in
     move_rises (slot_at c.args.network.now.slots.now c.args.chain.now.source).price (slot_at c.args.network.now.slots.now c.args.chain.now.sink).price
     c.most_along-more.result _ _ _ c.requires.chain.dearer some
     (rw less at c.move_amount.ensures.worth) (rw (to_z-of_z r) at c.move_amount-2.ensures.worth)

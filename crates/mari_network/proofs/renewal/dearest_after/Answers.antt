@@ -7,7 +7,8 @@ use Rattle.mari_network.proofs.renewal.dearest_after.Goals.{else-source-network-
 pub returns-then-network-source-clause-right : goal.returns-then-network-source-clause-right
 returns-then-network-source-clause-right c =
     let here : zone_of c.args.network.now.slots.now c.args.source ≡ c.args.zone = search rules in
-    λ old moved d. dearest_with_source c.args.network.now.slots.now old c.args.amounts.now c.args.sink c.args.source moved c.args.zone c.args.network.now.on_ladders c.dearest_left-left.result c.dearer_in_order.result c.requires.source here c.dearer_in_order.ensures.one c.dearer_in_order.ensures.above c.dearer_in_order.ensures.keeps (c.dearest_left-left.ensures.left old c.args.source moved d)
+    let first : c.args.source < c.args.network.now.on_ladders = search rules in
+    λ old moved d. dearest_with_source c.args.network.now.slots.now old c.args.amounts.now c.args.sink c.args.source moved c.args.zone c.args.network.now.on_ladders c.dearest_left-left.result c.dearer_in_order.result c.requires.source first here c.dearer_in_order.ensures.one c.dearer_in_order.ensures.above c.dearer_in_order.ensures.keeps (c.dearest_left-left.ensures.left old c.args.source moved d)
 
 pub returns-clause-right : goal.returns-clause-right
 returns-clause-right c =

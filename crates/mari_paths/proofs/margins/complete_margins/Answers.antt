@@ -1,9 +1,9 @@
-use Rattle.std.proofs.Common.{◌+◌, length, get_or, arith, refl, sym, inl, inr}
+use Rattle.std.proofs.Common.{◌≤◌, ◌+◌, length, get_or, arith, refl, rules, sym, inl, inr}
 use Rattle.mari_network.specs.Slots.{IsWithinSlot}
 use Rattle.mari_network.proofs.Gathered.{margins_of_first, margins_same, margins_with}
 use Rattle.mari_network.proofs.Lists.{zip_long}
 use Rattle.mari_paths.specs.Warm.{IsPlain}
-use Rattle.mari_paths.proofs.Bounded.{IsTaken, all_taken, still_taken, take_one}
+use Rattle.mari_paths.proofs.Bounded.{IsTaken, all_taken, still_taken, take_one, taken_there}
 use Rattle.mari_paths.proofs.margins.complete_margins.Goals as goal
 
 pub loop-place-init : goal.loop-place-init
@@ -30,5 +30,6 @@ pub returns : goal.returns
 returns c =
     let m = c.args.market.now in
     let i = c.loop-place.place-index in
+    let few : i ≤ length c.args.gated.now = search rules in
     margins_of_first (IsTaken m c.args.gated.now i) c.args.slots.now c.args.amounts.now m.zones (length m.orders) c.loop-place.margins
-    (λ k l. all_taken m c.args.gated.now i k c.requires.gated c.loop-place-test.false l) c.loop-place.invariant
+    (λ k l. all_taken m c.args.gated.now i k c.requires.gated c.loop-place-test.false l) (λ k h. taken_there m c.args.gated.now i k c.requires.gated few h) c.loop-place.invariant

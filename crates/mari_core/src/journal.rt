@@ -3,7 +3,7 @@
 /// An entry of a tree's journal: by which actor what was done to which node, and at which cutoff, in quarter-cents.
 ///
 /// The certificate of a closed node stands in the tree and not in the journal.
-#[derive(Clone, Copy, Debug, Drop, PartialEq, Eq)]
+#[derive(Clone, Copy, Drop)]
 pub enum JournalEntry {
     /// The actor took the node.
     Take {

@@ -148,6 +148,7 @@ impl<'m> Search<'m> {
         ensures facts { KeepsFacts self.new }
     {
         if event.actor() as usize >= self.actors.len() {
+            drop(event);
             return Err(StepFault::NoActor);
         }
         match event {

@@ -8,7 +8,7 @@ use mari_units::{Cents, Memory};
 use std::alloc::Global;
 
 /// The marginal price, and how many MW are left to be met by the orders at that price.
-#[derive(Clone, Copy, Debug, PartialEq, Eq)]
+#[derive(Clone, Copy)]
 struct Marginal {
     price: i64,
     left: u64,

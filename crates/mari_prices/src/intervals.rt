@@ -26,7 +26,7 @@ pub struct Intervals {
 }
 
 /// Why there are no intervals.
-#[derive(Debug, Drop)]
+#[derive(Drop)]
 pub enum PriceFault {
     /// No prices are consistent, as this chain of zones shows.
     Conflict(Items<u32>),

@@ -13,7 +13,7 @@ use mari_units::MOST_ZONES;
 use std::alloc::{AllocError, Global};
 
 /// What a zone gets.
-#[derive(Clone, Copy, Debug, Drop, PartialEq, Eq)]
+#[derive(Clone, Copy, Drop)]
 pub(crate) struct SettledZone {
     /// The value.
     pub(crate) value: i64,
@@ -24,7 +24,7 @@ pub(crate) struct SettledZone {
 }
 
 /// A zone to settle next.
-#[derive(Clone, Copy, Debug, Drop, PartialEq, Eq)]
+#[derive(Clone, Copy, Drop)]
 struct NextZone {
     /// Its number.
     zone: u32,

@@ -10,3 +10,4 @@ pub mod TreeLaws
 pub mod Idle
 pub mod Ladders
 pub mod DualTables
+pub mod Products

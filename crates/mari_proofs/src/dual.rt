@@ -37,10 +37,9 @@ fn gap(order: &Order, potential: Cents) -> i64
     ensures low { neg_ℤ (pos MOST_GAP) ≤ℤ result }
     ensures high { result ≤ℤ pos MOST_GAP }
 {
-    let rise = potential.0 - order.price.0;
     match order.side {
-        Side::Inject => rise,
-        Side::Withdraw => -rise,
+        Side::Inject => potential.0 - order.price.0,
+        Side::Withdraw => order.price.0 - potential.0,
     }
 }
 

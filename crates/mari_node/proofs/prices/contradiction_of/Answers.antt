@@ -1,5 +1,6 @@
 use Rattle.std.proofs.Common.{ℤ, List, MatchOption, sym, subst}
 use Rattle.std.specs.Prelude.{IfOk}
+use Rattle.std.proofs.lemmas.Result.{IfOk-from_err}
 use Rattle.mari_market.specs.declared.activation.Activation.{Activation}
 use Rattle.mari_market.specs.Conflict.{IsContradictoryChain}
 use Rattle.mari_market.specs.Optimal.{IsAdmissible}
@@ -36,3 +37,12 @@ returns-in_ok-activation-in-None c = λ a w.
     let m = c.args.market.now in
     let same = written_once m c.args.optimum.now c.in_ok-activation-in-None.activation a c.in_ok-activation-in-None.ensures w in
     subst (λ (b : Activation). IfOk c.contradiction.result (λ chain. MatchOption chain (IsAdmissible m b) (IsContradictoryChain m b))) same c.contradiction.ensures
+
+pub contradiction-requires-clause-feasible : goal.contradiction-requires-clause-feasible
+contradiction-requires-clause-feasible c = c.requires.feasible c.in_ok-activation-in-None.activation c.in_ok-activation-in-None.ensures
+
+pub returns-in_err-bounds-in-Some : goal.returns-in_err-bounds-in-Some
+returns-in_err-bounds-in-Some c = λ a w. IfOk-from_err c.from_residual.result _ c.from_residual.ensures.0
+
+pub returns-in_err-activation-in-None : goal.returns-in_err-activation-in-None
+returns-in_err-activation-in-None c = λ a w. IfOk-from_err c.from_residual-in_err-activation-in-None.result _ c.from_residual-in_err-activation-in-None.ensures.0

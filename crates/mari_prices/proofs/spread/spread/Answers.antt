@@ -1,12 +1,41 @@
-use Rattle.std.proofs.Common.{arith, ◌≡◌, length, List, Option, length-set, Some, subst, slice_index, ◌∙◌}
-use Rattle.std.proofs.lemmas.List.{get_or_default}
+use Rattle.std.proofs.Common.{arith, ◌≡◌, ℕ, zero, suc, ℤ, length, List, Option, length-set, Some, None, ap, sym, subst, slice_index, replicate, rules, ◌∙◌}
+use Rattle.std.proofs.lemmas.List.{get_or_default, length-replicate}
 use Rattle.mari_prices.specs.declared.spread.SettledZone.{SettledZone}
 use Rattle.mari_market.specs.Along.{LeadsTo}
 use Rattle.mari_market.specs.Sums.{int_at}
-use Rattle.mari_prices.specs.Spread.{IsNext, IsFree, NoneFreeBefore, NoneOverBefore}
+use Rattle.mari_prices.specs.Spread.{entry_at, IsNext, IsFree, IsSpreading, NoneFreeBefore, NoneOverBefore}
 use Rattle.mari_prices.proofs.Borders.{none_kept}
 use Rattle.mari_prices.proofs.Steps.{settle_next, next_free, free_zones-set, all_settled}
 use Rattle.mari_prices.proofs.spread.spread.Goals as goal
+
+-- no zone of these is settled
+none_at : (n z : ℕ) (s : SettledZone) → entry_at (replicate n None) z ≡ Some s → ⊥
+none_at zero z s e = cc
+none_at (suc n) zero s e = cc
+none_at (suc n) (suc z) s e = none_at n z s e
+
+-- so nothing is spread yet
+none_spread : (lead : ℕ → ℕ → Type 0) (own : ℕ → ℤ) (n : ℕ) → IsSpreading lead own (replicate n None)
+none_spread lead own n = record {
+  above = λ z s e. absurd (none_at n z s e);
+  rises = λ y z s t e _ _. absurd (none_at n y s e);
+  newest = λ y z u s t e _ _ _. absurd (none_at n y s e);
+  rest = λ y u s e _. absurd (none_at n y s e);
+  source = λ z s e. absurd (none_at n z s e);
+  short = λ z s e. absurd (none_at n z s e);
+}
+
+pub loop-next-init : goal.loop-next-init
+loop-next-init c =
+    let lead = LeadsTo c.args.along c.args.borders.now c.args.flow.now in
+    let n = length c.args.values.now in
+    let none : c.in_ok-settled.settled.items ≡ replicate (length c.args.values.now) None = c.in_ok-settled.ensures.items_if_clones_equal (λ y q. search rules) in
+    record {
+      long = ap length none ∙ length-replicate n None;
+      spreading = subst (λ (xs : List (Option SettledZone)). IsSpreading lead (int_at c.args.values.now) xs) (sym none) (none_spread lead (int_at c.args.values.now) n);
+      first = omega arith;
+      before = tt;
+    }
 
 pub loop-next-smaller : goal.loop-next-smaller
 loop-next-smaller c =

@@ -90,7 +90,7 @@ pub struct Bid {
 }
 
 /// The bids in the order of the file.
-#[derive(Debug, Drop)]
+#[derive(Drop)]
 pub struct BidBook {
     /// The name of each bid.
     pub ids: NameIndex,

@@ -71,7 +71,7 @@ pub struct Demand {
 }
 
 /// The demands in the order of the file.
-#[derive(Debug, Drop)]
+#[derive(Drop)]
 pub struct DemandBook {
     /// The demands of all runs.
     pub demands: Items<Demand>,

@@ -69,7 +69,7 @@ pub struct Limits {
 /// The limits of each border in each run, which contracts see as a table with a line for each run.
 ///
 /// A border that no line of the page names in a run has the limits 0 and 0 in it.
-#[derive(Debug, Drop)]
+#[derive(Drop)]
 pub struct LimitBook {
     // what is stated of the first run's borders, then of the second's, and so on
     limits: Vec<Option<Limits>>,

@@ -68,7 +68,7 @@ pub struct Run {
 }
 
 /// The runs in the order of the file: run 1 first.
-#[derive(Debug, Drop)]
+#[derive(Drop)]
 pub struct RunBook {
     /// The runs; run 1 stands at place 0.
     pub runs: Items<Run>,

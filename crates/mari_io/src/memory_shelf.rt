@@ -15,7 +15,7 @@ use std::marker::Model;
 
 /// Pages in memory, which the shelf reports. A call that the plan names fails; of two pages of one name the first
 /// counts.
-#[derive(Debug, Drop)]
+#[derive(Drop)]
 pub struct MemoryShelf {
     pages: Vec<Page>,
     plan: FaultPlan,

@@ -11,7 +11,7 @@ use std::marker::Model;
 
 /// A sink in memory, which reports what it took. It has room for `room` bytes, takes at most `most` in a call, and a
 /// write that the plan names fails.
-#[derive(Debug, Drop)]
+#[derive(Drop)]
 pub struct MemorySink {
     bytes: Vec<u8>,
     most: u32,

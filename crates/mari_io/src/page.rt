@@ -9,7 +9,7 @@ use std::alloc::Global;
 use std::marker::Model;
 
 /// A page's name: a text of 1 to 64 bytes. Contracts see the list of its bytes.
-#[derive(Debug, Drop)]
+#[derive(Drop)]
 pub struct Name64 {
     text: String,
 }
@@ -46,7 +46,7 @@ impl Name64 {
 }
 
 /// A page.
-#[derive(Debug, Drop)]
+#[derive(Drop)]
 pub struct Page {
     /// The path by which it is fetched.
     pub name: Name64,

@@ -7,7 +7,7 @@ use mari_units::Items;
 
 /// Which calls fail; the calls of all functions of a shelf are numbered together. With no numbers, no call fails.
 /// Making it takes no memory.
-#[derive(Debug, Drop)]
+#[derive(Drop)]
 pub struct FaultPlan {
     /// The numbers, from 1, of the calls that fail.
     pub calls: Items<u32>,

@@ -1,5 +1,5 @@
 -- Lines that are spelled alike are the same.
-use Rattle.std.proofs.Common.{◌≡◌, ◌≤◌, ◌<◌, ◌^◌, ◌+◌, ℕ, Bool, true, false, eqb, ◌==◌, if◌then◌else◌, fold, ◌*◌, List, [], ◌∷◌, ◌++◌, map, ℤ, Result, Ok, Err, refl, sym, ap, ◌∙◌, arith}
+use Rattle.std.proofs.Common.{◌≡◌, ◌≤◌, ◌<◌, ◌^◌, ◌+◌, ℕ, Bool, true, false, eqb, ◌==◌, if◌then◌else◌, fold, ◌*◌, List, [], ◌∷◌, ◌++◌, drop, get_or, map, ℤ, Result, Ok, Err, refl, sym, ap, ◌∙◌, arith}
 use Rattle.std.proofs.lemmas.Fmt.{decimal_injective}
 use Rattle.std.specs.List.{slice_split}
 use Rattle.std.specs.Fmt.{decimal, signed_decimal}
@@ -139,73 +139,77 @@ same_cut g h e0 e1 = ap (λ (x : CutSide). made_cut x g.zones) e0 ∙ ap (λ (x 
 heading : (g h : Heading) → IsHeading g → IsHeading h → decimal g.run ≡ decimal h.run → decimal g.quarter ≡ decimal h.quarter → kind_text g.direct ≡ kind_text h.direct → g ≡ h
 heading g h rg rh er eq ed = same_heading g h (below g.run h.run 1000 rg.0.1 rh.0.1 (omega arith) er) (below g.quarter h.quarter 400 rg.1.1 rh.1.1 (omega arith) eq) (kind g.direct h.direct ed)
 
+-- the fields at one place are the same
+at : (place : ℕ) {ws vs : List (List ℕ)} → ws ≡ vs → get_or ws place [] ≡ get_or vs place []
+at place e = ap (λ (ws : List (List ℕ)). get_or ws place []) e
+
 operator : (g h : MoneyLine) → IsMoneyLine g → IsMoneyLine h → money_fields g ≡ money_fields h → g ≡ h
 operator g h rg rh e =
-    let name : g.name ≡ h.name = cc in
-    let payment : money_text g.payment ≡ money_text h.payment = cc in
-    let rent : money_text g.rent ≡ money_text h.rent = cc in
-    let net : money_text g.net ≡ money_text h.net = cc in
+    let name : g.name ≡ h.name = at 0 e in
+    let payment : money_text g.payment ≡ money_text h.payment = at 1 e in
+    let rent : money_text g.rent ≡ money_text h.rent = at 2 e in
+    let net : money_text g.net ≡ money_text h.net = at 3 e in
     same_moneyline g h name (money g.payment h.payment rg.1 rh.1 payment) (money g.rent h.rent rg.2 rh.2 rent) (money g.net h.net rg.3 rh.3 net)
 
 provider : (g h : AmountLine) → IsAmountLine g → IsAmountLine h → amount_fields g ≡ amount_fields h → g ≡ h
 provider g h rg rh e =
-    let name : g.name ≡ h.name = cc in
-    let amount : money_text g.amount ≡ money_text h.amount = cc in
+    let name : g.name ≡ h.name = at 0 e in
+    let amount : money_text g.amount ≡ money_text h.amount = at 1 e in
     same_amountline g h name (money g.amount h.amount rg.1 rh.1 amount)
 
 -- lines of one kind with the same fields are the same
 same_fields : (l m : Line) → InRange l → InRange m → keyword_of l ≡ keyword_of m → fields l ≡ fields m → l ≡ m
 same_fields (line.Head d q b) (line.Head d2 q2 b2) r s k e =
-    let date : d ≡ d2 = cc in
-    let eq : decimal q ≡ decimal q2 = cc in
-    let eb : decimal b ≡ decimal b2 = cc in
+    let date : d ≡ d2 = at 1 e in
+    let eq : decimal q ≡ decimal q2 = at 2 e in
+    let eb : decimal b ≡ decimal b2 = at 3 e in
     let quarters : q ≡ q2 = below q q2 400 r.1.1 s.1.1 (omega arith) eq in
     let budget : b ≡ b2 = below b b2 50000 r.2.1 s.2.1 (omega arith) eb in
     cc
 same_fields (line.Run g) (line.Run h) r s k e =
-    let er : decimal g.run ≡ decimal h.run = cc in
-    let eq : decimal g.quarter ≡ decimal h.quarter = cc in
-    let ed : kind_text g.direct ≡ kind_text h.direct = cc in
+    let er : decimal g.run ≡ decimal h.run = at 0 e in
+    let eq : decimal g.quarter ≡ decimal h.quarter = at 1 e in
+    let ed : kind_text g.direct ≡ kind_text h.direct = at 2 e in
     ap (λ x. line.Run x) (heading g h r s er eq ed)
 same_fields (line.Run g) (line.Unpublished h n) r s k e = absurd cc
 same_fields (line.Unpublished h n) (line.Run g) r s k e = absurd cc
 same_fields (line.Unpublished g m) (line.Unpublished h n) r s k e =
-    let er : decimal g.run ≡ decimal h.run = cc in
-    let eq : decimal g.quarter ≡ decimal h.quarter = cc in
-    let ed : kind_text g.direct ≡ kind_text h.direct = cc in
-    let en : decimal m ≡ decimal n = cc in
+    let er : decimal g.run ≡ decimal h.run = at 0 e in
+    let eq : decimal g.quarter ≡ decimal h.quarter = at 1 e in
+    let ed : kind_text g.direct ≡ kind_text h.direct = at 2 e in
+    let en : decimal m ≡ decimal n = at 4 e in
     ap (λ x. line.Unpublished x m) (heading g h r.0 s.0 er eq ed) ∙ ap (λ x. line.Unpublished h x) (below m n 50000 r.1.1 s.1.1 (omega arith) en)
-same_fields (line.Welfare m) (line.Welfare n) r s k e = let en : decimal m ≡ decimal n = cc in ap (λ x. line.Welfare x) (decimal_injective m n (omega arith) (omega arith) en)
+same_fields (line.Welfare m) (line.Welfare n) r s k e = let en : decimal m ≡ decimal n = at 0 e in ap (λ x. line.Welfare x) (decimal_injective m n (omega arith) (omega arith) en)
 same_fields (line.Zone g) (line.Zone h) r s k e =
-    let name : g.name ≡ h.name = cc in
-    let price : price_text g.price ≡ price_text h.price = cc in
-    let least : price_text g.least ≡ price_text h.least = cc in
-    let greatest : price_text g.greatest ≡ price_text h.greatest = cc in
-    let area : decimal g.area ≡ decimal h.area = cc in
+    let name : g.name ≡ h.name = at 0 e in
+    let price : price_text g.price ≡ price_text h.price = at 1 e in
+    let least : price_text g.least ≡ price_text h.least = at 2 e in
+    let greatest : price_text g.greatest ≡ price_text h.greatest = at 3 e in
+    let area : decimal g.area ≡ decimal h.area = at 4 e in
     ap (λ x. line.Zone x)
     (same_zoneline g h name (cents g.price h.price r.1 s.1 price) (cents g.least h.least r.2 s.2 least) (cents g.greatest h.greatest r.3 s.3 greatest) (below g.area h.area 64 r.4.1 s.4.1 (omega arith) area))
 same_fields (line.Border g) (line.Border h) r s k e =
-    let from : g.from ≡ h.from = cc in
-    let to : g.to ≡ h.to = cc in
-    let ef : signed_decimal g.flow ≡ signed_decimal h.flow = cc in
-    let rent : money_text g.rent ≡ money_text h.rent = cc in
+    let from : g.from ≡ h.from = at 0 e in
+    let to : g.to ≡ h.to = at 1 e in
+    let ef : signed_decimal g.flow ≡ signed_decimal h.flow = at 2 e in
+    let rent : money_text g.rent ≡ money_text h.rent = at 3 e in
     ap (λ x. line.Border x) (same_borderline g h from to (flow g.flow h.flow r.2 s.2 ef) (money g.rent h.rent r.3 s.3 rent))
 same_fields (line.Bid g) (line.Bid h) r s k e =
-    let id : g.id ≡ h.id = cc in
-    let mw : decimal g.mw ≡ decimal h.mw = cc in
+    let id : g.id ≡ h.id = at 0 e in
+    let mw : decimal g.mw ≡ decimal h.mw = at 1 e in
     ap (λ x. line.Bid x) (same_bidline g h id (below g.mw h.mw 99999 r.1 s.1 (omega arith) mw))
 same_fields (line.Demand a m) (line.Demand b n) r s k e =
-    let ea : decimal a ≡ decimal b = cc in
-    let em : decimal m ≡ decimal n = cc in
+    let ea : decimal a ≡ decimal b = at 0 e in
+    let em : decimal m ≡ decimal n = at 1 e in
     let place : a ≡ b = below a b 512 r.0.1 s.0.1 (omega arith) ea in
     let mw : m ≡ n = below m n 99999 r.1 s.1 (omega arith) em in
     cc
-same_fields (line.Tree m) (line.Tree n) r s k e = let en : decimal m ≡ decimal n = cc in ap (λ x. line.Tree x) (below m n 50000 r.1 s.1 (omega arith) en)
+same_fields (line.Tree m) (line.Tree n) r s k e = let en : decimal m ≡ decimal n = at 0 e in ap (λ x. line.Tree x) (below m n 50000 r.1 s.1 (omega arith) en)
 same_fields line.Branch line.Branch r s k e = refl
 same_fields (line.Bound ps) (line.Bound qs) r s k e = ap (λ x. line.Bound x) (same_list IsCapped price_text cents ps qs r.1 s.1 e)
 same_fields (line.Cut c) (line.Cut d) r s k e =
-    let es : side_text c.side ≡ side_text d.side = cc in
-    let ez : map zone_text c.zones ≡ map zone_text d.zones = cc in
+    let es : side_text c.side ≡ side_text d.side = at 0 e in
+    let ez : map zone_text c.zones ≡ map zone_text d.zones = ap (λ (ws : List (List ℕ)). drop 1 ws) e in
     ap (λ x. line.Cut x) (same_cut c d (side c.side d.side es) (same_list IsZone zone_text same_zone c.zones d.zones (rising_zones 0 c.zones r.1) (rising_zones 0 d.zones s.1) ez))
 same_fields (line.Conflict ys) (line.Conflict zs) r s k e = ap (λ x. line.Conflict x) (same_list IsZone zone_text same_zone ys zs r.1 s.1 e)
 same_fields (line.At ps) (line.At qs) r s k e = ap (λ x. line.At x) (same_list IsCapped price_text cents ps qs r.1 s.1 e)
@@ -213,16 +217,16 @@ same_fields (line.Flows ys) (line.Flows zs) r s k e = ap (λ x. line.Flows x) (s
 same_fields (line.Mws ms) (line.Mws ns) r s k e = ap (λ x. line.Mws x) (same_list (λ n. n ≤ 99999) decimal (λ m n lm ln q. below m n 99999 lm ln (omega arith) q) ms ns r.1 s.1 e)
 same_fields (line.Operator g) (line.Operator h) r s k e = ap (λ x. line.Operator x) (operator g h r s e)
 same_fields (line.Provider g) (line.Provider h) r s k e = ap (λ x. line.Provider x) (provider g h r s e)
-same_fields (line.End m) (line.End n) r s k e = let en : decimal m ≡ decimal n = cc in ap (λ x. line.End x) (below m n 1000 r.1 s.1 (omega arith) en)
+same_fields (line.End m) (line.End n) r s k e = let en : decimal m ≡ decimal n = at 0 e in ap (λ x. line.End x) (below m n 1000 r.1 s.1 (omega arith) en)
 same_fields (line.TotalOperator g) (line.TotalOperator h) r s k e = ap (λ x. line.TotalOperator x) (operator g h r s e)
 same_fields (line.TotalProvider g) (line.TotalProvider h) r s k e = ap (λ x. line.TotalProvider x) (provider g h r s e)
 same_fields (line.Done a m) (line.Done b n) r s k e =
-    let ea : decimal a ≡ decimal b = cc in
-    let em : decimal m ≡ decimal n = cc in
+    let ea : decimal a ≡ decimal b = at 0 e in
+    let em : decimal m ≡ decimal n = at 1 e in
     let published : a ≡ b = below a b 1000 r.0 s.0 (omega arith) ea in
     let unpublished : m ≡ n = below m n 1000 r.1 s.1 (omega arith) em in
     cc
-same_fields _ _ r s k e = absurd cc
+same_fields _ _ _ _ k _ = absurd cc
 
 -- lines that are spelled alike are the same
 pub same_line : (l m : Line) → InRange l → InRange m → spelling l ≡ spelling m → l ≡ m

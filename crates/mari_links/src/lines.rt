@@ -11,6 +11,21 @@ use mari_bids::BidBook;
 use mari_rows::Row;
 use mari_units::is_name_text;
 
+/// The word that puts a bid into a group.
+const GROUP: &[u8] = b"group";
+
+/// The word that names a bid's parent.
+const CHILD: &[u8] = b"child";
+
+/// The word that says that a bid needs another.
+const NEEDS: &[u8] = b"needs";
+
+/// The word that says that another bid bars one.
+const BARS: &[u8] = b"bars";
+
+/// The word that says that another bid bars one where it was activated in a direct run.
+const TECHNICAL: &[u8] = b"technical";
+
 /// How a line links bids.
 #[derive(Clone, Copy, Debug, PartialEq, Eq, Hash)]
 pub enum LinkKind {
@@ -37,18 +52,23 @@ pub struct Link {
     pub second: u32,
 }
 
-/// The kind that a word names.
+/// The kind that a word names. Comparisons cost less to prove than a match on byte strings.
 #[tactic(auto, unfolding(crate::specs::Links::group_word, crate::specs::Links::child_word, crate::specs::Links::needs_word, crate::specs::Links::bars_word, crate::specs::Links::technical_word))]
 fn kind_of(word: &[u8]) -> Option<LinkKind>
     ensures { result ≡ kind_named word.now }
 {
-    match word {
-        b"group" => Some(LinkKind::Group),
-        b"child" => Some(LinkKind::Child),
-        b"needs" => Some(LinkKind::Needs),
-        b"bars" => Some(LinkKind::Bars),
-        b"technical" => Some(LinkKind::Technical),
-        _ => None,
+    if word == GROUP {
+        Some(LinkKind::Group)
+    } else if word == CHILD {
+        Some(LinkKind::Child)
+    } else if word == NEEDS {
+        Some(LinkKind::Needs)
+    } else if word == BARS {
+        Some(LinkKind::Bars)
+    } else if word == TECHNICAL {
+        Some(LinkKind::Technical)
+    } else {
+        None
     }
 }
 

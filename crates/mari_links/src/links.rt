@@ -65,7 +65,7 @@ impl FileCheck for LinkCheck {
 /// A gated bid is taken from its least quantity on, 1 MW at least, or not at all; a plain one from 0 on. At most one
 /// bid of a group is taken, and a bid with a parent only where its parent is. It is available only where each bid that
 /// it needs was activated, none that bars it was, and none of the technical ones was in a direct run.
-#[derive(Debug, Drop)]
+#[derive(Drop)]
 pub struct BidLinks {
     /// Whether it has a gate.
     pub gated: bool,
@@ -82,7 +82,7 @@ pub struct BidLinks {
 }
 
 /// The links of each bid, in the order of the bids.
-#[derive(Debug, Drop)]
+#[derive(Drop)]
 pub struct LinkBook {
     /// What the links say of each bid.
     pub links: Items<BidLinks>,

@@ -36,7 +36,8 @@ impl Listed {
         self.marks.get(place as usize).copied().unwrap_or(false)
     }
 
-    /// Lists a provider that isn't listed after the others.
+    /// Lists a provider that isn't listed yet, after the others. A market has few providers, so that this is no part of the
+    /// loop over its bids.
     #[inline(never)]
     fn push(&mut self, place: u32) -> Result<(), Memory>
         requires { AreMarked self.old.places.items self.old.marks.items }

@@ -7,7 +7,7 @@ use mari_units::Name;
 use mari_zones::{BorderBook, ZoneBook};
 
 /// What the pages of a folder say.
-#[derive(Debug, Drop)]
+#[derive(Drop)]
 pub struct Books {
     /// The date, as ten bytes.
     pub date: Name,

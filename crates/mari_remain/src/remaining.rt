@@ -17,7 +17,7 @@ use std::alloc::Global;
 use std::marker::Model;
 
 /// What the blocks of a day's first runs took, and the bids of each quarter and the demands of each run.
-#[derive(Debug, Drop)]
+#[derive(Drop)]
 pub struct Remaining {
     /// How many MW of each bid were taken.
     pub(crate) mw: Vec<u32>,

@@ -14,7 +14,6 @@ use std::marker::Model;
 /// Names, each once, which contracts see as the list of them in the order in which they were added.
 ///
 /// A name is found, and one is added, in constant time.
-#[derive(Debug)]
 pub struct NameIndex {
     names: IndexSet<Vec<u8>>,
 }

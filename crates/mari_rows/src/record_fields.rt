@@ -6,9 +6,9 @@ use csv::ByteRecord;
 use std::alloc::Global;
 use std::marker::Model;
 
-/// The fields of one record, each of any bytes, which contracts see as the list of them. They lie one after the other in
-/// one buffer, so a record takes memory twice, however many fields it has.
-#[derive(Debug, Drop)]
+/// The fields of one record, each of any bytes, which contracts see as the list of them. They lie one after the other
+/// in one buffer, so a record takes memory twice, however many fields it has.
+#[derive(Drop)]
 pub struct Fields {
     pub(crate) row: ByteRecord,
 }

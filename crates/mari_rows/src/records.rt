@@ -43,7 +43,7 @@ impl Drop for Records<'_> {
 }
 
 /// What the test of the next record says.
-#[derive(Clone, Copy, Debug, PartialEq, Eq)]
+#[derive(Clone, Copy, PartialEq, Eq)]
 pub(crate) enum TestedRecord {
     /// There is none.
     End,
@@ -176,8 +176,8 @@ impl<'a> Records<'a> {
         Ok(Some(Fields::of(record)))
     }
 
-    /// Reads the next record, of this line, into a place for its fields, and tests it by itself, where `width` fields are
-    /// wanted; false where there is none. After an error there are no more.
+    /// Reads the next record, of this line, into a place for its fields, and tests it by itself, where `width` fields
+    /// are wanted; false where there is none. After an error there are no more.
     pub(crate) fn read_of_width(
         &mut self,
         line: u32,

@@ -14,7 +14,7 @@ use std::alloc::{AllocError, Global};
 use std::marker::Model;
 
 /// A record and its line.
-#[derive(Debug, Drop)]
+#[derive(Drop)]
 pub struct Row {
     /// Its number among the file's records, the header being 1.
     pub line: u32,
@@ -23,7 +23,7 @@ pub struct Row {
 }
 
 /// The records below the header, in their order.
-#[derive(Debug, Drop)]
+#[derive(Drop)]
 pub struct Rows {
     /// The records.
     pub rows: Items<Row>,

@@ -12,7 +12,7 @@ ghost use Rattle.mari_rows.specs.Widths.{ended_by, first_wide, state_of};
 pub(crate) const WIDEST: usize = 16_777_216;
 
 /// Where a byte of a page stands, as `csv` reads it.
-#[derive(Clone, Copy, Debug, PartialEq, Eq)]
+#[derive(Clone, Copy)]
 enum Place {
     RecordStart,
     FieldStart,
@@ -23,7 +23,7 @@ enum Place {
 }
 
 /// What a byte ends.
-#[derive(Clone, Copy, Debug, PartialEq, Eq)]
+#[derive(Clone, Copy)]
 enum Ended {
     Nothing,
     Field,

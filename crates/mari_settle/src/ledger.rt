@@ -34,7 +34,7 @@ impl OperatorLine {
 }
 
 /// The ledger of a run, or of several.
-#[derive(Clone, Debug, Drop)]
+#[derive(Drop)]
 pub struct Ledger {
     /// A line for each operator.
     pub operators: Items<OperatorLine>,

@@ -13,7 +13,7 @@ use clap::ArgMatches;
 use mari_units::{LAST_NUMBER, MOST_NODES, MOST_QUARTERS, MOST_RAISE, MOST_WORKERS, read_mw};
 
 /// What words ask for.
-#[derive(Clone, Copy, Debug)]
+#[derive(Clone, Copy)]
 pub enum Asked<'a> {
     /// `clear`.
     Clear {

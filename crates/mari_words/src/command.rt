@@ -29,7 +29,7 @@ pub enum FilePart {
 }
 
 /// What the program is to do.
-#[derive(Debug, Drop)]
+#[derive(Drop)]
 pub enum Command {
     /// `clear FOLDER [--nodes N] [--workers K]`.
     Clear {

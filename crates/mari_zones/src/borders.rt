@@ -73,7 +73,7 @@ pub struct BorderEnds {
 }
 
 /// The borders in the order of the file.
-#[derive(Debug, Drop)]
+#[derive(Drop)]
 pub struct BorderBook {
     /// The borders; what flows over each is read at the same place.
     pub borders: Items<BorderEnds>,

@@ -50,7 +50,7 @@ impl FileCheck for ZoneCheck {
 }
 
 /// Zones and operators in the order in which they first appear in the file.
-#[derive(Debug, Drop)]
+#[derive(Drop)]
 pub struct ZoneBook {
     /// The names of the zones.
     pub zones: NameIndex,

@@ -59,7 +59,7 @@ impl FileCheck for BlockCheck {
 }
 
 /// A book of blocks.
-#[derive(Debug, Drop)]
+#[derive(Drop)]
 pub struct BlockBook {
     /// The names of the blocks, in order of first appearance.
     pub names: NameIndex,

@@ -82,17 +82,30 @@ pub fn clear_joint<C: Clearer>(
     let joint = joint_market(alloc, books, blocks, first, last)?;
     match clearer.clear(alloc, &joint.market, budget) {
         Cleared::Published(clearing) => {
-            let text = published_text(alloc, books, first, last, &joint, clearing)?;
-            Ok(text)
+            match published_text(alloc, books, first, last, &joint, clearing) {
+                Ok(text) => {
+                    drop(joint);
+                    Ok(text)
+                }
+                Err(Memory) => {
+                    drop(joint);
+                    Err(JointFault::Memory)
+                }
+            }
         }
         Cleared::Spent(spent) => {
             let count = spent.items.as_slice().len() as u32;
+            drop(spent);
+            drop(joint);
             let text = unpublished_text(alloc, first, last, count)?;
             Ok(JointText {
                 text: Items::of(text),
                 published: false,
             })
         }
-        Cleared::Memory => Err(JointFault::Memory),
+        Cleared::Memory => {
+            drop(joint);
+            Err(JointFault::Memory)
+        }
     }
 }

@@ -12,7 +12,7 @@ use mari_units::Memory;
 use std::alloc::Global;
 
 /// A gate of a joint market.
-#[derive(Clone, Copy, Debug, Drop, PartialEq, Eq)]
+#[derive(Clone, Copy, Drop)]
 pub(crate) enum JointGate {
     /// That of a block, by the block's place among the blocks, from 0.
     OfBlock(u32),

@@ -4,6 +4,8 @@ ghost use Rattle.std.specs.List.{All};
 ghost use Rattle.mari_market.specs.Market.{IsBetween, IsValid};
 ghost use Rattle.mari_market.specs.declared.market.Order.{Order as TheOrder};
 ghost use Rattle.mari_remain.specs.Accepted.{IsAccepted};
+ghost use Rattle.mari_remain.specs.FirstBlocks.{StandsFor};
+ghost use Rattle.mari_remain.specs.RunMarket.{run_market_of};
 ghost use Rattle.mari_blocks.specs.Parts.{HoldsJointParts};
 ghost use Rattle.mari_blocks.specs.Joint.{lacks_run as lacks_run_in, quarters_of, shifted_border as shifted_border_of, shifted_order as shifted_order_of};
 
@@ -104,6 +106,31 @@ impl JointParts {
         let demands = &made.market.orders.as_slice()[bids.len()..];
         put_orders(&mut self.demands, demands, zones)
     }
+
+    /// Adds what the market of a run brings over no blocks, its zones moved on by `zones` places. Nothing is taken so
+    /// far.
+    fn add_run(
+        &mut self,
+        alloc: Global,
+        books: &Books,
+        remaining: &Remaining,
+        run: u32,
+        zones: u32,
+    ) -> Result<(), Memory>
+        requires accepted { IsAccepted books.now }
+        requires first { 1 ≤ run }
+        requires last { run ≤ length books.now.runs.runs }
+        requires nothing { StandsFor books.now [] remaining.now }
+        requires zones { zones ≤ MOST_QUARTERS * MOST_ZONES }
+        ensures offered { OnOk result (self.new.offered.items ≡ self.old.offered.items ++ (run_market_of books.now [] run).bids) }
+        ensures borders { OnOk result (self.new.borders.items ≡ self.old.borders.items ++ map (shifted_border_of zones) (run_market_of books.now [] run).market.borders) }
+        ensures demands { OnOk result (self.new.demands.items ≡ self.old.demands.items ++ map (shifted_order_of zones) (drop (length (run_market_of books.now [] run).bids) (run_market_of books.now [] run).market.orders)) }
+    {
+        let made = remaining.market_alone(alloc, books, run)?;
+        let added = self.add(&made, zones);
+        drop(made);
+        added
+    }
 }
 
 /// What the scheduled runs of the quarters bring, each of which has one.
@@ -123,8 +150,16 @@ pub(crate) fn parts_of(
     let zones = books.zones.zones.len();
     let mut parts = JointParts::new(alloc);
     for quarter in first..last + 1 {
-        let made = remaining.market_alone(alloc, books, run_of_quarter(books, quarter))?;
-        parts.add(&made, (quarter - first) * zones)?;
+        let run = run_of_quarter(books, quarter);
+        match parts.add_run(alloc, books, &remaining, run, (quarter - first) * zones) {
+            Ok(()) => {}
+            Err(Memory) => {
+                drop(remaining);
+                drop(parts);
+                return Err(Memory);
+            }
+        }
     }
+    drop(remaining);
     Ok(parts)
 }

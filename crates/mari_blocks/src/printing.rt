@@ -294,15 +294,18 @@ pub fn joint_block(
     ensures block { (budget : ℕ) → IsClearing joint.now.market budget clearing → IfOk result (IsJointBlock books.now first last budget joint.now) }
     ensures fits { (budget : ℕ) → budget ≤ MOST_NODES → IsClearing joint.now.market budget clearing → IfOk result JointFits }
 {
-    let Clearing {
-        activation,
-        welfare,
-        tree,
-    } = clearing;
-    let priced = priced_of(alloc, books, first, joint, &activation)?;
-    let quarters = quarter_blocks(alloc, books, first, last, joint, &activation, &priced)?;
+    let Ok(priced) = priced_of(alloc, books, first, joint, &clearing.activation) else {
+        drop(clearing);
+        return Err(Memory);
+    };
+    let activation = &clearing.activation;
+    let Ok(quarters) = quarter_blocks(alloc, books, first, last, joint, activation, &priced) else {
+        drop(clearing);
+        drop(priced);
+        return Err(Memory);
+    };
     drop(priced);
-    drop(activation);
+    let Clearing { welfare, tree, .. } = clearing;
     Ok(JointBlock {
         first,
         last,

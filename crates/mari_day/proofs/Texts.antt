@@ -18,7 +18,7 @@ use Rattle.mari_remain.specs.declared.books.Books.{Books}
 use Rattle.mari_io.specs.Taken.{then_took}
 use Rattle.mari_io.proofs.Taken.{took_more}
 use Rattle.mari_day.specs.Day.{IsDayPart, Stopped, part_text, WroteWholeDay, WrotePart, WrotePrefix}
-use Rattle.mari_day.specs.Stepped.{BrokeOff, Closes, IsDayOf, Stepped, WroteBlock, WroteFirst}
+use Rattle.mari_day.specs.Stepped.{BrokeOff, Closes, IsDayOf, Stepped, Writes, WroteBlock, WroteFirst}
 use Rattle.mari_day.specs.declared.step.Stop.TheVariants.{Sink, Memory as NoMemory}
 use Rattle.mari_progress.specs.declared.progress.Progress.{Progress}
 use Rattle.mari_day.specs.declared.step.Stop.{Stop}
@@ -152,10 +152,10 @@ module _ (books : Books) (budget : ℕ) where
         )
 
 -- a failed write ends the day with a first part of the head
-pub head-stops : (books : Books) (budget : ℕ) (before after : Option (List ℕ)) (stop : Stop) → stop ≡ Sink
-    → ((n : ℕ) × (after ≡ then_took before (take n (head books budget)))) → Stopped books budget before after stop
-head-stops books budget before after Sink e (n, h) = head-cut books budget before after n h
-head-stops books budget before after NoMemory e h = cc e
+pub head-stops : (books : Books) (budget : ℕ) (before after : Option (List ℕ)) (stop : Stop) → Writes (head books budget) before after (Err stop)
+    → Stopped books budget before after stop
+head-stops books budget before after Sink (n, h) = head-cut books budget before after n h
+head-stops books budget before after NoMemory h = inl h
 
 -- the closing lines, by what they are made of
 pub closing-text : (p : Publication) (operators : List MoneyLine) (providers : List AmountLine) (published unpublished : ℕ)

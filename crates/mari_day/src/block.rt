@@ -1,6 +1,6 @@
 //! The block of a published run.
 
-ghost use Rattle.std.specs.Prelude.{◌≡◌, ◌≤◌, ◌<◌, ℕ, IfOk, IfSome, length, map, option_map};
+ghost use Rattle.std.specs.Prelude.{◌≡◌, ◌≤◌, ◌<◌, [], ℕ, IfOk, IfSome, length, map, option_map};
 ghost use Rattle.std.specs.List.{All};
 ghost use Rattle.mari_units.specs.Names.{IsName};
 ghost use Rattle.mari_market.specs.Clearing.{IsClearing};
@@ -54,21 +54,20 @@ struct Assembled {
     activation: Activation,
 }
 
-/// Puts the block of a clearing together.
-fn assemble(
+/// The block of a clearing, with no certificate tree yet.
+fn block_without_tree(
     alloc: Global,
     books: &Books,
     run: u32,
     numbers: &[u32],
-    clearing: Clearing,
+    clearing: &Clearing,
     priced: &Priced,
-) -> Result<Assembled, Memory>
+) -> Result<FullBlock, Memory>
     requires accepted { IsAccepted books.now }
     requires run { 1 ≤ run }
     requires there { All (λ number. number < length books.now.bids.bids) numbers.now }
-    requires shapes { HasShapes books.now numbers.now clearing priced.now }
-    ensures block { IfOk result (λ made. IsAssembled books.now run numbers.now clearing priced.now made.block) }
-    ensures activation { IfOk result (λ made. made.activation ≡ clearing.activation) }
+    requires shapes { HasShapes books.now numbers.now clearing.now priced.now }
+    ensures { IfOk result (IsAssembled books.now run numbers.now (record clearing.now { tree = [] }) priced.now) }
 {
     let names = &books.zones.zones;
     let mw = clearing.activation.mw.as_slice();
@@ -88,21 +87,46 @@ fn assemble(
     let demands = demand_mws(alloc, mw, numbers.len())?;
     let operators = money_lines(alloc, &books.zones.operators, ledger.operators.as_slice())?;
     let providers = provider_lines(alloc, &books.bids, numbers, ledger.providers.as_slice())?;
-    let block = FullBlock {
+    Ok(FullBlock {
         heading: heading(books, run),
         welfare: clearing.welfare,
         zones: Items::of(zones),
         borders: Items::of(borders),
         bids: Items::of(bids),
         demands: Items::of(demands),
-        tree: clearing.tree,
+        tree: Items::of(Vec::new(alloc)),
         operators: Items::of(operators),
         providers: Items::of(providers),
-    };
-    Ok(Assembled {
-        block,
-        activation: clearing.activation,
     })
+}
+
+/// Puts the block of a clearing together.
+fn assemble(
+    alloc: Global,
+    books: &Books,
+    run: u32,
+    numbers: &[u32],
+    clearing: Clearing,
+    priced: &Priced,
+) -> Result<Assembled, Memory>
+    requires accepted { IsAccepted books.now }
+    requires run { 1 ≤ run }
+    requires there { All (λ number. number < length books.now.bids.bids) numbers.now }
+    requires shapes { HasShapes books.now numbers.now clearing priced.now }
+    ensures block { IfOk result (λ made. IsAssembled books.now run numbers.now clearing priced.now made.block) }
+    ensures activation { IfOk result (λ made. made.activation ≡ clearing.activation) }
+{
+    let Ok(mut block) = block_without_tree(alloc, books, run, numbers, &clearing, priced) else {
+        drop(clearing);
+        return Err(Memory);
+    };
+    let Clearing {
+        activation,
+        tree,
+        ..
+    } = clearing;
+    block.tree = tree;
+    Ok(Assembled { block, activation })
 }
 
 /// A line for each provider of these bids.
@@ -177,8 +201,16 @@ pub fn published_run(
     // What the block adds to its day.
     ensures settled { IfOk result (λ p. IsRunOf books.now made (option_map (λ scheduled. scheduled.now.cents) also.entry) p.block p.settled) }
 {
-    let priced = priced_of(alloc, books, &made, &clearing, also)?;
-    let done = assemble(alloc, books, run, made.bids.as_slice(), clearing, &priced)?;
+    let Ok(priced) = priced_of(alloc, books, &made, &clearing, also) else {
+        drop(made);
+        drop(clearing);
+        return Err(Memory);
+    };
+    let Ok(done) = assemble(alloc, books, run, made.bids.as_slice(), clearing, &priced) else {
+        drop(made);
+        drop(priced);
+        return Err(Memory);
+    };
     let Assembled { block, activation } = done;
     let Priced {
         pricing,

@@ -55,7 +55,7 @@ impl FileCheck for DateCheck {
 }
 
 /// A date and the number of its quarter hours.
-#[derive(Debug, Drop)]
+#[derive(Drop)]
 pub struct CalendarDay {
     /// The date, written `YYYY-MM-DD`.
     pub date: Name,

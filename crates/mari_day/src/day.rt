@@ -5,12 +5,13 @@ ghost use Rattle.std.specs.List.{All, range_with_len};
 ghost use Rattle.mari_units.specs.Names.{IsName};
 ghost use Rattle.mari_io.specs.Outside.{Counts};
 ghost use Rattle.mari_publish.specs.declared.publication.Block.{Block as PrintedBlock};
+ghost use Rattle.mari_publish.specs.Texts.{head_text_of};
 ghost use Rattle.mari_remain.specs.Accepted.{IsAccepted};
 ghost use Rattle.mari_day.specs.Dated.{IsDated};
 ghost use Rattle.mari_day.specs.Day.{EndsDay, Stopped, WroteWholeDay};
 ghost use Rattle.mari_progress.specs.Money.{amount_line};
 ghost use Rattle.mari_day.specs.Progress.{IsDayProgress};
-ghost use Rattle.mari_day.specs.Stepped.{Closes, WroteFirst};
+ghost use Rattle.mari_day.specs.Stepped.{Closes, Writes, WroteFirst};
 ghost use Rattle.mari_market.specs.Clearing.{IsBudget};
 
 use crate::lines::{amount_lines, money_lines};
@@ -65,6 +66,20 @@ fn all_places(alloc: Global, count: u32) -> Result<Vec<u32>, Memory>
     Ok(places)
 }
 
+/// Writes the head.
+fn write_head<K: Sink>(alloc: Global, books: &Books, budget: u32, sink: &mut K) -> Result<(), Stop>
+    requires dated { IsDated books.now }
+    requires accepted { IsAccepted books.now }
+    requires budget { IsBudget budget }
+    ensures written { Writes (head_text_of books.now.date books.now.quarters budget) (K.taken sink.old) (K.taken sink.new) result }
+    ensures cause { Counts (result ≡ Err Stop.Sink) (K.faults sink.old) (K.faults sink.new) }
+{
+    let text = head_text(alloc, &books.date, books.quarters, budget)?;
+    let written = write_or_stop(sink, &text);
+    drop(text);
+    written
+}
+
 /// Writes the head, and gives what is kept before the first block.
 fn begin<K: Sink>(alloc: Global, books: &Books, budget: u32, sink: &mut K) -> Result<Progress, Stop>
     requires accepted { IsAccepted books.now }
@@ -75,10 +90,12 @@ fn begin<K: Sink>(alloc: Global, books: &Books, budget: u32, sink: &mut K) -> Re
     ensures cause { Counts (result ≡ Err Stop.Sink) (K.faults sink.old) (K.faults sink.new) }
 {
     let progress = Progress::start(alloc, books)?;
-    let head = head_text(alloc, &books.date, books.quarters, budget)?;
-    match write_or_stop(sink, &head) {
+    match write_head(alloc, books, budget, sink) {
         Ok(()) => Ok(progress),
-        Err(stop) => Err(stop),
+        Err(stop) => {
+            drop(progress);
+            Err(stop)
+        }
     }
 }
 
@@ -108,7 +125,10 @@ fn write_runs<C: Clearer, K: Sink>(
     for run in 0..run_count(books) {
         match day_step(alloc, books, run + 1, budget, &mut progress, clearer, sink) {
             Ok(()) => {}
-            Err(stop) => return Err(stop),
+            Err(stop) => {
+                drop(progress);
+                return Err(stop);
+            }
         }
     }
     Ok(progress)
@@ -167,8 +187,15 @@ fn write_day<C: Clearer, K: Sink>(
 {
     let progress = write_runs(alloc, books, budget, clearer, sink)?;
     match close(alloc, books, &progress, sink) {
-        Ok(()) => Ok(progress.published),
-        Err(stop) => Err(stop),
+        Ok(()) => {
+            let published = progress.published;
+            drop(progress);
+            Ok(published)
+        }
+        Err(stop) => {
+            drop(progress);
+            Err(stop)
+        }
     }
 }
 

@@ -89,12 +89,17 @@ fn run_done<C: Clearer>(
         }
         Cleared::Spent(spent) => {
             let count = spent.items.as_slice().len() as u32;
+            drop(spent);
+            drop(made);
             Ok(RunDone {
                 block: Block::Unpublished(heading(books, run), count),
                 settled: None,
             })
         }
-        Cleared::Memory => Err(Memory),
+        Cleared::Memory => {
+            drop(made);
+            Err(Memory)
+        }
     }
 }
 

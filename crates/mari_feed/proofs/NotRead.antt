@@ -14,6 +14,10 @@ begins u ms ns read whole = let same : object ms ≡ object ns = sym read ∙ sy
 pub after : (key : List ℕ) (d e : Data) (ms ns all : Members) → all ≡ member key d ms → all ≡ member key e ns → ms ≡ ns
 after key d e ms ns all read whole = let same : member key d ms ≡ member key e ns = sym read ∙ whole in cc
 
+-- the value of a member that is known twice
+pub same_value : (key : List ℕ) (d e : Data) (ms ns all : Members) → all ≡ member key d ms → all ≡ member key e ns → d ≡ e
+same_value key d e ms ns all read whole = let same : member key d ms ≡ member key e ns = sym read ∙ whole in cc
+
 -- members that are read up to here go on
 pub going_on : (key : List ℕ) (d : Data) (ms ns all : Members) → all ≡ member key d ms → ms ≡ ns → all ≡ member key d ns
 going_on key d ms ns all read more = read ∙ ap (λ rest. member key d rest) more

@@ -1,6 +1,6 @@
 -- Values whose text is plain: whole numbers of 64 bits, texts that need no escape, and objects with their keys in order.
 -- Such a text is graphic ASCII, so it stands on one line, and it is read back as its value.
-use Rattle.std.proofs.Common.{◌≡◌, ◌∙◌, ◌≤◌, ◌<◌, ◌+◌, ◌^◌, ◌==◌, ◌&&◌, ℕ, zero, suc, Bool, true, false, not, ltb, List, [], ◌∷◌, ◌++◌, pos, negsuc, Some, Greater, decimal, IsAscii, refl, sym, ap, subst, arith, append-nil}
+use Rattle.std.proofs.Common.{◌≡◌, ◌∙◌, ◌≤◌, ◌<◌, ◌^◌, ◌==◌, ◌&&◌, ℕ, zero, suc, Bool, true, false, not, ltb, List, [], ◌∷◌, ◌++◌, pos, negsuc, Some, Greater, decimal, IsAscii, refl, sym, ap, subst, arith, append-nil}
 use Rattle.std.specs.Prelude.{⊤, option_map, option_and_then}
 use Rattle.std.specs.Char.{is_ascii_digit}
 use Rattle.std.specs.List.{list_all}

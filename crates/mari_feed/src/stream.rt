@@ -172,6 +172,9 @@ pub fn print_feed<S: Shelf, K: Sink>(
             Ok(()) => Ok(()),
             Err(fault) => Err(stop_of_reader(fault)),
         },
-        Err(stop) => Err(stop),
+        Err(stop) => {
+            drop(reader);
+            Err(stop)
+        }
     }
 }

@@ -19,7 +19,7 @@ use std::alloc::{AllocError, Global};
 const MOST_WELFARE: u64 = CAP as u64 * MOST_MW as u64 * MOST_ORDERS as u64;
 
 /// An activation of the whole market, and its welfare.
-#[derive(Clone, Drop)]
+#[derive(Drop)]
 pub struct Joined {
     /// The activation.
     pub activation: Activation,

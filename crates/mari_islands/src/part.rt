@@ -241,6 +241,34 @@ fn gates_among(
     Ok(own)
 }
 
+/// The market of the island of this first zone, by the zones and the gates inside it.
+fn market_inside(
+    alloc: Global,
+    market: &Market,
+    firsts: &[u32],
+    first: u32,
+    zones: &[u32],
+    gates: &[u32],
+) -> Result<Market, Memory>
+    requires valid { IsValid market.now }
+    requires firsts { AreFirstZones market.now firsts.now }
+    requires zones { zones.now ≡ filter (has_first firsts.now first) (range_with_len 0 (length firsts.now)) }
+    requires gates { gates.now ≡ gates_in market.now (has_first firsts.now first) }
+    ensures { IfOk result (λ part. part ≡ (part_of market.now (has_first firsts.now first)).market) }
+{
+    let own = orders_inside(alloc, firsts, first, market.orders.as_slice())?;
+    let borders = borders_among(alloc, firsts, first, market.borders.as_slice(), zones)?;
+    let orders = orders_among(alloc, &own, zones, gates)?;
+    let infos = gates_among(alloc, market.gates.as_slice(), gates)?;
+    Ok(Market {
+        zones: zones.len() as u32,
+        borders: Items::of(borders),
+        orders: Items::of(orders),
+        gates: Items::of(infos),
+        reference: market.reference,
+    })
+}
+
 /// The island of this first zone. For each gate there is the zone of one of its orders.
 pub(crate) fn island_at(
     alloc: Global,
@@ -254,21 +282,15 @@ pub(crate) fn island_at(
     requires firsts { AreFirstZones market.now firsts.now }
     ensures { IfOk result (λ island. island ≡ part_of market.now (has_first firsts.now first)) }
 {
-    let (borders, orders) = (market.borders.as_slice(), market.orders.as_slice());
     let zones = zones_inside(alloc, firsts, first)?;
-    let own = orders_inside(alloc, firsts, first, orders)?;
+    let borders = border_numbers(alloc, firsts, first, market.borders.as_slice())?;
+    let orders = order_numbers(alloc, firsts, first, market.orders.as_slice())?;
     let gates = gates_inside(alloc, market, homes, firsts, first)?;
-    let part = Market {
-        zones: zones.len() as u32,
-        borders: Items::of(borders_among(alloc, firsts, first, borders, &zones)?),
-        orders: Items::of(orders_among(alloc, &own, &zones, &gates)?),
-        gates: Items::of(gates_among(alloc, market.gates.as_slice(), &gates)?),
-        reference: market.reference,
-    };
+    let part = market_inside(alloc, market, firsts, first, &zones, &gates)?;
     Ok(Island {
         zones: Items::of(zones),
-        borders: Items::of(border_numbers(alloc, firsts, first, borders)?),
-        orders: Items::of(order_numbers(alloc, firsts, first, orders)?),
+        borders: Items::of(borders),
+        orders: Items::of(orders),
         gates: Items::of(gates),
         market: part,
     })

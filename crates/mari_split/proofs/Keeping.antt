@@ -6,7 +6,6 @@ use Rattle.std.specs.List.{take-map}
 use Rattle.std.proofs.lemmas.List.{length-map}
 use Rattle.std.proofs.lemmas.Option.{none-some, same_Some, slice_get-map}
 use Rattle.mari_publish.specs.declared.publication.Block.{Block}
-use Rattle.mari_publish.specs.declared.publication.Block.TheVariants as block
 use Rattle.mari_remain.specs.declared.books.Books.{Books}
 use Rattle.mari_remain.specs.Accepted.{IsAccepted}
 use Rattle.mari_progress.specs.Keeps.{KeepsOffers}

@@ -1,5 +1,5 @@
 -- What clearing one run island by island and writing its block comes to.
-use Rattle.std.specs.Prelude.{ℕ, ◌≡◌, ◌≤◌, List, [], ◌∷◌, ◌++◌, Option, Some, None, Result, Ok, Err, ⊤, length}
+use Rattle.std.specs.Prelude.{ℕ, ◌≡◌, ◌≤◌, List, [], ◌∷◌, ◌++◌, Option, Result, Ok, Err, ⊤, length}
 use Rattle.std.specs.List.{All}
 use Rattle.mari_io.specs.Taken.{TookPart, then_took}
 use Rattle.mari_day.specs.declared.step.Stop.{Stop}

@@ -77,11 +77,18 @@ pub fn run_split<C: Clearer>(
         }
         IslandsCleared::Spent(island, spent) => {
             let count = spent.items.as_slice().len() as u32;
+            drop(spent);
+            drop(islands);
+            drop(made);
             Ok(SplitDone {
                 block: SplitBlock::Unpublished(heading(books, run), island + 1, count),
                 settled: None,
             })
         }
-        IslandsCleared::Memory => Err(Memory),
+        IslandsCleared::Memory => {
+            drop(islands);
+            drop(made);
+            Err(Memory)
+        }
     }
 }

@@ -33,7 +33,10 @@ fn begin<K: Sink>(alloc: Global, books: &Books, budget: u32, sink: &mut K) -> Re
     let head = head_text(alloc, &books.date, books.quarters, budget)?;
     match write_or_stop(sink, &head) {
         Ok(()) => Ok(progress),
-        Err(stop) => Err(stop),
+        Err(stop) => {
+            drop(progress);
+            Err(stop)
+        }
     }
 }
 
@@ -63,7 +66,10 @@ fn write_runs<C: Clearer, K: Sink>(
     for run in 0..run_count(books) {
         match split_step(alloc, books, run + 1, budget, &mut progress, clearer, sink) {
             Ok(()) => {}
-            Err(stop) => return Err(stop),
+            Err(stop) => {
+                drop(progress);
+                return Err(stop);
+            }
         }
     }
     Ok(progress)
@@ -107,8 +113,15 @@ fn write_day<C: Clearer, K: Sink>(
 {
     let progress = write_runs(alloc, books, budget, clearer, sink)?;
     match close(alloc, books, progress.published, sink) {
-        Ok(()) => Ok(progress.published),
-        Err(stop) => Err(stop),
+        Ok(()) => {
+            let published = progress.published;
+            drop(progress);
+            Ok(published)
+        }
+        Err(stop) => {
+            drop(progress);
+            Err(stop)
+        }
     }
 }
 

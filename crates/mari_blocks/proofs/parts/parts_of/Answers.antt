@@ -1,4 +1,4 @@
-use Rattle.std.proofs.Common.{◌≡◌, ◌∙◌, ◌+◌, ◌-◌, ◌*◌, [], ap, arith, subst}
+use Rattle.std.proofs.Common.{◌≡◌, ◌+◌, ◌-◌, ◌*◌, [], ap, arith, subst}
 use Rattle.std.specs.List.{range_with_len}
 use Rattle.mari_remain.specs.RunMarket.{run_market_of}
 use Rattle.mari_blocks.specs.Joint.{zones_before}
@@ -7,8 +7,8 @@ use Rattle.mari_blocks.proofs.Brought.{brought}
 use Rattle.mari_blocks.proofs.Quarters.{has-run}
 use Rattle.mari_blocks.proofs.parts.parts_of.Goals as goal
 
-pub run_of_quarter-requires-clause-there : goal.run_of_quarter-requires-clause-there
-run_of_quarter-requires-clause-there c =
+pub run_of_quarter-run-requires-clause-there : goal.run_of_quarter-run-requires-clause-there
+run_of_quarter-run-requires-clause-there c =
     has-run c.args.books.now c.requires.accepted c.args.first c.args.last c.requires.runs c.loop-quarter.quarter c.loop-quarter.auto.quarter (omega (arith, c.loop-quarter-test.true))
 
 pub loop-quarter-preserved : goal.loop-quarter-preserved
@@ -16,9 +16,9 @@ loop-quarter-preserved c =
     let books = c.args.books.now in
     let quarter = c.loop-quarter.quarter in
     let after : (quarter - c.args.first) * c.len-zones.result ≡ zones_before books c.args.first quarter = ap (λ n. (quarter - c.args.first) * n) c.len-zones.ensures.len in
-    brought books c.args.first quarter c.loop-quarter.parts c.add.new.self c.in_ok-made.made ((quarter - c.args.first) * c.len-zones.result) c.loop-quarter.auto.quarter
-    (c.in_ok-made.ensures.market ∙ ap (run_market_of books []) c.run_of_quarter.ensures.run) after
-    c.in_ok-add.ensures.offered c.in_ok-add.ensures.borders c.in_ok-add.ensures.demands c.loop-quarter.invariant
+    brought books c.args.first quarter c.loop-quarter.parts c.add_run.new.self (run_market_of books [] c.run_of_quarter-run.result) ((quarter - c.args.first) * c.len-zones.result) c.loop-quarter.auto.quarter
+    (ap (run_market_of books []) c.run_of_quarter-run.ensures.run) after
+    c.in-Ok.ensures.offered c.in-Ok.ensures.borders c.in-Ok.ensures.demands c.loop-quarter.invariant
 
 pub returns : goal.returns
 returns c =

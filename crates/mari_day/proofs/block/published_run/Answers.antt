@@ -19,40 +19,40 @@ assemble-requires-clause-there c = rw c.as_slice.ensures c.requires.made.there
 
 pub assemble-requires-clause-shapes : goal.assemble-requires-clause-shapes
 assemble-requires-clause-shapes c =
-    rw c.as_slice.ensures (shapes c.args.books.now c.args.made c.requires.made _ c.args.clearing c.in_ok-priced.priced c.in_ok-priced.ensures c.requires.optimal.admissible.feasible)
+    rw c.as_slice.ensures (shapes c.args.books.now c.args.made c.requires.made _ c.args.clearing c.in-Ok.priced c.in-Ok.ensures c.requires.optimal.admissible.feasible)
 
 pub returns-clause-market_fits : goal.returns-clause-market_fits
 returns-clause-market_fits c =
     let feasible = c.requires.optimal.admissible.feasible in
-    let is = rw c.as_slice.ensures at c.in_ok-done.ensures.block in
+    let is = rw c.as_slice.ensures at c.in-Ok-assemble.ensures.block in
     let long = as_many c.args.made.market c.args.clearing.activation feasible ∙ c.requires.made.orders in
-    let whole = reported c.args.books.now 0 c.args.run c.args.made _ c.args.clearing c.in_ok-priced.priced c.in_ok-done.done.block is c.in_ok-priced.ensures long in
-    market-fits c.args.books.now c.requires.accepted c.requires.dated 0 c.args.run c.args.made _ c.requires.made c.args.clearing c.in_ok-priced.priced c.in_ok-done.done.block is
-    (shapes c.args.books.now c.args.made c.requires.made _ c.args.clearing c.in_ok-priced.priced c.in_ok-priced.ensures feasible) c.in_ok-priced.ensures feasible whole.names.demands
+    let whole = reported c.args.books.now 0 c.args.run c.args.made _ c.args.clearing c.in-Ok.priced c.in-Ok-assemble.done.block is c.in-Ok.ensures long in
+    market-fits c.args.books.now c.requires.accepted c.requires.dated 0 c.args.run c.args.made _ c.requires.made c.args.clearing c.in-Ok.priced c.in-Ok-assemble.done.block is
+    (shapes c.args.books.now c.args.made c.requires.made _ c.args.clearing c.in-Ok.priced c.in-Ok.ensures feasible) c.in-Ok.ensures feasible whole.names.demands
 
 pub returns-clause-reported : goal.returns-clause-reported
 returns-clause-reported c =
-    reported c.args.books.now 0 c.args.run c.args.made _ c.args.clearing c.in_ok-priced.priced c.in_ok-done.done.block (rw c.as_slice.ensures at c.in_ok-done.ensures.block) c.in_ok-priced.ensures
+    reported c.args.books.now 0 c.args.run c.args.made _ c.args.clearing c.in-Ok.priced c.in-Ok-assemble.done.block (rw c.as_slice.ensures at c.in-Ok-assemble.ensures.block) c.in-Ok.ensures
     (as_many c.args.made.market c.args.clearing.activation c.requires.optimal.admissible.feasible ∙ c.requires.made.orders)
 
 pub returns-clause-published : goal.returns-clause-published
 returns-clause-published c = λ budget clears.
-    published c.args.books.now budget c.args.run c.args.made _ c.args.clearing c.in_ok-priced.priced c.in_ok-done.done.block
-    (rw c.as_slice.ensures at c.in_ok-done.ensures.block) clears c.in_ok-priced.ensures
+    published c.args.books.now budget c.args.run c.args.made _ c.args.clearing c.in-Ok.priced c.in-Ok-assemble.done.block
+    (rw c.as_slice.ensures at c.in-Ok-assemble.ensures.block) clears c.in-Ok.ensures
     (as_many c.args.made.market c.args.clearing.activation c.requires.optimal.admissible.feasible ∙ c.requires.made.orders)
 
 pub returns-clause-fits : goal.returns-clause-fits
 returns-clause-fits c = λ budget small clears.
     let feasible = c.requires.optimal.admissible.feasible in
-    let is = rw c.as_slice.ensures at c.in_ok-done.ensures.block in
+    let is = rw c.as_slice.ensures at c.in-Ok-assemble.ensures.block in
     let long = as_many c.args.made.market c.args.clearing.activation feasible ∙ c.requires.made.orders in
-    let whole = published c.args.books.now budget c.args.run c.args.made _ c.args.clearing c.in_ok-priced.priced c.in_ok-done.done.block is clears c.in_ok-priced.ensures long in
-    block-fits c.args.books.now c.requires.accepted c.requires.dated budget c.args.run c.args.made _ c.requires.made c.args.clearing c.in_ok-priced.priced c.in_ok-done.done.block is
-    (shapes c.args.books.now c.args.made c.requires.made _ c.args.clearing c.in_ok-priced.priced c.in_ok-priced.ensures feasible) c.in_ok-priced.ensures feasible
+    let whole = published c.args.books.now budget c.args.run c.args.made _ c.args.clearing c.in-Ok.priced c.in-Ok-assemble.done.block is clears c.in-Ok.ensures long in
+    block-fits c.args.books.now c.requires.accepted c.requires.dated budget c.args.run c.args.made _ c.requires.made c.args.clearing c.in-Ok.priced c.in-Ok-assemble.done.block is
+    (shapes c.args.books.now c.args.made c.requires.made _ c.args.clearing c.in-Ok.priced c.in-Ok.ensures feasible) c.in-Ok.ensures feasible
     c.requires.run.0 c.requires.run.1 (small-welfare c.args.made.market budget c.args.clearing c.requires.made.valid clears) small clears whole.names.demands
 
 pub returns-clause-settled : goal.returns-clause-settled
 returns-clause-settled c =
     let feasible = c.requires.optimal.admissible.feasible in
-    run-of c.args.books.now 0 c.args.run c.args.made _ c.args.clearing c.in_ok-priced.priced c.in_ok-done.done.block (rw c.as_slice.ensures at c.in_ok-done.ensures.block) _ c.in_ok-priced.ensures
-    (shapes c.args.books.now c.args.made c.requires.made _ c.args.clearing c.in_ok-priced.priced c.in_ok-priced.ensures feasible) refl c.in_ok-done.ensures.activation refl refl
+    run-of c.args.books.now 0 c.args.run c.args.made _ c.args.clearing c.in-Ok.priced c.in-Ok-assemble.done.block (rw c.as_slice.ensures at c.in-Ok-assemble.ensures.block) _ c.in-Ok.ensures
+    (shapes c.args.books.now c.args.made c.requires.made _ c.args.clearing c.in-Ok.priced c.in-Ok.ensures feasible) refl c.in-Ok-assemble.ensures.activation refl refl

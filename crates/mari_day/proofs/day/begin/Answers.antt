@@ -9,9 +9,9 @@ returns-in-Ok-clause-begun g c = record {
   blocks = [];
   progress = record { part = record { few = omega arith; each = λ k b e. cc e }; fits = All-nil BlockFits; kept = c.in_ok-progress.ensures };
   counted = refl;
-  taken = head-taken c.args.books.now c.args.budget _ _ (rw (c.deref.ensures.value, c.in_ok-head.ensures) at c.in-Ok.ensures.whole);
+  taken = head-taken c.args.books.now c.args.budget _ _ c.in-Ok.ensures.written;
 }
 
 pub returns-in-Err-clause-stopped : goal.returns-in-Err-clause-stopped
 returns-in-Err-clause-stopped g c =
-    head-stops c.args.books.now c.args.budget _ _ _ c.in-Err.ensures.error (rw (c.deref.ensures.value, c.in_ok-head.ensures) at c.in-Err.ensures.part)
+    head-stops c.args.books.now c.args.budget _ _ _ c.in-Err.ensures.written

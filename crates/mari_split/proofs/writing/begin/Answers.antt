@@ -10,6 +10,6 @@ returns-in-Ok-clause-begun g c = record {
   taken = head_taken c.args.books.now c.args.budget _ _ (rw (c.deref.ensures.value, c.in_ok-head.ensures) at c.in-Ok.ensures.whole);
 }
 
-pub returns-in-Err-clause-stopped : goal.returns-in-Err-clause-stopped
-returns-in-Err-clause-stopped g c =
+pub returns-clause-stopped : goal.returns-clause-stopped
+returns-clause-stopped g c =
     head_stops c.args.books.now c.args.budget _ _ _ c.in-Err.ensures.error (rw (c.deref.ensures.value, c.in_ok-head.ensures) at c.in-Err.ensures.part)

@@ -1,1 +1,0 @@
-use Rattle.mari_islands.proofs.firsts.unite.Goals as goal

@@ -1,9 +1,8 @@
 -- Bounds of prices by their heights, order by order.
-use Rattle.std.proofs.Common.{◌≡◌, ◌⊎◌, ℕ, ◌+◌, ◌<◌, ◌≤◌, ℤ, List, length, take, get_or, arith, refl, sym, set, subst, inl, inr, get_or-set_same, get_or-set_other, [], ◌∷◌, ◌∙◌}
+use Rattle.std.proofs.Common.{◌≡◌, ◌⊎◌, ℕ, ◌+◌, ◌<◌, ◌≤◌, ℤ, List, length, take, get_or, arith, sym, subst, inl, inr, [], ◌∷◌, ◌∙◌}
 use Rattle.std.specs.List.{All}
 use Rattle.std.specs.Prelude.{slice_index}
 use Rattle.std.proofs.lemmas.Int.{ints}
-use Rattle.std.proofs.lemmas.Bool.{cases_eq}
 use Rattle.std.proofs.lemmas.List.Elements.{All-from_get_or, All-head, All-tail, All-weaker}
 use Rattle.mari_market.specs.declared.market.Order.{Order}
 use Rattle.mari_market.specs.declared.market.Market.{Market}
@@ -51,17 +50,6 @@ all_tightest_more end os qs i zones d old new h l t long r = record {
   one_each = long ∙ t.one_each;
   each = λ z within. tightest_more end os qs i z d (slice_index old z) (slice_index new z) h l (t.each z within) (r z);
 }
-
--- an order raises its own zone's bound, and sets nothing in other zones
-pub raised_at : (end : End) (o : Order) (q : ℕ) (values : List ℕ) (new : ℕ) → o.zone < length values
-    → IsRaised end o q o.zone (get_or values o.zone 0) new → (z : ℕ)
-    → IsRaised end o q z (get_or values z 0) (get_or (set values o.zone new) z 0)
-raised_at end o q values new h r z = elim (cases_eq z o.zone) [
-  | inl same ↦
-      let at : get_or (set values o.zone new) o.zone 0 ≡ new = get_or-set_same values o.zone new 0 h in
-      subst (λ (x : ℕ). IsRaised end o q x (get_or values x 0) (get_or (set values o.zone new) x 0)) (sym same) (subst (λ (v : ℕ). IsRaised end o q o.zone (get_or values o.zone 0) v) (sym at) r)
-  | inr other ↦ subst (λ (v : ℕ). IsRaised end o q z (get_or values z 0) v) (sym (get_or-set_other values o.zone z new 0 other)) (record { kept = omega arith; met = λ n s. absurd (other (sym s.zone)); from = inl refl })
-]
 
 set_small : (end : End) (z n : ℕ) (os : List Order) (qs : List ℕ) → All (λ (o : Order). IsPrice o.price.0) os → AnyZip (SetsAt end z n) os qs → n ≤ most_value
 set_small end z n [] qs p a = absurd a

@@ -32,22 +32,22 @@ use Rattle.mari_market.proofs.Leading.{falling_spreads, falling_from}
 module _ (m : Market) (a : Activation) (v : IsValid m) (f : IsFeasible m a) where
   -- ---- bounds, as the definitions have them and by their heights
 
-  lower-height : (z : ℕ) (c : ℤ) (n : ℕ) → pos n ≡ c +ℤ CAP → IsLowerBound m a z c → IsBoundBy Least m.orders a.mw z n
+  pub lower-height : (z : ℕ) (c : ℤ) (n : ℕ) → pos n ≡ c +ℤ CAP → IsLowerBound m a z c → IsBoundBy Least m.orders a.mw z n
   lower-height z c n e (inl h) = inl (omega (arith, ints, e, h))
   lower-height z c n e (inr s) = inr (AnyZip-with (OneStanding m a) (SetsLowerAt (is_open m a) z c) (SetsAt Least z n)
       (λ o q is h. record { zone = h.zone; height = omega (arith, ints, e, h.price); sets = subst (λ (s : Standing). SetsLower s o.side o.greatest q) (sym is) h.sets }) m.orders a.mw (one_standing m a v f) s)
 
-  lower-from : (z n : ℕ) → IsBoundBy Least m.orders a.mw z n → IsLowerBound m a z (pos n -ℤ CAP)
+  pub lower-from : (z n : ℕ) → IsBoundBy Least m.orders a.mw z n → IsLowerBound m a z (pos n -ℤ CAP)
   lower-from z n (inl h) = inl (omega (arith, ints, h))
   lower-from z n (inr s) = inr (AnyZip-with (OneStanding m a) (SetsAt Least z n) (SetsLowerAt (is_open m a) z (pos n -ℤ CAP))
       (λ o q is h. record { zone = h.zone; price = omega (arith, ints, h.height); sets = subst (λ (s : Standing). SetsLower s o.side o.greatest q) is h.sets }) m.orders a.mw (one_standing m a v f) s)
 
-  upper-height : (z : ℕ) (c : ℤ) (n : ℕ) → pos n ≡ CAP -ℤ c → IsUpperBound m a z c → IsBoundBy Greatest m.orders a.mw z n
+  pub upper-height : (z : ℕ) (c : ℤ) (n : ℕ) → pos n ≡ CAP -ℤ c → IsUpperBound m a z c → IsBoundBy Greatest m.orders a.mw z n
   upper-height z c n e (inl h) = inl (omega (arith, ints, e, h))
   upper-height z c n e (inr s) = inr (AnyZip-with (OneStanding m a) (SetsUpperAt (is_open m a) z c) (SetsAt Greatest z n)
       (λ o q is h. record { zone = h.zone; height = omega (arith, ints, e, h.price); sets = subst (λ (s : Standing). SetsUpper s o.side o.greatest q) (sym is) h.sets }) m.orders a.mw (one_standing m a v f) s)
 
-  upper-from : (z n : ℕ) → IsBoundBy Greatest m.orders a.mw z n → IsUpperBound m a z (CAP -ℤ pos n)
+  pub upper-from : (z n : ℕ) → IsBoundBy Greatest m.orders a.mw z n → IsUpperBound m a z (CAP -ℤ pos n)
   upper-from z n (inl h) = inl (omega (arith, ints, h))
   upper-from z n (inr s) = inr (AnyZip-with (OneStanding m a) (SetsAt Greatest z n) (SetsUpperAt (is_open m a) z (CAP -ℤ pos n))
       (λ o q is h. record { zone = h.zone; price = omega (arith, ints, h.height); sets = subst (λ (s : Standing). SetsUpper s o.side o.greatest q) is h.sets }) m.orders a.mw (one_standing m a v f) s)
@@ -59,7 +59,7 @@ module _ (m : Market) (a : Activation) (v : IsValid m) (f : IsFeasible m a) wher
   set-lower-price z c (o ∷ os) (q ∷ qs) p (inl s) = subst IsPrice s.price (All-head (IsValidOrder m.zones (length m.gates)) o os p).price
   set-lower-price z c (o ∷ os) (q ∷ qs) p (inr e) = set-lower-price z c os qs (All-tail (IsValidOrder m.zones (length m.gates)) o os p) e
 
-  lower-price : (z : ℕ) (c : ℤ) → IsLowerBound m a z c → IsPrice c
+  pub lower-price : (z : ℕ) (c : ℤ) → IsLowerBound m a z c → IsPrice c
   lower-price z c (inl e) = record { low = omega (arith, ints, e); high = omega (arith, ints, e) }
   lower-price z c (inr s) = set-lower-price z c m.orders a.mw v.orders s
 
@@ -69,7 +69,7 @@ module _ (m : Market) (a : Activation) (v : IsValid m) (f : IsFeasible m a) wher
   set-upper-price z c (o ∷ os) (q ∷ qs) p (inl s) = subst IsPrice s.price (All-head (IsValidOrder m.zones (length m.gates)) o os p).price
   set-upper-price z c (o ∷ os) (q ∷ qs) p (inr e) = set-upper-price z c os qs (All-tail (IsValidOrder m.zones (length m.gates)) o os p) e
 
-  upper-price : (z : ℕ) (c : ℤ) → IsUpperBound m a z c → IsPrice c
+  pub upper-price : (z : ℕ) (c : ℤ) → IsUpperBound m a z c → IsPrice c
   upper-price z c (inl e) = record { low = omega (arith, ints, e); high = omega (arith, ints, e) }
   upper-price z c (inr s) = set-upper-price z c m.orders a.mw v.orders s
 

@@ -1,6 +1,7 @@
 pub mod Spreads
 pub mod Bounds
 pub mod EndPrices
+pub mod TightConsistency
 pub mod Labels
 pub mod TreeShapes
 pub mod Least

@@ -8,6 +8,7 @@ ghost use Rattle.mari_market.specs.Optimal.{IsConsistent, IsFeasible};
 ghost use Rattle.mari_market.specs.Prefix.{word_of, IsFeasiblePrefix};
 ghost use Rattle.mari_market.specs.Price.{ArePrices};
 ghost use Rattle.mari_remain.specs.Accepted.{IsAccepted};
+ghost use Rattle.mari_check.specs.Ends.{AreHeights};
 ghost use Rattle.mari_check.specs.Examined.{ExaminesBlock};
 ghost use Rattle.mari_check.specs.Faults.{FindsNumber, FindsUpTo, IsFreeOf, IsWholeWithin, NoneBelow};
 ghost use Rattle.mari_remain.specs.declared.books.Books.{Books as TheBooks};
@@ -18,6 +19,7 @@ ghost use Rattle.mari_progress.specs.Runs.{IsMarketOf};
 ghost use Rattle.mari_progress.specs.Reported.{activation_of as activation_reported, prices_of as prices_reported};
 
 use crate::areas::are_areas;
+use crate::ends::{Heights, are_consistent, heights_of};
 use crate::fault::Fault;
 use crate::ledger::reported_ledger;
 use crate::names::names_market;
@@ -32,7 +34,7 @@ use mari_publish::{FullBlock, Heading};
 use mari_remain::{Books, RunMarket};
 use mari_settle::Ledger;
 use mari_units::{Memory, Quarters};
-use mari_welfare::{is_consistent, is_feasible, welfare};
+use mari_welfare::{is_feasible, welfare};
 use std::alloc::Global;
 
 /// What the examination of a published block comes to.
@@ -81,20 +83,13 @@ fn has_welfare(market: &Market, activation: &Activation, block: &FullBlock) -> b
     welfare(market, activation).0 == i128::from(block.welfare)
 }
 
-/// A fault of the activation, of its welfare, or of the prices.
-fn trading_fault(
-    market: &Market,
-    block: &FullBlock,
-    activation: &Activation,
-    prices: &Prices,
-) -> Option<Fault>
+/// A fault of the activation, or of its welfare.
+fn trading_fault(market: &Market, block: &FullBlock, activation: &Activation) -> Option<Fault>
     requires valid { IsValid market.now }
     requires activation { activation.now ≡ activation_reported block.now }
-    requires prices { prices.now.cents ≡ prices_reported block.now }
     ensures finds { (books : TheBooks) (run : ℕ) (made : TheRunMarket) (also : Option (List TheCents)) (budget : Option ℕ) → made.market ≡ market.now
-        → NoneBelow (IsFreeOf books run made also budget block.now) 3 → FindsUpTo (IsFreeOf books run made also budget block.now) 6 result }
+        → NoneBelow (IsFreeOf books run made also budget block.now) 3 → FindsUpTo (IsFreeOf books run made also budget block.now) 5 result }
     ensures feasible { result ≡ None → IsFeasible market.now activation.now }
-    ensures consistent { result ≡ None → IsConsistent market.now activation.now prices.now.cents }
 {
     if !is_feasible(market, activation) {
         return Some(Fault::Infeasible);
@@ -102,27 +97,26 @@ fn trading_fault(
     if !has_welfare(market, activation, block) {
         return Some(Fault::Welfare);
     }
-    if !is_consistent(market, activation, prices) {
-        return Some(Fault::Inconsistent);
-    }
     None
 }
 
 /// A fault of the intervals, of the prices in them, or of the areas, where the prices are consistent.
-fn pricing_fault(
+fn interval_fault(
     alloc: Global,
     market: &Market,
     block: &FullBlock,
     activation: &Activation,
+    heights: Heights,
 ) -> Result<Option<Fault>, Memory>
     requires valid { IsValid market.now }
     requires activation { activation.now ≡ activation_reported block.now }
     requires feasible { IsFeasible market.now activation.now }
     requires some { (ps : List TheCents) × IsConsistent market.now activation.now ps }
+    requires heights { AreHeights market.now activation.now heights }
     ensures { (books : TheBooks) (run : ℕ) (made : TheRunMarket) (also : Option (List TheCents)) (budget : Option ℕ) → made.market ≡ market.now
         → NoneBelow (IsFreeOf books run made also budget block.now) 6 → IfOk result (FindsUpTo (IsFreeOf books run made also budget block.now) 9) }
 {
-    if !has_intervals(alloc, market, activation, block)? {
+    if !has_intervals(alloc, market, activation, block, heights)? {
         return Ok(Some(Fault::Interval));
     }
     if !has_published_prices(market, block) {
@@ -133,6 +127,30 @@ fn pricing_fault(
         return Ok(Some(Fault::Area));
     }
     Ok(None)
+}
+
+/// A fault of the prices, of the intervals, of the prices in them, or of the areas. One pass over the orders gives the
+/// bounds by which prices and intervals are tested.
+fn pricing_fault(
+    alloc: Global,
+    market: &Market,
+    block: &FullBlock,
+    activation: &Activation,
+    prices: &Prices,
+) -> Result<Option<Fault>, Memory>
+    requires valid { IsValid market.now }
+    requires activation { activation.now ≡ activation_reported block.now }
+    requires prices { prices.now.cents ≡ prices_reported block.now }
+    requires feasible { IsFeasible market.now activation.now }
+    ensures { (books : TheBooks) (run : ℕ) (made : TheRunMarket) (also : Option (List TheCents)) (budget : Option ℕ) → made.market ≡ market.now
+        → NoneBelow (IsFreeOf books run made also budget block.now) 5 → IfOk result (FindsUpTo (IsFreeOf books run made also budget block.now) 9) }
+{
+    let heights = heights_of(alloc, market, activation)?;
+    if !are_consistent(market, activation, prices, &heights) {
+        drop(heights);
+        return Ok(Some(Fault::Inconsistent));
+    }
+    interval_fault(alloc, market, block, activation, heights)
 }
 
 /// Whether the tree is whole, and of no more items than the budget, if there is a budget.
@@ -224,10 +242,10 @@ fn market_fault(
     ensures { (books : TheBooks) (run : ℕ) (made : TheRunMarket) (also : Option (List TheCents)) → made.market ≡ market.now
         → NoneBelow (IsFreeOf books run made also budget block.now) 3 → IfOk result (FindsUpTo (IsFreeOf books run made also budget block.now) 11) }
 {
-    if let Some(fault) = trading_fault(market, block, activation, prices) {
+    if let Some(fault) = trading_fault(market, block, activation) {
         return Ok(Some(fault));
     }
-    if let Some(fault) = pricing_fault(alloc, market, block, activation)? {
+    if let Some(fault) = pricing_fault(alloc, market, block, activation, prices)? {
         return Ok(Some(fault));
     }
     tree_fault(alloc, market, block, activation, budget)

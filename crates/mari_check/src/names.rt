@@ -63,7 +63,9 @@ fn borders_named(lines: &[BorderLine], names: &NameIndex, borders: &[BorderEnds]
     true
 }
 
-/// Whether the lines have the ids of these bids, one line each.
+/// Whether the lines have the ids of these bids, one line each. It is not inlined, so that its loop, which every bid
+/// goes through, has all registers to itself.
+#[inline(never)]
 fn bids_named(lines: &[BidLine], ids: &NameIndex, numbers: &[u32]) -> bool
     ensures { IsTrue result ↔ AllZip (NamesBid ids.now) lines.now numbers.now }
 {

@@ -6,12 +6,12 @@ ghost use Rattle.mari_units.specs.declared.numbers.Cents.{Cents as TheCents};
 ghost use Rattle.mari_market.specs.Interval.{ArePublishedPrices, IsNearest};
 ghost use Rattle.mari_market.specs.Market.{IsValid};
 ghost use Rattle.mari_market.specs.Optimal.{IsConsistent, IsFeasible};
-ghost use Rattle.mari_check.specs.Ends.{AreEndPrices, AreTightest};
+ghost use Rattle.mari_check.specs.Ends.{AreEndPrices, AreHeights, AreTightest};
 ghost use Rattle.mari_check.specs.Faults.{HasIntervals};
 ghost use Rattle.mari_check.specs.Lines.{IsInOrder, IsNearestLine, IsSamePrice};
 ghost use Rattle.mari_progress.specs.Reported.{activation_of as activation_reported, prices_of as prices_reported};
 
-use crate::ends::{End, ends_of, heights_of};
+use crate::ends::{End, Heights, ends_of};
 use crate::reported::{greatest_of, least_of};
 use mari_market::{Activation, Market};
 use mari_publish::{FullBlock, ZoneLine};
@@ -59,23 +59,24 @@ fn are_ends(
     Ok(are_same(reported, &prices))
 }
 
-/// Whether each zone's least and greatest price are those of its consistent prices.
+/// Whether each zone's least and greatest price are those of its consistent prices, by the tightest bounds.
 pub(crate) fn has_intervals(
     alloc: Global,
     market: &Market,
     activation: &Activation,
     block: &FullBlock,
+    heights: Heights,
 ) -> Result<bool, Memory>
     requires valid { IsValid market.now }
     requires reported { activation.now ≡ activation_reported block.now }
     requires feasible { IsFeasible market.now activation.now }
     requires some { (ps : List TheCents) × IsConsistent market.now activation.now ps }
+    requires heights { AreHeights market.now activation.now heights }
     ensures { IfOk result (λ is. IsTrue is ↔ HasIntervals market.now block.now) }
 {
     let least = least_of(alloc, block)?;
     let greatest = greatest_of(alloc, block)?;
-    let bounds = heights_of(alloc, market, activation)?;
-    if !are_ends(alloc, market, activation, &least, bounds.least, End::Least)? {
+    if !are_ends(alloc, market, activation, &least, heights.least, End::Least)? {
         return Ok(false);
     }
     are_ends(
@@ -83,7 +84,7 @@ pub(crate) fn has_intervals(
         market,
         activation,
         &greatest,
-        bounds.greatest,
+        heights.greatest,
         End::Greatest,
     )
 }

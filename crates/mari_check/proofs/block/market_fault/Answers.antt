@@ -5,9 +5,6 @@ use Rattle.mari_check.proofs.block.market_fault.Goals as goal
 pub pricing_fault-requires-clause-feasible : goal.pricing_fault-requires-clause-feasible
 pricing_fault-requires-clause-feasible c = c.in_default.ensures.feasible refl
 
-pub pricing_fault-requires-clause-some : goal.pricing_fault-requires-clause-some
-pricing_fault-requires-clause-some c = (c.args.prices.now.cents, c.in_default.ensures.consistent refl)
-
 pub tree_fault-requires-clause-feasible : goal.tree_fault-requires-clause-feasible
 tree_fault-requires-clause-feasible c = c.in_default.ensures.feasible refl
 

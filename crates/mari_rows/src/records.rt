@@ -16,7 +16,7 @@ use std::marker::Model;
 
 /// The records of a page that are still to be read, which contracts see as the list of them.
 pub(crate) struct Records<'a> {
-    reader: Reader<&'a [u8]>,
+    reader: Box<Reader<&'a [u8]>>,
     row: ByteRecord,
     has_ended: bool,
 }
@@ -27,9 +27,9 @@ impl<'a> Model for Records<'a> {
 
     ghost Value = { List (List (List ℕ)) };
 
-    ghost view = { λ r. if r.has_ended then [] else records_left r.reader };
+    ghost view = { λ r. if r.has_ended then [] else records_left r.reader.value };
 
-    ghost invariant = { λ r. r.has_ended ≡ false → IsBetweenRecords r.reader };
+    ghost invariant = { λ r. r.has_ended ≡ false → IsBetweenRecords r.reader.value };
 }
 
 impl Drop for Records<'_> {
@@ -144,11 +144,12 @@ fn read_record(reader: &mut Reader<&[u8]>, row: &mut ByteRecord) -> Result<bool,
 
 impl<'a> Records<'a> {
     /// The records of a page. The reader is given a header of no fields, or else it would keep two copies of the first
-    /// record.
+    /// record. Its tables take 17 kB, so it stands on the heap.
     pub(crate) fn of(alloc: Global, page: &'a [u8]) -> Result<Self, Memory>
         ensures { IfOk result (λ records. records ≡ records_in page.now) }
     {
-        let mut reader = ReaderBuilder::new().flexible(true).from_reader(alloc, page);
+        let reader = ReaderBuilder::new().flexible(true).from_reader(alloc, page);
+        let mut reader = Box::new(alloc, reader)?;
         if reader.set_byte_headers(ByteRecord::new(alloc)).is_err() {
             return Err(Memory);
         }

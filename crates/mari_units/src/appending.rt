@@ -2,7 +2,8 @@
 
 ghost use Rattle.std.specs.Prelude.{◌≡◌, ◌≤◌, ◌<◌, ◌^◌, ◌++◌, ◌∷◌, [], OnOk, OnErr, unsigned_abs};
 ghost use Rattle.std.specs.Fmt.{decimal, signed_decimal};
-ghost use Rattle.mari_units.specs.Numbers.{printed_cents, printed_euros, sign_of};
+ghost use Rattle.mari_units.specs.Appending.{AppendsPart};
+ghost use Rattle.mari_units.specs.Numbers.{printed_cents, printed_euros, printed_ten_thousandths, sign_of};
 
 use crate::faults::Memory;
 use crate::numbers::{Cents, Quarters};
@@ -67,7 +68,8 @@ fn put_short(text: &mut Vec<u8>, number: u32) -> Result<(), Memory>
 /// Appends a space and a number of up to four digits to a text, as one piece.
 fn put_short_field(text: &mut Vec<u8>, number: u32) -> Result<(), Memory>
     requires short { number < 10_000 }
-    ensures { OnOk result (text.new.items ≡ text.old.items ++ 32 ∷ decimal number) }
+    ensures put { OnOk result (text.new.items ≡ text.old.items ++ 32 ∷ decimal number) }
+    ensures same { OnErr result (text.new.items ≡ text.old.items) }
 {
     let digits = digits_of(number);
     if number < 10 {
@@ -94,7 +96,8 @@ fn put_short_field(text: &mut Vec<u8>, number: u32) -> Result<(), Memory>
 /// Appends a space, a number of up to four digits and the end of a line to a text, as one piece.
 fn put_short_end(text: &mut Vec<u8>, number: u32) -> Result<(), Memory>
     requires short { number < 10_000 }
-    ensures { OnOk result (text.new.items ≡ text.old.items ++ 32 ∷ decimal number ++ 10 ∷ []) }
+    ensures put { OnOk result (text.new.items ≡ text.old.items ++ 32 ∷ decimal number ++ 10 ∷ []) }
+    ensures same { OnErr result (text.new.items ≡ text.old.items) }
 {
     let digits = digits_of(number);
     if number < 10 {
@@ -148,8 +151,10 @@ pub fn put_number(alloc: Global, text: &mut Vec<u8>, number: u128) -> Result<(),
 
 /// Appends a space and a number to a text, in digits, without leading zeros. Out of memory, a first part of them may
 /// stay, here and below.
+#[tactic(auto, using(crate::proofs::Appended::none_of, crate::proofs::Appended::begun, crate::proofs::Appended::gone_on))]
 pub fn put_spaced_number(alloc: Global, text: &mut Vec<u8>, number: u64) -> Result<(), Memory>
-    ensures { OnOk result (text.new.items ≡ text.old.items ++ 32 ∷ decimal number) }
+    ensures put { OnOk result (text.new.items ≡ text.old.items ++ 32 ∷ decimal number) }
+    ensures part { OnErr result (AppendsPart (32 ∷ decimal number) text.old.items text.new.items) }
 {
     if number < 10_000 {
         put_short_field(text, number as u32)
@@ -160,8 +165,10 @@ pub fn put_spaced_number(alloc: Global, text: &mut Vec<u8>, number: u64) -> Resu
 }
 
 /// Appends a space, a number and the end of a line to a text.
+#[tactic(auto, using(crate::proofs::Appended::none_of, crate::proofs::Appended::begun, crate::proofs::Appended::gone_on))]
 pub fn put_number_end(alloc: Global, text: &mut Vec<u8>, number: u64) -> Result<(), Memory>
-    ensures { OnOk result (text.new.items ≡ text.old.items ++ 32 ∷ decimal number ++ 10 ∷ []) }
+    ensures put { OnOk result (text.new.items ≡ text.old.items ++ 32 ∷ decimal number ++ 10 ∷ []) }
+    ensures part { OnErr result (AppendsPart (32 ∷ decimal number ++ 10 ∷ []) text.old.items text.new.items) }
 {
     if number < 10_000 {
         put_short_end(text, number as u32)
@@ -173,22 +180,27 @@ pub fn put_number_end(alloc: Global, text: &mut Vec<u8>, number: u64) -> Result<
 
 /// Appends a minus to a text, or nothing.
 fn put_sign(text: &mut Vec<u8>, negative: bool) -> Result<(), Memory>
-    ensures { OnOk result (text.new.items ≡ text.old.items ++ sign_of negative) }
+    ensures put { OnOk result (text.new.items ≡ text.old.items ++ sign_of negative) }
+    ensures same { OnErr result (text.new.items ≡ text.old.items) }
 {
     if negative { put(text, b"-") } else { Ok(()) }
 }
 
 /// Appends a whole number to a text, in digits, without leading zeros, after a minus where it is negative.
+#[tactic(auto, using(crate::proofs::Appended::none_of, crate::proofs::Appended::begun, crate::proofs::Appended::gone_on))]
 pub fn put_whole(alloc: Global, text: &mut Vec<u8>, n: i128) -> Result<(), Memory>
-    ensures { OnOk result (text.new.items ≡ text.old.items ++ signed_decimal n) }
+    ensures put { OnOk result (text.new.items ≡ text.old.items ++ signed_decimal n) }
+    ensures part { OnErr result (AppendsPart (signed_decimal n) text.old.items text.new.items) }
 {
     put_sign(text, n < 0)?;
     put_number(alloc, text, n.unsigned_abs())
 }
 
 /// Appends a price to a text, in euro per MWh with two decimals, as `-0.05` for -5 cents.
+#[tactic(auto, using(crate::proofs::Appended::none_of, crate::proofs::Appended::begun, crate::proofs::Appended::gone_on))]
 pub fn put_cents(alloc: Global, text: &mut Vec<u8>, cents: Cents) -> Result<(), Memory>
-    ensures { OnOk result (text.new.items ≡ text.old.items ++ printed_cents cents.0) }
+    ensures put { OnOk result (text.new.items ≡ text.old.items ++ printed_cents cents.0) }
+    ensures part { OnErr result (AppendsPart (printed_cents cents.0) text.old.items text.new.items) }
 {
     let size = cents.0.unsigned_abs();
     put_sign(text, cents.0 < 0)?;
@@ -203,13 +215,12 @@ pub fn put_cents(alloc: Global, text: &mut Vec<u8>, cents: Cents) -> Result<(), 
     )
 }
 
-/// Appends money to a text, in euros with four decimals, as `0.0025` for one quarter-cent.
-pub fn put_euros(alloc: Global, text: &mut Vec<u8>, quarters: Quarters) -> Result<(), Memory>
-    requires { unsigned_abs quarters.0 ≤ 10 ^ 30 }
-    ensures { OnOk result (text.new.items ≡ text.old.items ++ printed_euros quarters.0) }
+/// Appends a number of ten-thousandths of a euro to a text, in euros with four decimals.
+#[tactic(auto, using(crate::proofs::Appended::none_of, crate::proofs::Appended::begun, crate::proofs::Appended::gone_on))]
+fn put_ten_thousandths(alloc: Global, text: &mut Vec<u8>, size: u128) -> Result<(), Memory>
+    ensures put { OnOk result (text.new.items ≡ text.old.items ++ printed_ten_thousandths size) }
+    ensures part { OnErr result (AppendsPart (printed_ten_thousandths size) text.old.items text.new.items) }
 {
-    let size = 25 * quarters.0.unsigned_abs();
-    put_sign(text, quarters.0 < 0)?;
     put_number(alloc, text, size / 10_000)?;
     put(
         text,
@@ -221,4 +232,15 @@ pub fn put_euros(alloc: Global, text: &mut Vec<u8>, quarters: Quarters) -> Resul
             b'0' + (size % 10) as u8,
         ],
     )
+}
+
+/// Appends money to a text, in euros with four decimals, as `0.0025` for one quarter-cent.
+#[tactic(auto, using(crate::proofs::Appended::none_of, crate::proofs::Appended::begun, crate::proofs::Appended::gone_on))]
+pub fn put_euros(alloc: Global, text: &mut Vec<u8>, quarters: Quarters) -> Result<(), Memory>
+    requires { unsigned_abs quarters.0 ≤ 10 ^ 30 }
+    ensures put { OnOk result (text.new.items ≡ text.old.items ++ printed_euros quarters.0) }
+    ensures part { OnErr result (AppendsPart (printed_euros quarters.0) text.old.items text.new.items) }
+{
+    put_sign(text, quarters.0 < 0)?;
+    put_ten_thousandths(alloc, text, 25 * quarters.0.unsigned_abs())
 }

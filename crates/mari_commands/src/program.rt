@@ -140,8 +140,9 @@ fn finish<S: Shelf, K: Sink, G: Turnstile, R: Threads + Wait + Sync>(
 /// - `feed FOLDER` prints the folder's publication.txt as JSON, a line for each part. It reads no other file.
 /// - `split FOLDER [--nodes N] [--workers K]` clears the runs of the folder's day island by island, each island within N
 ///   nodes, and prints the day as it is made.
-/// - `value FOLDER K` prints what K MW more, 1 to `MOST_RAISE`, on each limit of a border would bring each run of the
-///   folder's publication.txt, which it checks block by block, up to its first fault.
+/// - `value FOLDER K` prints what K MW more, 1 to `MOST_RAISE`, on each limit of a border bring at most to each run of
+///   the folder's publication.txt while its gates stay, whether or not prices exist then. It checks the text block by
+///   block, up to its first fault.
 /// - `blocks FOLDER FIRST LAST [--nodes N] [--workers K]` clears the scheduled runs of the quarter hours FIRST to LAST, 1
 ///   to `MOST_QUARTERS`, as one market, with the blocks of bids of the folder's blocks.csv, and prints it.
 ///

@@ -120,7 +120,7 @@ module _ (asked : Option Asked) (pages : Option Pages) (failed : Type 0) (before
       subst Ends (sym e)
       (inr (inl (folder, feed)), (PUBLICATION, wanted, record { between = between; ahead = lines-ahead folder feed refl (λ reported t. ahead-failed (page_in reported) (states reported t)); took = p }))
   of-failed result why states (CutOff e p) =
-      let cut : Ends status.WriteFault = (λ reported t. cut-fault why (record { between = between; ahead = lines-ahead folder feed refl (λ other u. let P : Pages → Type 0 = λ x. TookOf TookFirst (page_in x) before between in subst P (same reported other u) (ahead-failed (page_in reported) (states reported t))); began = p }), first-part) in
+      let cut : Ends status.WriteFault = (λ reported t. cut-fault why (folder, feed) (record { between = between; ahead = lines-ahead folder feed refl (λ other u. let P : Pages → Type 0 = λ x. TookOf TookFirst (page_in x) before between in subst P (same reported other u) (ahead-failed (page_in reported) (states reported t))); began = p }), first-part) in
       subst Ends (sym e) cut
     where
       same : (reported other : Pages) → Some reported ≡ Some other → reported ≡ other

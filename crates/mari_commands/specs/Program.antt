@@ -120,7 +120,7 @@ pub data IsCutOff (asked : Option Asked) (pages : Pages) (failed : Type 0) (befo
   FeedPart : (page : List ℕ) → HasFeed asked pages page → TookSome page before after → IsCutOff asked pages failed before after
   SplitDay : (books : Books) (nodes : ℕ) → AreSplit asked pages books nodes → WroteSplitPrefix books nodes before after → IsCutOff asked pages failed before after
   FeedRefused : (refusal : Refusal) → IsRefused asked pages refusal → BeganLine asked pages TookAll (refused_line refusal) before after → IsCutOff asked pages failed before after
-  FeedFault : failed → BeganLine asked pages TookFirst (file_line (page_word fetch.Failed) PUBLICATION) before after → IsCutOff asked pages failed before after
+  FeedFault : failed → AsksForFeed asked → BeganLine asked pages TookFirst (file_line (page_word fetch.Failed) PUBLICATION) before after → IsCutOff asked pages failed before after
   FeedGap : (gap : Gap) → LacksPage asked pages PUBLICATION gap → BeganLine asked pages TookFirst (file_line (gap_word gap) PUBLICATION) before after → IsCutOff asked pages failed before after
   ValuesPart : BeganValues asked pages failed before after → IsCutOff asked pages failed before after
 

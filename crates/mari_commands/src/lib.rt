@@ -16,6 +16,7 @@ mod generating;
 mod joining;
 mod migrating;
 mod outcome;
+mod profile;
 mod program;
 mod refusals;
 mod saying;
@@ -24,5 +25,6 @@ mod summary;
 mod valuing;
 mod writing;
 
+pub use profile::profile_is_kept;
 pub use program::run_program;
 pub use status::Status;

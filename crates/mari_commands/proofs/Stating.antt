@@ -68,28 +68,6 @@ words-of-summary number (NoPage n w) is = absurd is
 words-of-summary number (Refused refusal) is = absurd is
 words-of-summary number NoMemory is = tt
 
-pub words-of-verdict : (folder : List ℕ) (v : Verdict) (o : Outcome) → IsReportedVerdict v o → IsOfWords (Some (Check folder)) o
-words-of-verdict folder (verdict.Valid published unpublished) (Text t) is = (published, unpublished, is)
-words-of-verdict folder (verdict.Valid published unpublished) NoMemory is = tt
-words-of-verdict folder (verdict.Valid published unpublished) NoCommand is = absurd is
-words-of-verdict folder (verdict.Valid published unpublished) (Day job) is = absurd is
-words-of-verdict folder (verdict.Valid published unpublished) (Feeds other) is = absurd is
-words-of-verdict folder (verdict.Valid published unpublished) (Joins quarters) is = absurd is
-words-of-verdict folder (verdict.Valid published unpublished) (Values v) is = absurd is
-words-of-verdict folder (verdict.Valid published unpublished) (Invalid run n) is = absurd is
-words-of-verdict folder (verdict.Valid published unpublished) (NoPage n w) is = absurd is
-words-of-verdict folder (verdict.Valid published unpublished) (Refused refusal) is = absurd is
-words-of-verdict folder (verdict.Invalid run fault) (Invalid r f) is = (folder, refl)
-words-of-verdict folder (verdict.Invalid run fault) NoMemory is = absurd is
-words-of-verdict folder (verdict.Invalid run fault) NoCommand is = absurd is
-words-of-verdict folder (verdict.Invalid run fault) (Day job) is = absurd is
-words-of-verdict folder (verdict.Invalid run fault) (Feeds other) is = absurd is
-words-of-verdict folder (verdict.Invalid run fault) (Joins quarters) is = absurd is
-words-of-verdict folder (verdict.Invalid run fault) (Values v) is = absurd is
-words-of-verdict folder (verdict.Invalid run fault) (Text t) is = absurd is
-words-of-verdict folder (verdict.Invalid run fault) (NoPage n w) is = absurd is
-words-of-verdict folder (verdict.Invalid run fault) (Refused refusal) is = absurd is
-
 pub words-of-text : (folder : List ℕ) (f : TextFault) → IsOfWords (Some (Check folder)) (text_outcome f)
 words-of-text folder (text_fault.BadLine n) = ((folder, refl), λ lines. absurd (check-no-lines folder lines))
 words-of-text folder (text_fault.BadOrder n) = ((folder, refl), λ lines. absurd (check-no-lines folder lines))

@@ -39,16 +39,6 @@ quantities_beside p xs mw l = places_beside p (slice_index mw) 0 xs mw l (λ i d
 pub flows_beside : {X : Type 0} (p : X → Bool) (xs : List X) (flow : List ℤ) → length flow ≡ length xs → map (int_at flow) (places_from p 0 xs) ≡ beside p xs flow
 flows_beside p xs flow l = places_beside p (int_at flow) 0 xs flow l (λ i d less. ap (int_at flow) (omega arith) ∙ get_or_default flow i (pos 0) d less)
 
--- as many items stand beside those that pass as there are of these
-pub length-beside : {X Y : Type 0} (p : X → Bool) (xs : List X) (ys : List Y) → length ys ≡ length xs → length (beside p xs ys) ≡ length (filter p xs)
-length-beside p [] ys l = refl
-length-beside p (x ∷ xs) [] l = absurd (omega (arith, l))
-length-beside p (x ∷ xs) (y ∷ ys) l = more (p x) (length-beside p xs ys (omega (arith, l)))
-  where
-    more : (b : Bool) → length (beside p xs ys) ≡ length (filter p xs) → length (cond b (y ∷ beside p xs ys) (beside p xs ys)) ≡ length (cond b (x ∷ filter p xs) (filter p xs))
-    more true e = ap suc e
-    more false e = e
-
 module _ {X Z Y : Type 0} (p : X → Bool) (r : X → Z) where
   -- what holds of all pairs holds of those that pass
   pub all_beside : (P : X → Y → Type 0) (Q : Z → Y → Type 0) → ((x : X) (y : Y) → p x ≡ true → P x y → Q (r x) y)

@@ -80,14 +80,6 @@ pub record AreMatesOf (m : Market) (n : ℕ) (groups : ℕ → Option ℕ) (mate
   pub listed : (g k : ℕ) → g < n → group_of m.gates g ≡ Some k → groups k ≡ Some (slice_index mates g)
   pub sound : (k z : ℕ) → groups k ≡ Some z → (h : ℕ) × (group_of m.gates h ≡ Some k) × HasGate m z h
 
-pub no_mates : (m : Market) (groups : ℕ → Option ℕ) → ((k : ℕ) → groups k ≡ None) → AreMatesOf m 0 groups []
-no_mates m groups none = record {
-  long = refl;
-  bound = λ g l. absurd (omega (arith, l));
-  listed = λ g k l e. absurd (omega (arith, l));
-  sound = λ k z e. absurd (none-some z (sym (none k) ∙ e));
-}
-
 at_end : (xs : List ℕ) (n z : ℕ) → length xs ≡ n → slice_index (xs ++ z ∷ []) n ≡ z
 at_end xs n z e = ap (slice_index (xs ++ z ∷ [])) (sym e) ∙ get_or-append_seam xs z [] 0
 

@@ -44,13 +44,6 @@ both_lowered a b = elim (ends a b) [
   | inr e ↦ rw (e.0, e.1) (lowered_high b a ∙ sym (lowered_low b a))
 ]
 
--- where both are one already, nothing is to be done
-pub lowered_same : (a b w : ℕ) → a ≡ b → lowered (min a b) (max a b) w ≡ w
-lowered_same a b w e =
-    let low : min a b ≡ a = omega arith in
-    let high : max a b ≡ a = omega arith in
-    rw (low, high) (elim (cases_eq w a) [ inl t ↦ ap (lowered a a) t ∙ lowered_high a a ∙ sym t | inr n ↦ lowered_other a a w n ])
-
 pub union_stays : (olds news : List ℕ) (y z : ℕ) → AreLowered olds news y z → StayUnited olds news
 union_stays olds news y z h u w l k e = h.each u l ∙ ap (lowered (min (slice_index olds y) (slice_index olds z)) (max (slice_index olds y) (slice_index olds z))) e ∙ sym (h.each w k)
 
@@ -121,9 +114,6 @@ UnitesUsable firsts b = IsUsable b → AreUnited firsts b.from b.to
 abbrev pub LiesWithin : ℕ → Order → Type 0
 LiesWithin n o = o.zone < n
 
-pub orders_lie : (m : Market) (firsts : List ℕ) → IsValid m → AreSound m firsts → All (LiesWithin (length firsts)) m.orders
-orders_lie m firsts v s = λ k d l. omega (arith, (v.orders k d l).zone, s.one_each)
-
 pub usable_stays : (olds news : List ℕ) → StayUnited olds news → (b : Border) → IsBetween (length olds) b → UnitesUsable olds b → UnitesUsable news b
 usable_stays olds news stay b ends h u = stay b.from b.to ends.0 ends.1 (h u)
 
@@ -170,9 +160,6 @@ module _ (m : Market) (homes : List ℕ) (v : IsValid m) (h : AreHomes m homes) 
 
 pub stays_on : (olds mids news : List ℕ) → length mids ≡ length olds → StayUnited olds mids → StayUnited mids news → StayUnited olds news
 stays_on olds mids news e h k y z l r same = k y z (omega (arith, l, e)) (omega (arith, r, e)) (h y z l r same)
-
-pub joined_over : (m : Market) (b : Border) → Contains m.borders b → IsUsable b → AreJoined m b.from b.to
-joined_over m b there u = inl (by_border (there.0, b, there.1, there.2, (refl, refl, u)))
 
 -- ---- the end
 

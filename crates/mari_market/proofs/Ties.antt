@@ -76,19 +76,6 @@ closed_opens (suc n) (suc g) = closed_opens n g
 pub none_before_closed : (n : ℕ) (word : List Bool) → ComesBefore word (replicate n false) → ⊥
 none_before_closed n word h = absurd (cc (closed_opens n h.gate, h.opened))
 
--- a word opens what it opens when it is continued with closed gates
-pub continued_opens : (word : List Bool) (n g : ℕ) → opens_in (word ++ replicate n false) g ≡ opens_in word g
-continued_opens [] n g = closed_opens n g
-continued_opens (b ∷ bs) n zero = refl
-continued_opens (b ∷ bs) n (suc g) = continued_opens bs n g
-
--- so it comes before a gate word exactly where, continued with closed gates, it does
-pub early_continued : (gates word : List Bool) (n : ℕ) → IsEarly gates word ↔ ComesBefore (word ++ replicate n false) gates
-early_continued gates word n = (
-  λ h. record { gate = h.gate; same = λ g l. continued_opens word n g ∙ h.same g l; closed = continued_opens word n h.gate ∙ h.closed; opened = h.opened },
-  λ h. record { gate = h.gate; same = λ g l. sym (continued_opens word n g) ∙ h.same g l; closed = sym (continued_opens word n h.gate) ∙ h.closed; opened = h.opened },
-)
-
 -- ---- early words
 
 -- open gates come before a word from gate k on

@@ -256,16 +256,7 @@ dearest_none slots xs zones margins marked zoned a d = λ k can free.
     let j = above_some slots (price_of slots k) (dearest_at margins (zone_of slots k)) ((a.dearest (zone_of slots k) (zoned k can.0)).all k can.0 can refl) in
     d.all (zone_of slots k) j.0 (zoned k can.0) free j.1
 
-pub some_within : (best : Option ℕ) (n : ℕ) → ((i : ℕ) → best ≡ Some i → i < n) → IfSome best (λ i. i < n)
-some_within None n h = tt
-some_within (Some i) n h = h i refl
-
 -- where there is a slot, and its price is at least this
 pub above_from : (slots : List Slot) (v : ℤ) (best : Option ℕ) → (best ≡ None → ⊥) → ((j : ℕ) → best ≡ Some j → v ≤ℤ price_of slots j) → IsAbove slots v best
 above_from slots v None some least = absurd (some refl)
 above_from slots v (Some j) some least = least j refl
-
--- the same of one whose price is at most this
-pub below_from : (slots : List Slot) (v : ℤ) (best : Option ℕ) → (best ≡ None → ⊥) → ((j : ℕ) → best ≡ Some j → price_of slots j ≤ℤ v) → IsBelow slots v best
-below_from slots v None some most = absurd (some refl)
-below_from slots v (Some j) some most = most j refl

@@ -159,10 +159,6 @@ pub unkept_inadmissible : (m : Market) (word : List Bool) (o : Optimum) (a : Act
     → ((a : Activation) → IsWritten m o a → IsBounded m a → IsTrue b ↔ IsFeasible m a) → b ≡ false → IsAdmissible m a → ⊥
 unkept_inadmissible m word o a b n w is unkept adm = both_ways b unkept ((is a w (bounded m word a (n.optimum.solution a w).within)).1 adm.feasible)
 
--- an optimum that is written as an inadmissible activation is written as no admissible one
-pub other_inadmissible : (m : Market) (o : Optimum) (s : Solved) (a : Activation) → IsSolvedAs m o s → IsWritten m o a → (IsAdmissible m s.activation → ⊥) → IsAdmissible m a → ⊥
-other_inadmissible m o s a is w none adm = none (subst (IsAdmissible m) (written_once m o a s.activation w is.activation) adm)
-
 -- ---- what is left to start with
 
 pub left_there : (optimum old : Option Activation) → is_some optimum ≡ true → left_by optimum old ≡ optimum

@@ -29,9 +29,6 @@ small : (side : Side) (x : ℤ) → CanPut side x → unsigned_abs x ≤ MOST_MW
 small Inject x c = omega (arith, ints, c.0, c.1)
 small Withdraw x c = omega (arith, ints, c.0, c.1)
 
-pub amount_there : (m : Market) (o : Optimum) (k : ℕ) → FitsOrders m o → k < length m.orders → k < length o.amounts.items
-amount_there m o k f l = omega (arith, f.long)
-
 pub quantity_small : (m : Market) (o : Optimum) (k : ℕ) → FitsOrders m o → k < length m.orders → quantity_at o k ≤ MOST_MW
 quantity_small m o k f l =
     let n = length m.orders in

@@ -56,25 +56,6 @@ plain_kept m word o h k plain =
 
 -- ---- rungs of a ladder
 
--- a rung that costs more than the potential sets no lower bound
-pub dear_sets_none : (m : Market) (o : Optimum) (z n : ℕ) (ladder : List Rung) → IsOrderLadder m z ladder → ArePlainKept m o
-    → ((j : ℕ) (d : Rung) → n ≤ j → j < length ladder → price_at o.potentials.cents z <ℤ (get_or ladder j d).price)
-    → (j : ℕ) → n ≤ j → j < length ladder → SetsPlainly Least m o (rung_at ladder j).place → ⊥
-dear_sets_none m o z n ladder l kept dear j g b s =
-    let k = (rung_at ladder j).place in
-    let low = (kept k (l.there j no_rung b, s.none)).lower s.sets in
-    omega (arith, ints, low, dear j no_rung g b, l.price j no_rung b, ap (price_at o.potentials.cents) (l.zone j no_rung b))
-
--- and one that costs less no upper bound
-pub cheap_sets_none : (m : Market) (o : Optimum) (z n : ℕ) (ladder : List Rung) → IsOrderLadder m z ladder → ArePlainKept m o → n ≤ length ladder
-    → ((j : ℕ) (d : Rung) → j < n → (get_or ladder j d).price <ℤ price_at o.potentials.cents z)
-    → (j : ℕ) → j < n → SetsPlainly Greatest m o (rung_at ladder j).place → ⊥
-cheap_sets_none m o z n ladder l kept few cheap j b s =
-    let k = (rung_at ladder j).place in
-    let there : j < length ladder = omega arith in
-    let high = (kept k (l.there j no_rung there, s.none)).upper s.sets in
-    omega (arith, ints, high, cheap j no_rung b, l.price j no_rung there, ap (price_at o.potentials.cents) (l.zone j no_rung there))
-
 -- where an order of the zone without a gate that sets a bound stands
 record IsSetAt (end : End) (m : Market) (o : Optimum) (ladder : List Rung) (d : ℤ) : Type 0 where
   at : ℕ

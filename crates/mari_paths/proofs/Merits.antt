@@ -16,14 +16,6 @@ use Rattle.mari_network.proofs.Rungs.{ladder_stays}
 use Rattle.mari_paths.proofs.Sums.{stands_once, sum_of_ladders}
 use Rattle.mari_paths.specs.Merit.{AreLadders, IsOrderRange}
 
--- the slots of orders have small numbers
-pub order_ranges : (zones : ℕ) (slots : List Slot) → All (IsOrderSlot zones) slots → All IsOrderRange slots
-order_ranges zones slots a k d l = let s = a k d l in record { low = s.low; in_order = s.in_order; high = s.high }
-
--- so much more than its least a slot may put in
-pub raised_within : (s : Slot) (part x : ℤ) → pos 0 ≤ℤ part → (s.low +ℤ part) ≤ℤ s.high → x ≡ s.low +ℤ part → IsWithinSlot s x
-raised_within s part x low high e = record { least = omega (arith, ints, low, e); most = omega (arith, ints, high, e) }
-
 pub least_within : (s : Slot) → IsOrderRange s → IsWithinSlot s s.low
 least_within s r = record { least = omega (arith, ints); most = r.in_order }
 

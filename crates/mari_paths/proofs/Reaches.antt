@@ -61,8 +61,3 @@ reach_over_more bs i before between after z l first second r = record {
   out = omega (arith, ints, r.out, first.out_more z, second.out_more z, int_sum_more (out_over z) bs i no_border l);
   into = omega (arith, ints, r.into, first.into_more z, second.into_more z, int_sum_more (into_over z) bs i no_border l);
 }
-
-pub reach_of_none : (rs : List Reach) (z : ℕ) → z < length rs → All (IsReach 0) rs → IsReachOf [] z (reach_at rs z)
-reach_of_none rs z l a =
-    let r = a z no_reach l in
-    record { out = omega (arith, ints, r.out.0, r.out.1); into = omega (arith, ints, r.into.0, r.into.1) }

@@ -47,24 +47,6 @@ providers-there bids numbers n all there =
     all-once (λ place. place < n) (map (λ i. (bid_numbered bids i).provider) numbers)
     (All-map (λ place. place < n) (λ i. (bid_numbered bids i).provider) numbers (λ k d below. all _ _ (there k d below)))
 
--- more places without a mark change nothing
-padded : (xs : List Bool) (k p : ℕ) → get_or (xs ++ replicate k false) p false ≡ get_or xs p false
-padded [] zero p = refl
-padded [] (suc k) zero = refl
-padded [] (suc k) (suc p) = padded [] k p
-padded (x ∷ xs) k zero = refl
-padded (x ∷ xs) k (suc p) = padded xs k p
-
-pub marked-longer : (places : List ℕ) (marks : List Bool) (n : ℕ) → length marks ≤ n → AreMarked places marks → AreMarked places (take n marks ++ replicate (n - length marks) false)
-marked-longer places marks n long marked p = ap (λ (bs : List Bool). get_or (bs ++ replicate (n - length marks) false) p false) (take_all n marks long) ∙ padded marks (n - length marks) p ∙ marked p
-
--- one more place is marked
-pub marked-more : (places : List ℕ) (marks : List Bool) (place : ℕ) → place < length marks → AreMarked places marks → AreMarked (places ++ place ∷ []) (set marks place true)
-marked-more places marks place there marked p = by (place == p) refl ∙ sym (list_any-append (λ m. m == p) places (place ∷ []))
-  where
-    listed : Bool
-    listed = list_any (λ m. m == p) places
-
     by : (b : Bool) → (place == p) ≡ b → get_or (set marks place true) p false ≡ (listed || (place == p || false))
     by true e =
         let here : get_or (set marks place true) p false ≡ true = subst (λ (q : ℕ). get_or (set marks place true) q false ≡ true) (eqb-true place p e) (get_or-set_same marks place true false there) in

@@ -44,19 +44,6 @@ pub gain_first : (n : ℕ) (p q : ℤ) (rs : List Rung) → q ≡ p → n ≤ le
 gain_first n p q rs e l below rest =
     subst (λ (x : ℤ). last_of (gain_of x) n (pos 0) rs no_rung ≡ gain_from x (pos 0) rs) e (sym (last_below_first (λ (r : Rung). r.price) (gain_of q) n q (pos 0) rs no_rung l below rest))
 
-zero_gain : (p : ℤ) → pos 0 ≡ p *ℤ pos 0 -ℤ pos 0
-zero_gain p = omega (arith, ints)
-
--- of no offers
-pub no_ladder : (z : ℕ) → IsLadderOf z [] []
-no_ladder z = record {
-  rising = λ i j d le l. absurd (omega arith);
-  small = λ k d l. absurd (omega arith);
-  cheap = λ p h k d l. absurd (omega arith);
-  whole = λ p h. zero_gain p;
-  gain = λ p. refl;
-}
-
 last_push : (rs : List Rung) (r : Rung) → last_rung (rs ++ r ∷ []) ≡ r
 last_push rs r = get_or_push rs r no_rung (length (rs ++ r ∷ []) - 1) (omega (arith, length-append rs (r ∷ [])))
 

@@ -35,14 +35,6 @@ closed_at m w word f (Some leaf) is l e = closing_leaf_holds m word w f leaf is 
 
 -- ---- one item
 
--- the next item is taken out
-pub item_taken : (m : Market) (w : ℕ) (x : Prefix) (item : TreeItem) (done left more : List TreeItem) → IsCutting m w done more (Some x) → more ≡ left ++ item ∷ [] → IsAtItem m w x item done left
-item_taken m w x item done left more h e = record {
-  before = h.before;
-  after = subst (AreParts m (IsOldLeaf m w) (left_at m.gates (Some x))) (ap reverse e ∙ popped left item) h.after;
-  feasible = h.feasible;
-}
-
 -- a leaf takes the place of the item and of what stands below it
 pub leaf_done : (m : Market) (w : ℕ) (x : Prefix) (item : TreeItem) (leaf : LeafRecord) (done left new_done new_left : List TreeItem) (next : Option Prefix)
     → IsAtItem m w x item done left → IsOldLeaf m w (word_of x) leaf → new_done ≡ done ++ Leaf leaf ∷ []
@@ -208,18 +200,6 @@ pub ends_at_last : (m : Market) (w : ℕ) (word : List Bool) (left : List TreeIt
 ends_at_last m w word left h = none_left_below m.gates word h.below h.left_is
 
 -- ---- the start
-
-pub cutting_started : (m : Market) (w : ℕ) (tree done left : List TreeItem) (next : Option Prefix)
-    → AreParts m (IsOldLeaf m w) ([] ∷ []) tree → done ≡ [] → reverse left ≡ tree
-    → IsSomeAnd next (λ x. (word_of x ≡ []) × IsCleared x) → IsCutting m w done left next
-cutting_started m w tree done left None h d l n = absurd n
-cutting_started m w tree done left (Some x) h d l n =
-    let first : left_at m.gates (Some x) ≡ [] ∷ [] = ap (λ (u : List Bool). u ∷ waiting_after m.gates u) n.0 in
-    record {
-      before = subst (λ (ds : List TreeItem). LeavesWords m (IsOldLeaf m w) ([] ∷ []) ds (left_at m.gates (Some x))) (sym d) (sym first);
-      after = subst (λ (ws : List (List Bool)). AreParts m (IsOldLeaf m w) ws (reverse left)) (sym first) (subst (AreParts m (IsOldLeaf m w) ([] ∷ [])) (sym l) h);
-      feasible = record { word = subst (IsFeasibleWord m.gates) (sym n.0) (nothing_opened m.gates); rest = n.1 };
-    }
 
 -- at its end all that is done is the tree
 pub cutting_ended : (m : Market) (w : ℕ) (done left : List TreeItem) → IsCutting m w done left None → AreParts m (IsOldLeaf m w) ([] ∷ []) done

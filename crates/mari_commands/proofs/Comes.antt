@@ -93,16 +93,10 @@ module _ (asked : Option Asked) (pages : Pages) where
   of-books o refusal folder w (Starves e) r h = starving (IsRefusal refusal) o e
 
   migrated-again : (o : Outcome) (refusal : Refusal) (part : FilePart) (books : Books) → IsMigrated books part o → books.limits ≢ None → refusal ≡ already_two → Comes (IsRefusal refusal) o
-  migrated-again NoCommand refusal part books is again e = absurd is
-  migrated-again (Day job) refusal part books is again e = absurd is
-  migrated-again (Feeds folder) refusal part books is again e = absurd is
-  migrated-again (Joins quarters) refusal part books is again e = absurd is
-  migrated-again (Values v) refusal part books is again e = absurd is
   migrated-again (Text t) refusal part books (first, spelled) again e = absurd (again first)
-  migrated-again (Invalid run n) refusal part books is again e = absurd is
-  migrated-again (NoPage n why) refusal part books is again e = absurd is
   migrated-again (Refused r) refusal part books (second, same) again e = inl (ap (λ x. Refused x) (same ∙ sym e))
   migrated-again NoMemory refusal part books is again e = inr tt
+  migrated-again _ refusal part books is again e = absurd is
 
   of-version : (o : Outcome) (refusal : Refusal) (folder : List ℕ) (part : FilePart) (books : Books)
       → Says asked pages o → asked ≡ Some (Migrate folder part) → HasBooks pages folder books → books.limits ≢ None
@@ -151,11 +145,6 @@ module _ (asked : Option Asked) (pages : Pages) where
 
   -- the fault that is reported of its text
   text-refused : (o : Outcome) (books : Books) (page : List ℕ) (f : TextFault) → CheckStates books (Some page) o → IsReportedFault page f → Comes (IsRefusal (text_refusal f)) o
-  text-refused NoCommand books page f states bad = absurd states
-  text-refused (Day job) books page f states bad = absurd states
-  text-refused (Feeds folder) books page f states bad = absurd states
-  text-refused (Joins quarters) books page f states bad = absurd states
-  text-refused (Values v) books page f states bad = absurd states
   text-refused (Text t) books page f (m, u, (short, (p, read, valid)), spelled) bad = absurd (no-fault-of-text page p f read (reported-first page f bad))
   text-refused (Invalid run n) books page f (short, (p, read, more)) bad = absurd (no-fault-of-text page p f read (reported-first page f bad))
   text-refused (NoPage n fetch.Failed) books page f states bad = inr tt
@@ -164,6 +153,7 @@ module _ (asked : Option Asked) (pages : Pages) where
   text-refused (NoPage n fetch.Memory) books page f states bad = inr tt
   text-refused (Refused refusal) books page f (g, other, is) bad = inl (ap (λ x. Refused x) (is ∙ ap text_refusal (one-fault page g f (reported-first page g other) (reported-first page f bad))))
   text-refused NoMemory books page f states bad = inr tt
+  text-refused _ books page f states bad = absurd states
 
   pub text-comes : (o : Outcome) (page : List ℕ) (f : TextFault) → Says asked pages o → RefusesText asked pages page f → Comes (IsRefusal (text_refusal f)) o
   text-comes o page f s r = elim (checked-comes o r.checked.folder r.books s r.checked.check r.checked.gives)
@@ -200,11 +190,6 @@ module _ (asked : Option Asked) (pages : Pages) where
   not-held NoMemory books states = inr tt
 
   too-long : (o : Outcome) (books : Books) (page : List ℕ) → CheckStates books (Some page) o → IsTooLong page → Comes (IsGapOf OverLimit) o
-  too-long NoCommand books page states long = absurd states
-  too-long (Day job) books page states long = absurd states
-  too-long (Feeds folder) books page states long = absurd states
-  too-long (Joins quarters) books page states long = absurd states
-  too-long (Values v) books page states long = absurd states
   too-long (Text t) books page (m, u, (short, (p, read, valid)), spelled) long = absurd (omega (arith, long.longer, short))
   too-long (Invalid run n) books page (short, (p, read, more)) long = absurd (omega (arith, long.longer, short))
   too-long (NoPage n fetch.Failed) books page states long = inr tt
@@ -213,6 +198,7 @@ module _ (asked : Option Asked) (pages : Pages) where
   too-long (NoPage n fetch.Memory) books page states long = inr tt
   too-long (Refused refusal) books page (f, bad, is) long = absurd (long-none page f long bad)
   too-long NoMemory books page states long = inr tt
+  too-long _ books page states long = absurd states
 
   -- that isn't the publication that is printed as a feed or valued
   abbrev IsOfFiles : ℕ → Gap → Outcome → Type 0
@@ -278,11 +264,6 @@ module _ (asked : Option Asked) (pages : Pages) where
 
   -- a publication that is read
   verdict-of : (o : Outcome) (books : Books) (page : List ℕ) (p : Publication) → CheckStates books (Some page) o → IsText page p → length page ≤ most_given → Comes IsAVerdict o
-  verdict-of NoCommand books page p states is short = absurd states
-  verdict-of (Day job) books page p states is short = absurd states
-  verdict-of (Feeds folder) books page p states is short = absurd states
-  verdict-of (Joins quarters) books page p states is short = absurd states
-  verdict-of (Values v) books page p states is short = absurd states
   verdict-of (Text t) books page p states is short = inl tt
   verdict-of (Invalid run n) books page p states is short = inl tt
   verdict-of (NoPage n fetch.Failed) books page p states is short = inr tt
@@ -291,6 +272,7 @@ module _ (asked : Option Asked) (pages : Pages) where
   verdict-of (NoPage n fetch.Memory) books page p states is short = inr tt
   verdict-of (Refused refusal) books page p (f, bad, same) is short = absurd (no-fault-of-text page p f is (reported-first page f bad))
   verdict-of NoMemory books page p states is short = inr tt
+  verdict-of _ books page p states is short = absurd states
 
   pub verdict-comes : (o : Outcome) → Says asked pages o → IsReadable asked pages → Comes IsAVerdict o
   verdict-comes o s r = elim (checked-comes o r.checked.folder r.books s r.checked.check r.checked.gives)
@@ -298,16 +280,10 @@ module _ (asked : Option Asked) (pages : Pages) where
 
   -- a file that is migrated
   migrated-once : (o : Outcome) (part : FilePart) (books : Books) → IsMigrated books part o → books.limits ≡ None → Comes IsAText o
-  migrated-once NoCommand part books is first = absurd is
-  migrated-once (Day job) part books is first = absurd is
-  migrated-once (Feeds folder) part books is first = absurd is
-  migrated-once (Joins quarters) part books is first = absurd is
-  migrated-once (Values v) part books is first = absurd is
   migrated-once (Text t) part books is first = inl tt
-  migrated-once (Invalid run n) part books is first = absurd is
-  migrated-once (NoPage n why) part books is first = absurd is
   migrated-once (Refused r) part books (second, same) first = absurd (second first)
   migrated-once NoMemory part books is first = inr tt
+  migrated-once _ part books is first = absurd is
 
   pub migrated-comes : (o : Outcome) → Says asked pages o → IsMigratable asked pages → Comes IsAText o
   migrated-comes o (OfUsage e f) m = absurd (let x = m.migrate in cc)

@@ -53,19 +53,10 @@ module _ (shown : Option Pages) (late : Type 0) (before after : Option (List ℕ
   of-line Q text wanted (Starved e p) h = inr (inr (inr e))
 
   pub excused : (Q : Status → Type 0) (o : Outcome) → IsExcused o → Reported shown late o before after result → OrFault Q result
-  excused Q NoCommand x r = absurd x
-  excused Q (Day job) x r = absurd x
-  excused Q (Feeds folder) x r = absurd x
-  excused Q (Joins quarters) x r = absurd x
-  excused Q (Values v) x r = absurd x
-  excused Q (Text t) x r = absurd x
-  excused Q (Invalid run n) x r = absurd x
   excused Q (NoPage k fetch.Failed) x r = of-line Q (file_line (codes "readfault") k) status.ReadFault r (inr (inl refl))
-  excused Q (NoPage k fetch.Missing) x r = absurd x
-  excused Q (NoPage k fetch.TooLong) x r = absurd x
   excused Q (NoPage k fetch.Memory) x r = inr (inr (inr r.0))
-  excused Q (Refused refusal) x r = absurd x
   excused Q NoMemory x r = inr (inr (inr r.0))
+  excused Q _ x r = absurd x
 
   pub same-report : (o p : Outcome) → o ≡ p → Reported shown late o before after result → Reported shown late p before after result
   same-report o p e r = let P : Outcome → Type 0 = λ x. Reported shown late x before after result in subst P e r
@@ -83,32 +74,17 @@ module _ (shown : Option Pages) (late : Type 0) (before after : Option (List ℕ
   gap-of-answer o gap (inr x) r = excused (IsStatus (gap_status gap)) o x r
 
   text-report : (o : Outcome) → IsAText o → Reported shown late o before after result → OrFault (IsStatus status.Done) result
-  text-report NoCommand x r = absurd x
-  text-report (Day job) x r = absurd x
-  text-report (Feeds folder) x r = absurd x
-  text-report (Joins quarters) x r = absurd x
-  text-report (Values v) x r = absurd x
   text-report (Text t) x r = of-line (IsStatus status.Done) t.items status.Done r (inl refl)
-  text-report (Invalid run n) x r = absurd x
-  text-report (NoPage k why) x r = absurd x
-  text-report (Refused refusal) x r = absurd x
-  text-report NoMemory x r = absurd x
+  text-report _ x r = absurd x
 
   text-of-answer : (o : Outcome) → Comes IsAText o → Reported shown late o before after result → OrFault (IsStatus status.Done) result
   text-of-answer o (inl x) r = text-report o x r
   text-of-answer o (inr x) r = excused (IsStatus status.Done) o x r
 
   verdict-report : (o : Outcome) → IsAVerdict o → Reported shown late o before after result → OrFault IsVerdictStatus result
-  verdict-report NoCommand x r = absurd x
-  verdict-report (Day job) x r = absurd x
-  verdict-report (Feeds folder) x r = absurd x
-  verdict-report (Joins quarters) x r = absurd x
-  verdict-report (Values v) x r = absurd x
   verdict-report (Text t) x r = of-line IsVerdictStatus t.items status.Done r (inl (inl refl))
   verdict-report (Invalid run n) x r = of-line IsVerdictStatus (invalid_line run n) (status.Invalid run n) r (inl (inr (run, n, refl)))
-  verdict-report (NoPage k why) x r = absurd x
-  verdict-report (Refused refusal) x r = absurd x
-  verdict-report NoMemory x r = absurd x
+  verdict-report _ x r = absurd x
 
   verdict-of-answer : (o : Outcome) → Comes IsAVerdict o → Reported shown late o before after result → OrFault IsVerdictStatus result
   verdict-of-answer o (inl x) r = verdict-report o x r
@@ -158,20 +134,13 @@ module _ (shown : Option Pages) (late : Type 0) (before after : Option (List ℕ
   values-report : (o : Outcome) (books : Books) (more : ℕ) (page : Option (List ℕ)) (end : ValueEnd)
       → IsReportedValues books more page o → IsEndOf books page end → Reported shown late o before after result
       → OrFault (IsStatus (value_status end)) result
-  values-report NoCommand books more page end states is r = absurd states
-  values-report (Day job) books more page end states is r = absurd states
-  values-report (Feeds folder) books more page end states is r = absurd states
-  values-report (Joins quarters) books more page end states is r = absurd states
   values-report (Values v) books more page end states is r = by (states.1 end is)
     where
       by : EndsAs end v → OrFault (IsStatus (value_status end)) result
       by (inl e) = of-line (IsStatus (value_status end)) (v.text ++ value_line v.end) (value_status v.end) r (inl (ap value_status e))
       by (inr e) = of-line (IsStatus (value_status end)) (v.text ++ value_line v.end) (value_status v.end) r (inr (inl (ap value_status e)))
-  values-report (Text t) books more page end states is r = absurd states
-  values-report (Invalid run n) books more page end states is r = absurd states
-  values-report (NoPage k why) books more page end states is r = absurd states
-  values-report (Refused refusal) books more page end states is r = absurd states
   values-report NoMemory books more page end states is r = inr (inr (inr r.0))
+  values-report _ books more page end states is r = absurd states
 
   -- how a feed ends, by its page
   module _ (Q : Status → Type 0) (between : Option (List ℕ)) where
@@ -229,22 +198,16 @@ module _ (shown : Option Pages) (late : Type 0) (before after : Option (List ℕ
       → ReportsFeed end between after result → OrFault (IsStatus (gap_status gap)) result
   fed-gap None OverLimit g between end t r = absurd g
   fed-gap (Some page) NotHeld g between end t r = absurd g
-  fed-gap None NotHeld g between (Ok end) t r = absurd t
   fed-gap None NotHeld g between (Err (stop.Fetch fetch.Failed)) t r = fetch-failed (IsStatus status.Missing) between r
   fed-gap None NotHeld g between (Err (stop.Fetch fetch.Missing)) t r = wanted (IsStatus status.Missing) between (file_line (codes "missing") PUBLICATION) status.Missing refl r
-  fed-gap None NotHeld g between (Err (stop.Fetch fetch.TooLong)) t r = absurd t
-  fed-gap None NotHeld g between (Err (stop.Fetch fetch.Memory)) t r = absurd t
-  fed-gap None NotHeld g between (Err (stop.Text f)) t r = absurd t
-  fed-gap None NotHeld g between (Err stop.Sink) t r = absurd t
   fed-gap None NotHeld g between (Err stop.Memory) t r = inr (inr (inr r.0))
   fed-gap (Some page) OverLimit g between (Ok end) t r = absurd (let short = t.0 in omega (arith, g.longer, short))
   fed-gap (Some page) OverLimit g between (Err (stop.Fetch fetch.Failed)) t r = fetch-failed (IsStatus status.TooLong) between r
-  fed-gap (Some page) OverLimit g between (Err (stop.Fetch fetch.Missing)) t r = absurd t
   fed-gap (Some page) OverLimit g between (Err (stop.Fetch fetch.TooLong)) t r = wanted (IsStatus status.TooLong) between (file_line (codes "toolong") PUBLICATION) status.TooLong refl r
-  fed-gap (Some page) OverLimit g between (Err (stop.Fetch fetch.Memory)) t r = absurd t
   fed-gap (Some page) OverLimit g between (Err (stop.Text f)) t r = absurd (long-none page f g t.0)
   fed-gap (Some page) OverLimit g between (Err stop.Sink) t r = inr (inr (inl r.0))
   fed-gap (Some page) OverLimit g between (Err stop.Memory) t r = inr (inr (inr r.0))
+  fed-gap _ _ g between _ t r = absurd t
 
   module _ (asked : Option Asked) (pages : Pages) (is_shown : shown ≡ Some pages) (o : Outcome) (words : IsOfWords asked o) (says : Says asked pages o) (reported : Reported shown late o before after result) where
     -- what is said of the publication that is printed as a feed

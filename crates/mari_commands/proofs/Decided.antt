@@ -160,9 +160,4 @@ module _ (shown : Option Pages) (late : Type 0) (before after : Option (List ℕ
   decided-answer status.TooLong h =
       by-quarters (IsStatus status.TooLong) h.folder h.first h.last h.nodes h.workers h.words
       (by-gap before after result pages h.folder h.first h.last h.nodes h.is.0 OverLimit h.is.1)
-  decided-answer status.Unpublished h = absurd h
-  decided-answer status.Usage h = absurd h
-  decided-answer status.ReadFault h = absurd h
-  decided-answer status.WriteFault h = absurd h
-  decided-answer status.Memory h = absurd h
-  decided-answer (status.Invalid run fault) h = absurd h
+  decided-answer _ h = absurd h

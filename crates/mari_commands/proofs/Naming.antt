@@ -157,15 +157,11 @@ already-reportable = ((omega arith, omega arith), λ e. cc e)
 
 pub migrated-reportable : (books : Books) (part : FilePart) (o : Outcome) → IsMigrated books part o → IsReportable o
 migrated-reportable books part outcome.NoCommand is = tt
-migrated-reportable books part (outcome.Day job) is = absurd is
-migrated-reportable books part (outcome.Feed folder) is = absurd is
-migrated-reportable books part (outcome.Blocks quarters) is = absurd is
-migrated-reportable books part (outcome.Values v) is = absurd is
 migrated-reportable books part (outcome.Text text) is = tt
 migrated-reportable books part (outcome.Invalid run fault) is = tt
-migrated-reportable books part (outcome.NoPage file why) is = absurd is
 migrated-reportable books part (outcome.Refused refusal) is = rw is.1 already-reportable
 migrated-reportable books part outcome.Memory is = tt
+migrated-reportable books part _ is = absurd is
 
 -- and so it is by its refusal
 pub refusal-named : (fault : TextFault) (refusal : Refusal) → Some refusal ≡ refusal_of fault → IsReportable (outcome.Refused refusal)

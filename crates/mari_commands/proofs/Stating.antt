@@ -45,28 +45,15 @@ words-of-fault asked folder (why.Refused refusal) r named = ((folder, r), λ lin
 words-of-fault asked folder why.Memory r named = tt
 
 pub words-of-migrated : (folder : List ℕ) (part : FilePart) (books : Books) (o : Outcome) → IsMigrated books part o → IsOfWords (Some (Migrate folder part)) o
-words-of-migrated folder part books NoCommand is = absurd is
-words-of-migrated folder part books (Day job) is = absurd is
-words-of-migrated folder part books (Feeds other) is = absurd is
-words-of-migrated folder part books (Joins quarters) is = absurd is
-words-of-migrated folder part books (Values v) is = absurd is
 words-of-migrated folder part books (Text t) is = tt
-words-of-migrated folder part books (Invalid run n) is = absurd is
-words-of-migrated folder part books (NoPage n w) is = absurd is
 words-of-migrated folder part books (Refused refusal) is = ((folder, refl), λ lines. absurd (migrate-no-lines folder part lines))
 words-of-migrated folder part books NoMemory is = tt
+words-of-migrated folder part books _ is = absurd is
 
 pub words-of-summary : (number : ℕ) (o : Outcome) → IsSummarised number o → IsOfWords (Some (Generate number)) o
-words-of-summary number NoCommand is = absurd is
-words-of-summary number (Day job) is = absurd is
-words-of-summary number (Feeds folder) is = absurd is
-words-of-summary number (Joins quarters) is = absurd is
-words-of-summary number (Values v) is = absurd is
 words-of-summary number (Text t) is = is
-words-of-summary number (Invalid run n) is = absurd is
-words-of-summary number (NoPage n w) is = absurd is
-words-of-summary number (Refused refusal) is = absurd is
 words-of-summary number NoMemory is = tt
+words-of-summary number _ is = absurd is
 
 pub words-of-text : (folder : List ℕ) (f : TextFault) → IsOfWords (Some (Check folder)) (text_outcome f)
 words-of-text folder (text_fault.BadLine n) = ((folder, refl), λ lines. absurd (check-no-lines folder lines))

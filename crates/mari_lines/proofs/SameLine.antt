@@ -1,5 +1,7 @@
 -- Lines that are spelled alike are the same.
 use Rattle.std.proofs.Common.{◌≡◌, ◌≤◌, ◌<◌, ◌^◌, ◌+◌, ℕ, Bool, true, false, eqb, ◌==◌, if◌then◌else◌, fold, ◌*◌, List, [], ◌∷◌, ◌++◌, drop, get_or, map, ℤ, Result, Ok, Err, refl, sym, ap, ◌∙◌, arith}
+use Rattle.std.proofs.lemmas.Slice.Eq.{bytes_eq-Decides}
+use Rattle.std.specs.Str.{bytes_eq}
 use Rattle.std.proofs.lemmas.Fmt.{decimal_injective}
 use Rattle.std.specs.List.{slice_split}
 use Rattle.std.specs.Fmt.{decimal, signed_decimal}
@@ -31,38 +33,34 @@ use Rattle.mari_lines.proofs.Graphic.{spelled, spelled_split}
 use Rattle.mari_lines.proofs.Splits.{some_words}
 use Rattle.mari_lines.proofs.LineWords.{small_price, words_of_line}
 
--- a number for each first word, and the first word of a number
-abbrev mark : List ℕ → ℕ
-mark text = fold (λ n b. 31 * n + b) 0 text
+-- texts that are the same don't differ by the test of their bytes
+text_apart : (xs ys : List ℕ) → xs ≡ ys → bytes_eq xs ys ≡ false → ⊥
+text_apart xs ys e apart = let yes : bytes_eq xs ys ≡ true = (bytes_eq-Decides xs ys).1 e in absurd cc
 
-abbrev keyword_at : ℕ → Keyword
-keyword_at n = if n == 3344075 then first.Mari else (if n == 113291 then first.Run else (if n == 108607358092 then first.Welfare else (if n == 3744684 then first.Zone else (if n == 2911663148 then first.Border else (if n == 97533 then first.Bid else (if n == 2959534667 then first.Demand else (if n == 3568542 then first.Tree else (if n == 2913936802 then first.Branch else (if n == 93927806 then first.Bound else (if n == 98882 then first.Cut else (if n == 2825508432850 then first.Conflict else (if n == 3123 then first.At else (if n == 97527045 then first.Flows else (if n == 108553 then first.Mws else (if n == 3156300408996 then first.Operator else (if n == 3185878238705 then first.Provider else (if n == 100571 then first.End else (if n == 2922895723783564508429 then first.TotalOperator else (if n == 2922895723813142338138 then first.TotalProvider else (first.Done))))))))))))))))))))
-
-at_mark : (k : Keyword) → keyword_at (mark (keyword_text k)) ≡ k
-at_mark first.Mari = refl
-at_mark first.Run = refl
-at_mark first.Welfare = refl
-at_mark first.Zone = refl
-at_mark first.Border = refl
-at_mark first.Bid = refl
-at_mark first.Demand = refl
-at_mark first.Tree = refl
-at_mark first.Branch = refl
-at_mark first.Bound = refl
-at_mark first.Cut = refl
-at_mark first.Conflict = refl
-at_mark first.At = refl
-at_mark first.Flows = refl
-at_mark first.Mws = refl
-at_mark first.Operator = refl
-at_mark first.Provider = refl
-at_mark first.End = refl
-at_mark first.TotalOperator = refl
-at_mark first.TotalProvider = refl
-at_mark first.Done = refl
-
+-- keywords with the same text are the same
 pub same_keyword : (k m : Keyword) → keyword_text k ≡ keyword_text m → k ≡ m
-same_keyword k m e = sym (at_mark k) ∙ ap (λ (t : List ℕ). keyword_at (mark t)) e ∙ at_mark m
+same_keyword first.Mari first.Mari e = refl
+same_keyword first.Run first.Run e = refl
+same_keyword first.Welfare first.Welfare e = refl
+same_keyword first.Zone first.Zone e = refl
+same_keyword first.Border first.Border e = refl
+same_keyword first.Bid first.Bid e = refl
+same_keyword first.Demand first.Demand e = refl
+same_keyword first.Tree first.Tree e = refl
+same_keyword first.Branch first.Branch e = refl
+same_keyword first.Bound first.Bound e = refl
+same_keyword first.Cut first.Cut e = refl
+same_keyword first.Conflict first.Conflict e = refl
+same_keyword first.At first.At e = refl
+same_keyword first.Flows first.Flows e = refl
+same_keyword first.Mws first.Mws e = refl
+same_keyword first.Operator first.Operator e = refl
+same_keyword first.Provider first.Provider e = refl
+same_keyword first.End first.End e = refl
+same_keyword first.TotalOperator first.TotalOperator e = refl
+same_keyword first.TotalProvider first.TotalProvider e = refl
+same_keyword first.Done first.Done e = refl
+same_keyword k m e = absurd (text_apart (keyword_text k) (keyword_text m) e refl)
 
 below : (m n most : ℕ) → m ≤ most → n ≤ most → most < 2 ^ 64 → decimal m ≡ decimal n → m ≡ n
 below m n most lm ln lt e = decimal_injective m n (omega arith) (omega arith) e
@@ -87,54 +85,26 @@ side In In e = refl
 side _ _ e = absurd cc
 
 -- records with the same fields are the same
-abbrev made_heading : ℕ → ℕ → Bool → Heading
-made_heading x0 x1 x2 = record { run = x0; quarter = x1; direct = x2 }
-
 same_heading : (g h : Heading) → g.run ≡ h.run → g.quarter ≡ h.quarter → g.direct ≡ h.direct → g ≡ h
-same_heading g h e0 e1 e2 = ap (λ (x : ℕ). made_heading x g.quarter g.direct) e0 ∙ ap (λ (x : ℕ). made_heading h.run x g.direct) e1 ∙ ap (λ (x : Bool). made_heading h.run h.quarter x) e2
-
-abbrev made_zoneline : List ℕ → Cents → Cents → Cents → ℕ → ZoneLine
-made_zoneline x0 x1 x2 x3 x4 = record { name = x0; price = x1; least = x2; greatest = x3; area = x4 }
+same_heading g h e0 e1 e2 = grind arith
 
 same_zoneline : (g h : ZoneLine) → g.name ≡ h.name → g.price ≡ h.price → g.least ≡ h.least → g.greatest ≡ h.greatest → g.area ≡ h.area → g ≡ h
-same_zoneline g h e0 e1 e2 e3 e4 =
-    ap (λ (x : List ℕ). made_zoneline x g.price g.least g.greatest g.area) e0 ∙ ap (λ (x : Cents). made_zoneline h.name x g.least g.greatest g.area)
-    e1 ∙ ap (λ (x : Cents). made_zoneline h.name h.price x g.greatest g.area) e2 ∙ ap (λ (x : Cents). made_zoneline h.name h.price h.least x g.area)
-    e3 ∙ ap (λ (x : ℕ). made_zoneline h.name h.price h.least h.greatest x) e4
-
-abbrev made_borderline : List ℕ → List ℕ → ℤ → Quarters → BorderLine
-made_borderline x0 x1 x2 x3 = record { from = x0; to = x1; flow = x2; rent = x3 }
+same_zoneline g h e0 e1 e2 e3 e4 = grind arith
 
 same_borderline : (g h : BorderLine) → g.from ≡ h.from → g.to ≡ h.to → g.flow ≡ h.flow → g.rent ≡ h.rent → g ≡ h
-same_borderline g h e0 e1 e2 e3 =
-    ap (λ (x : List ℕ). made_borderline x g.to g.flow g.rent) e0 ∙ ap (λ (x : List ℕ). made_borderline h.from x g.flow g.rent) e1 ∙ ap
-    (λ (x : ℤ). made_borderline h.from h.to x g.rent) e2 ∙ ap (λ (x : Quarters). made_borderline h.from h.to h.flow x) e3
-
-abbrev made_bidline : List ℕ → ℕ → BidLine
-made_bidline x0 x1 = record { id = x0; mw = x1 }
+same_borderline g h e0 e1 e2 e3 = grind arith
 
 same_bidline : (g h : BidLine) → g.id ≡ h.id → g.mw ≡ h.mw → g ≡ h
-same_bidline g h e0 e1 = ap (λ (x : List ℕ). made_bidline x g.mw) e0 ∙ ap (λ (x : ℕ). made_bidline h.id x) e1
-
-abbrev made_moneyline : List ℕ → Quarters → Quarters → Quarters → MoneyLine
-made_moneyline x0 x1 x2 x3 = record { name = x0; payment = x1; rent = x2; net = x3 }
+same_bidline g h e0 e1 = grind arith
 
 same_moneyline : (g h : MoneyLine) → g.name ≡ h.name → g.payment ≡ h.payment → g.rent ≡ h.rent → g.net ≡ h.net → g ≡ h
-same_moneyline g h e0 e1 e2 e3 =
-    ap (λ (x : List ℕ). made_moneyline x g.payment g.rent g.net) e0 ∙ ap (λ (x : Quarters). made_moneyline h.name x g.rent g.net) e1 ∙ ap
-    (λ (x : Quarters). made_moneyline h.name h.payment x g.net) e2 ∙ ap (λ (x : Quarters). made_moneyline h.name h.payment h.rent x) e3
-
-abbrev made_amountline : List ℕ → Quarters → AmountLine
-made_amountline x0 x1 = record { name = x0; amount = x1 }
+same_moneyline g h e0 e1 e2 e3 = grind arith
 
 same_amountline : (g h : AmountLine) → g.name ≡ h.name → g.amount ≡ h.amount → g ≡ h
-same_amountline g h e0 e1 = ap (λ (x : List ℕ). made_amountline x g.amount) e0 ∙ ap (λ (x : Quarters). made_amountline h.name x) e1
-
-abbrev made_cut : CutSide → List ℕ → Cut
-made_cut x0 x1 = record { side = x0; zones = x1 }
+same_amountline g h e0 e1 = grind arith
 
 same_cut : (g h : Cut) → g.side ≡ h.side → g.zones ≡ h.zones → g ≡ h
-same_cut g h e0 e1 = ap (λ (x : CutSide). made_cut x g.zones) e0 ∙ ap (λ (x : List ℕ). made_cut h.side x) e1
+same_cut g h e0 e1 = grind arith
 
 heading : (g h : Heading) → IsHeading g → IsHeading h → decimal g.run ≡ decimal h.run → decimal g.quarter ≡ decimal h.quarter → kind_text g.direct ≡ kind_text h.direct → g ≡ h
 heading g h rg rh er eq ed = same_heading g h (below g.run h.run 1000 rg.0.1 rh.0.1 (omega arith) er) (below g.quarter h.quarter 400 rg.1.1 rh.1.1 (omega arith) eq) (kind g.direct h.direct ed)

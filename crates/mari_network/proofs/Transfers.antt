@@ -39,10 +39,7 @@ pub orders_within : (bounds : Order → Span) (os : List Order) (xs : List ℤ) 
 orders_within bounds [] [] [] r w = tt
 orders_within bounds (o ∷ os) (x ∷ xs) (q ∷ qs) r w =
     (trade_within o.side (bounds o) q (subst (λ (v : ℤ). least_put o.side (bounds o) ≤ℤ v) r.0 w.0.least) (subst (λ (v : ℤ). v ≤ℤ most_put o.side (bounds o)) r.0 w.0.most), orders_within bounds os xs qs r.1 w.1)
-orders_within bounds [] [] (q ∷ qs) r w = absurd r
-orders_within bounds [] (x ∷ xs) qs r w = absurd r
-orders_within bounds (o ∷ os) [] qs r w = absurd r
-orders_within bounds (o ∷ os) (x ∷ xs) [] r w = absurd r
+orders_within bounds _ _ _ r w = absurd r
 
 pub orders_tight : (bounds : Order → Span) (n gates : ℕ) (p : ℕ → ℤ) (ps : List Cents) (os : List Order) (xs : List ℤ) (qs : List ℕ)
     → ((z : ℕ) → z < n → price_at ps z ≡ capped (p z)) → All (IsValidOrder n gates) os → ArePuts os xs qs
@@ -54,18 +51,12 @@ orders_tight bounds n gates p ps (o ∷ os) (x ∷ xs) (q ∷ qs) e v r t =
           (trade_tight o.side o.price.0 (p o.zone) (bounds o) q o_valid.price (subst (λ (v : ℤ). least_put o.side (bounds o) <ℤ v → o.price.0 ≤ℤ p o.zone) r.0 t.0.less) (subst (λ (v : ℤ). v <ℤ most_put o.side (bounds o) → p o.zone ≤ℤ o.price.0) r.0 t.0.more)),
       orders_tight bounds n gates p ps os xs qs e (All-tail (IsValidOrder n gates) o os v) r.1 t.1,
     )
-orders_tight bounds n gates p ps [] [] (q ∷ qs) e v r t = absurd r
-orders_tight bounds n gates p ps [] (x ∷ xs) qs e v r t = absurd r
-orders_tight bounds n gates p ps (o ∷ os) [] qs e v r t = absurd r
-orders_tight bounds n gates p ps (o ∷ os) (x ∷ xs) [] e v r t = absurd r
+orders_tight bounds n gates p ps _ _ _ e v r t = absurd r
 
 pub orders_into : (z : ℕ) (bounds : Order → Span) (os : List Order) (xs : List ℤ) (qs : List ℕ) → ArePuts os xs qs → sum_along (put_into z) os qs ≡ sum_along (slot_into z) (slots_of bounds os) xs
 orders_into z bounds [] [] [] r = refl
 orders_into z bounds (o ∷ os) (x ∷ xs) (q ∷ qs) r = omega (arith, ints, orders_into z bounds os xs qs r.1, ap (λ (v : ℤ). if o.zone == z then v else pos 0) r.0)
-orders_into z bounds [] [] (q ∷ qs) r = absurd r
-orders_into z bounds [] (x ∷ xs) qs r = absurd r
-orders_into z bounds (o ∷ os) [] qs r = absurd r
-orders_into z bounds (o ∷ os) (x ∷ xs) [] r = absurd r
+orders_into z bounds _ _ _ r = absurd r
 
 flow_tight : (pa pb ca cb f : ℤ) (limit back : ℕ) → ca ≡ capped pa → cb ≡ capped pb → (f <ℤ pos limit → pb ≤ℤ pa)
     → (neg_ℤ (pos back) <ℤ f → pa ≤ℤ pb) → (f <ℤ pos limit → cb ≤ℤ ca) × (neg_ℤ (pos back) <ℤ f → ca ≤ℤ cb)
@@ -143,10 +134,7 @@ trade_gain Withdraw c x q e = omega (arith, ints, ap (λ (v : ℤ). c *ℤ v) e,
 pub puts_gain : (os : List Order) (xs : List ℤ) (qs : List ℕ) → ArePuts os xs qs → sum_along amount_gain os xs ≡ sum_along order_gain os qs
 puts_gain [] [] [] r = refl
 puts_gain (o ∷ os) (x ∷ xs) (q ∷ qs) r = omega (arith, ints, puts_gain os xs qs r.1, trade_gain o.side o.price.0 x q r.0)
-puts_gain [] [] (q ∷ qs) r = absurd r
-puts_gain [] (x ∷ xs) qs r = absurd r
-puts_gain (o ∷ os) [] qs r = absurd r
-puts_gain (o ∷ os) (x ∷ xs) [] r = absurd r
+puts_gain _ _ _ r = absurd r
 
 -- prices within the cap
 pub capped_prices : (prices : List ℤ) → All (λ (c : Cents). IsPrice c.0) (map capped_cents prices)

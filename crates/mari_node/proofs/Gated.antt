@@ -49,10 +49,7 @@ put_at (o ∷ os) (x ∷ xs) (q ∷ qs) (suc k) p l = put_at os xs qs k p.1 (ome
 long_puts : (os : List Order) (xs : List ℤ) (qs : List ℕ) → ArePuts os xs qs → length qs ≡ length os
 long_puts [] [] [] p = refl
 long_puts (o ∷ os) (x ∷ xs) (q ∷ qs) p = omega (arith, long_puts os xs qs p.1)
-long_puts [] [] (q ∷ qs) p = absurd p
-long_puts [] (x ∷ xs) qs p = absurd p
-long_puts (o ∷ os) [] qs p = absurd p
-long_puts (o ∷ os) (x ∷ xs) [] p = absurd p
+long_puts _ _ _ p = absurd p
 
 pub written_long : (m : Market) (o : Optimum) (a : Activation) → IsWritten m o a → length a.mw ≡ length m.orders
 written_long m o a w = long_puts m.orders (take (length m.orders) o.amounts.items) a.mw w.puts
@@ -73,11 +70,8 @@ same_puts (o ∷ os) (x ∷ xs) (q ∷ qs) (s ∷ rs) p r =
     let first : q ≡ s = sym (abs_put o.side q) ∙ ap unsigned_abs (sym p.0 ∙ r.0) ∙ abs_put o.side s in
     ap (λ (t : ℕ). t ∷ qs) first ∙ ap (λ (ts : List ℕ). s ∷ ts) (same_puts os xs qs rs p.1 r.1)
 same_puts [] [] [] (s ∷ rs) p r = absurd r
-same_puts [] [] (q ∷ qs) rs p r = absurd p
-same_puts [] (x ∷ xs) qs rs p r = absurd p
-same_puts (o ∷ os) [] qs rs p r = absurd p
-same_puts (o ∷ os) (x ∷ xs) [] rs p r = absurd p
 same_puts (o ∷ os) (x ∷ xs) (q ∷ qs) [] p r = absurd r
+same_puts _ _ _ rs p r = absurd p
 
 pub written_once : (m : Market) (o : Optimum) (a b : Activation) → IsWritten m o a → IsWritten m o b → a ≡ b
 written_once m o a b v w =

@@ -99,16 +99,9 @@ returns-clause-joined g c = λ pages t h.
 
 -- whoever reports a feed or quarters was asked for them
 asked-for : (words : Option Asked) (o : Outcome) → IsOfWords words o → IsOwn o → AsksForFeed words ⊎ AsksForBlocks words
-asked-for words outcome.NoCommand w own = absurd own
-asked-for words (outcome.Day job) w own = absurd own
 asked-for words (outcome.Feed folder) w own = inl (string_bytes folder, w)
 asked-for words (outcome.Blocks quarters) w own = inr (string_bytes quarters.folder, quarters.first, quarters.last, quarters.nodes, quarters.workers, w)
-asked-for words (outcome.Values v) w own = absurd own
-asked-for words (outcome.Text text) w own = absurd own
-asked-for words (outcome.Invalid run fault) w own = absurd own
-asked-for words (outcome.NoPage file why) w own = absurd own
-asked-for words (outcome.Refused refusal) w own = absurd own
-asked-for words outcome.Memory w own = absurd own
+asked-for words _ w own = absurd own
 
 pub returns-clause-untouched : goal.returns-clause-untouched
 returns-clause-untouched g c = λ none.

@@ -1,0 +1,11 @@
+pub mod Duals
+pub mod Lines
+pub mod Ranges
+pub mod Reaching
+pub mod LeafLaws
+pub mod TreeLaws
+pub mod ReachTables
+pub mod LeafTables
+pub mod TreeWalk
+pub mod Exchanges
+pub mod Needs

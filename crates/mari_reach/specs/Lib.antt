@@ -1,0 +1,8 @@
+pub mod Flows
+pub mod State
+pub mod Leaf
+pub mod Tree
+pub mod Tables
+pub mod Values
+pub mod Places
+pub mod Twins

@@ -27,10 +27,10 @@ use Rattle.mari_market.proofs.Rising.{less}
 use Rattle.mari_market.proofs.Sums.{AllZip-both}
 use Rattle.mari_market.proofs.Prefixes.{opens_within}
 use Rattle.mari_reach.specs.declared.decisions.Decision.{Decision}
-use Rattle.mari_reach.specs.declared.decisions.Ending.{Ending}
-use Rattle.mari_reach.specs.declared.decisions.Ending.TheVariants.{Void, Bound, Cut}
+use Rattle.mari_reach.specs.declared.decisions.ReachLeaf.{ReachLeaf}
+use Rattle.mari_reach.specs.declared.decisions.ReachLeaf.TheVariants.{Void, Bound, Cut}
 use Rattle.mari_reach.specs.Flows.{FlowSpan, IsWithinSpans}
-use Rattle.mari_reach.specs.Leaf.{best_of_gate, dual_of, gain_of, is_needed, needed_word, EndingHolds, IsBoundFor}
+use Rattle.mari_reach.specs.Leaf.{best_of_gate, dual_of, gain_of, is_needed, needed_word, ReachLeafHolds, IsBoundFor}
 use Rattle.mari_reach.specs.State.{bounds_in, flows_in, opens, IsReached}
 use Rattle.mari_reach.proofs.Duals.{cut_has_none, dual_bounds}
 use Rattle.mari_reach.proofs.Reaching.{all_opened, or_either, within_bounds, void_has_none}
@@ -160,15 +160,15 @@ bound_is_early m w u ds ps a us v h r b =
 -- ---- leaves
 
 -- nothing that the state reaches is better than the cutoff
-pub ending_bounds : (m : Market) (w : ℤ) (u : List Bool) (ds : List Decision) (ending : Ending) (a : Activation) (us : List Cents) → IsValid m
-    → EndingHolds m w u ds ending → IsReached m ds a us → welfare_of m a ≤ℤ w
-ending_bounds m w u ds Void a us v h r = absurd (void_has_none m ds a us r h)
-ending_bounds m w u ds (Bound ps) a us v h r = omega (arith, ints, dual_bounds (bounds_in m ds) (flows_in m ds) m a ps.cents v (within_bounds m ds a us r), h.1.value)
-ending_bounds m w u ds (Cut cut) a us v h r = absurd (cut_has_none (bounds_in m ds) (flows_in m ds) m a cut.side cut.zones v (within_bounds m ds a us r) h.1.side)
+pub leaf_bounds : (m : Market) (w : ℤ) (u : List Bool) (ds : List Decision) (leaf : ReachLeaf) (a : Activation) (us : List Cents) → IsValid m
+    → ReachLeafHolds m w u ds leaf → IsReached m ds a us → welfare_of m a ≤ℤ w
+leaf_bounds m w u ds Void a us v h r = absurd (void_has_none m ds a us r h)
+leaf_bounds m w u ds (Bound ps) a us v h r = omega (arith, ints, dual_bounds (bounds_in m ds) (flows_in m ds) m a ps.cents v (within_bounds m ds a us r), h.1.value)
+leaf_bounds m w u ds (Cut cut) a us v h r = absurd (cut_has_none (bounds_in m ds) (flows_in m ds) m a cut.side cut.zones v (within_bounds m ds a us r) h.1.side)
 
 -- and what comes before the gate word is worse
-pub ending_is_early : (m : Market) (w : ℤ) (u : List Bool) (ds : List Decision) (ending : Ending) (a : Activation) (us : List Cents) → IsValid m
-    → EndingHolds m w u ds ending → IsReached m ds a us → ComesBefore (gate_word_of m a) u → welfare_of m a ≤ℤ (w -ℤ pos 1)
-ending_is_early m w u ds Void a us v h r b = absurd (void_has_none m ds a us r h)
-ending_is_early m w u ds (Bound ps) a us v h r b = bound_is_early m w u ds ps.cents a us v h.1 r b
-ending_is_early m w u ds (Cut cut) a us v h r b = absurd (cut_has_none (bounds_in m ds) (flows_in m ds) m a cut.side cut.zones v (within_bounds m ds a us r) h.1.side)
+pub leaf_is_early : (m : Market) (w : ℤ) (u : List Bool) (ds : List Decision) (leaf : ReachLeaf) (a : Activation) (us : List Cents) → IsValid m
+    → ReachLeafHolds m w u ds leaf → IsReached m ds a us → ComesBefore (gate_word_of m a) u → welfare_of m a ≤ℤ (w -ℤ pos 1)
+leaf_is_early m w u ds Void a us v h r b = absurd (void_has_none m ds a us r h)
+leaf_is_early m w u ds (Bound ps) a us v h r b = bound_is_early m w u ds ps.cents a us v h.1 r b
+leaf_is_early m w u ds (Cut cut) a us v h r b = absurd (cut_has_none (bounds_in m ds) (flows_in m ds) m a cut.side cut.zones v (within_bounds m ds a us r) h.1.side)

@@ -31,16 +31,16 @@ use Rattle.mari_market.proofs.Ints.{mul-neg_z, sub-mul_z}
 use Rattle.mari_market.proofs.Prefixes.{opens_within}
 use Rattle.mari_gates.proofs.Decisions.{length-decisions, opens-decisions}
 use Rattle.mari_reach.specs.declared.decisions.Decision.{Decision}
-use Rattle.mari_reach.specs.declared.decisions.Ending.{Ending}
-use Rattle.mari_reach.specs.declared.decisions.Ending.TheVariants.{Void, Bound, Cut}
-use Rattle.mari_reach.specs.declared.states.Reach.{Reach}
+use Rattle.mari_reach.specs.declared.decisions.ReachLeaf.{ReachLeaf}
+use Rattle.mari_reach.specs.declared.decisions.ReachLeaf.TheVariants.{Void, Bound, Cut}
+use Rattle.mari_reach.specs.declared.states.State.{State}
 use Rattle.mari_reach.specs.Flows.{FlowSpan, best_flow, best_flow_within, CannotBalanceWithin, IsCutWithin}
-use Rattle.mari_reach.specs.Leaf.{best_of_gate, dual_of, gain_of, is_needed, needed_word, EndingHolds, IsBoundFor}
+use Rattle.mari_reach.specs.Leaf.{best_of_gate, dual_of, gain_of, is_needed, needed_word, ReachLeafHolds, IsBoundFor}
 use Rattle.mari_reach.specs.State.{border_span, bounds_in, flows_in, opens}
-use Rattle.mari_reach.specs.Tables.{IsReachOf, flow_in, span_in}
-use Rattle.mari_reach.specs.Values.{EndingHoldsBy, IsBoundBy, carried_by, dual_in, is_needed_in, needed_in}
+use Rattle.mari_reach.specs.Tables.{IsStateOf, flow_in, span_in}
+use Rattle.mari_reach.specs.Values.{ReachLeafHoldsBy, IsBoundBy, carried_by, dual_in, is_needed_in, needed_in}
 use Rattle.mari_reach.proofs.LeafLaws.{opens_map}
-use Rattle.mari_reach.proofs.ReachTables.{live_by, same_flow, same_span, void_by}
+use Rattle.mari_reach.proofs.StateTables.{live_by, same_flow, same_span, void_by}
 
 -- ---- the order of words
 
@@ -72,7 +72,7 @@ none_differs x u n full same = (
 )
 
 -- the word by the tables, and a full prefix, gate by gate
-pub table_at : (m : Market) (r : Reach) (ps : List Cents) (g : ℕ) → g < length m.gates → opens_in (needed_in m r ps) g ≡ is_needed_in m r ps g
+pub table_at : (m : Market) (r : State) (ps : List Cents) (g : ℕ) → g < length m.gates → opens_in (needed_in m r ps) g ≡ is_needed_in m r ps g
 table_at m r ps g l = opens_map (is_needed_in m r ps) (length m.gates) g l
 
 pub prefix_at : (x : Prefix) (n g : ℕ) → x.length ≡ n → g < n → opens_in (word_of x) g ≡ bit_of x g
@@ -109,7 +109,7 @@ same_earned f g ps zones (b ∷ bs) e v =
     ap (λ (s : FlowSpan). best_flow_within (price_at ps b.to -ℤ price_at ps b.from) s +ℤ int_sum (best_flow f ps) bs) (e b (All-head (IsValidBorder zones) b bs v))
     ∙ ap (λ (x : ℤ). best_flow g ps b +ℤ x) (same_earned f g ps zones bs e (All-tail (IsValidBorder zones) b bs v))
 
-same_dual : (m : Market) (ds : List Decision) (r : Reach) (ps : List Cents) → IsValid m → IsReachOf m ds r → dual_in m r ps ≡ dual_of m ds ps
+pub same_dual : (m : Market) (ds : List Decision) (r : State) (ps : List Cents) → IsValid m → IsStateOf m ds r → dual_in m r ps ≡ dual_of m ds ps
 same_dual m ds r ps v h =
     ap (λ (x : ℤ). x +ℤ int_sum (best_flow (flow_in r) ps) m.borders) (same_best (span_in r) (bounds_in m ds) ps m.zones (length m.gates) m.orders (λ o k. same_span m ds r o h k) v.orders)
     ∙ ap (λ (x : ℤ). int_sum (best_order (bounds_in m ds) ps) m.orders +ℤ x) (same_earned (flow_in r) (flows_in m ds) ps m.zones m.borders (λ b k. same_flow m ds r b h k) v.borders)
@@ -121,15 +121,15 @@ same_gained h f g ps zones gates (o ∷ os) e v =
     ap (λ (s : Span). (if is_gate h o.gate then best_trade o.side o.price.0 (price_at ps o.zone) s else pos 0) +ℤ int_sum (best_of_gate h f ps) os) (e o (All-head (IsValidOrder zones gates) o os v))
     ∙ ap (λ (x : ℤ). best_of_gate h g ps o +ℤ x) (same_gained h f g ps zones gates os e (All-tail (IsValidOrder zones gates) o os v))
 
-same_needed : (m : Market) (ds : List Decision) (r : Reach) (ps : List Cents) (g : ℕ) → IsValid m → IsReachOf m ds r → g < length m.gates → is_needed_in m r ps g ≡ is_needed m ds ps g
+same_needed : (m : Market) (ds : List Decision) (r : State) (ps : List Cents) (g : ℕ) → IsValid m → IsStateOf m ds r → g < length m.gates → is_needed_in m r ps g ≡ is_needed m ds ps g
 same_needed m ds r ps g v h l =
     ap (λ (b : Bool). b || lt_z (pos 0) (gain_of (span_in r) m ps g)) (h.opened g l)
     ∙ ap (λ (x : ℤ). opens m.gates ds g || lt_z (pos 0) x) (same_gained g (span_in r) (bounds_in m ds) ps m.zones (length m.gates) m.orders (λ o k. same_span m ds r o h k) v.orders)
 
-same_word : (m : Market) (ds : List Decision) (r : Reach) (ps : List Cents) → IsValid m → IsReachOf m ds r → needed_in m r ps ≡ needed_word m ds ps
+same_word : (m : Market) (ds : List Decision) (r : State) (ps : List Cents) → IsValid m → IsStateOf m ds r → needed_in m r ps ≡ needed_word m ds ps
 same_word m ds r ps v h = same_map (is_needed_in m r ps) (is_needed m ds ps) (length m.gates) (λ g l. same_needed m ds r ps g v h l)
 
-bound_by : (m : Market) (w : ℤ) (u : List Bool) (ds : List Decision) (r : Reach) (ps : List Cents) → IsValid m → IsReachOf m ds r → IsBoundBy m w u r ps ↔ IsBoundFor m w u ds ps
+bound_by : (m : Market) (w : ℤ) (u : List Bool) (ds : List Decision) (r : State) (ps : List Cents) → IsValid m → IsStateOf m ds r → IsBoundBy m w u r ps ↔ IsBoundFor m w u ds ps
 bound_by m w u ds r ps v h =
     let value : dual_in m r ps ≡ dual_of m ds ps = same_dual m ds r ps v h in
     let word : needed_in m r ps ≡ needed_word m ds ps = same_word m ds r ps v h in (
@@ -195,14 +195,14 @@ same_cut f g p q m cut v e k h = record {
 -- ---- leaves
 
 -- a leaf holds by the tables exactly where it holds for the state
-pub ending_by : (m : Market) (w : ℤ) (u : List Bool) (ds : List Decision) (r : Reach) (ending : Ending) → IsValid m → IsReachOf m ds r
-    → EndingHoldsBy m w u r ending ↔ EndingHolds m w u ds ending
-ending_by m w u ds r Void v h = void_by m ds r h
-ending_by m w u ds r (Bound ps) v h = (
+pub leaf_by : (m : Market) (w : ℤ) (u : List Bool) (ds : List Decision) (r : State) (leaf : ReachLeaf) → IsValid m → IsStateOf m ds r
+    → ReachLeafHoldsBy m w u r leaf ↔ ReachLeafHolds m w u ds leaf
+leaf_by m w u ds r Void v h = void_by m ds r h
+leaf_by m w u ds r (Bound ps) v h = (
   λ b. ((live_by m ds r h).0 b.0, (bound_by m w u ds r ps.cents v h).0 b.1),
   λ b. ((live_by m ds r h).1 b.0, (bound_by m w u ds r ps.cents v h).1 b.1),
 )
-ending_by m w u ds r (Cut cut) v h = (
+leaf_by m w u ds r (Cut cut) v h = (
   λ c. ((live_by m ds r h).0 c.0, same_cut (span_in r) (bounds_in m ds) (flow_in r) (flows_in m ds) m cut v (λ o k. same_span m ds r o h k) (λ b k. same_flow m ds r b h k) c.1),
   λ c. ((live_by m ds r h).1 c.0, same_cut (bounds_in m ds) (span_in r) (flows_in m ds) (flow_in r) m cut v (λ o k. sym (same_span m ds r o h k)) (λ b k. sym (same_flow m ds r b h k)) c.1),
 )

@@ -4,8 +4,9 @@ pub mod Ranges
 pub mod Reaching
 pub mod LeafLaws
 pub mod TreeLaws
-pub mod ReachTables
+pub mod StateTables
 pub mod LeafTables
 pub mod TreeWalk
 pub mod Exchanges
 pub mod Needs
+pub mod RootLaws

@@ -4,8 +4,9 @@ use Rattle.std.proofs.lemmas.Bool.{cases_lt}
 use Rattle.std.proofs.lemmas.List.{get_or-replicate, get_or_past}
 use Rattle.std.proofs.Math.ListN.{replicate, length-replicate}
 use Rattle.std.proofs.lemmas.List.FromFn.{get_or-range_with_len, length-range_with_len}
-use Rattle.std.proofs.lemmas.List.Folds.{list_any_at, list_any_none}
+use Rattle.std.proofs.lemmas.List.Folds.{list_any-append, list_any_at, list_any_none}
 use Rattle.std.specs.List.{fold, list_any, range_with_len}
+use Rattle.mari_units.proofs.Lists.{range_more}
 use Rattle.mari_market.specs.Sums.{int_at}
 
 -- no number below n passes a test
@@ -17,6 +18,21 @@ none_in_range test n k = list_any_none test (range_with_len 0 n) (λ i d l.
 -- or one does
 pub one_in_range : (test : ℕ → Bool) (n h : ℕ) → h < n → test h ≡ true → list_any test (range_with_len 0 n) ≡ true
 one_in_range test n h l e = list_any_at test (range_with_len 0 n) h 0 (omega (arith, l, length-range_with_len 0 n)) (ap test (get_or-range_with_len 0 n h 0 l ∙ zero-add h) ∙ e)
+
+-- one number more that is tested
+pub any_more : (test : ℕ → Bool) (n : ℕ) → list_any test (range_with_len 0 (n + 1)) ≡ (list_any test (range_with_len 0 n) || test n)
+any_more test n =
+    let e : n + 1 ≡ suc n = omega arith in
+    ap (λ (k : ℕ). list_any test (range_with_len 0 k)) e ∙ ap (list_any test) (range_more 0 n n (zero-add n)) ∙ list_any-append test (range_with_len 0 n) (n ∷ [])
+    ∙ ap (λ (b : Bool). list_any test (range_with_len 0 n) || b) (or_none (test n))
+  where
+    or_none : (b : Bool) → (b || false) ≡ b
+    or_none true = refl
+    or_none false = refl
+
+pub or_assoc : (a b c : Bool) → ((a || b) || c) ≡ (a || (b || c))
+or_assoc true b c = refl
+or_assoc false b c = refl
 
 -- one item more in a fold over what is made of items
 pub fold_map_more : {X : Type 0} (f : ℤ → ℤ → ℤ) (h : X → ℤ) (a : ℤ) (xs : List X) (i : ℕ) (d : X) → i < length xs
@@ -35,6 +51,12 @@ fold_step f h a xs i d old new l e k = k ∙ ap (λ (x : ℤ). f x (h (get_or xs
 -- a table of one number
 pub all_one : (n z : ℕ) (x : ℤ) → z < n → int_at (replicate n x) z ≡ x
 all_one n z x l = get_or-replicate n z x _ l
+
+pub all_zero : (n z : ℕ) → int_at (replicate n (pos 0)) z ≡ pos 0
+all_zero n z = elim (cases_lt z n) [
+  | inl l ↦ all_one n z (pos 0) l
+  | inr l ↦ get_or_past (replicate n (pos 0)) z (pos 0) (omega (arith, length-replicate n (pos 0)))
+]
 
 pub all_from : (n z : ℕ) (x low : ℤ) → low ≤ℤ x → low ≤ℤ pos 0 → low ≤ℤ int_at (replicate n x) z
 all_from n z x low h k = elim (cases_lt z n) [

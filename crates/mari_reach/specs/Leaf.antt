@@ -12,8 +12,8 @@ use Rattle.mari_market.specs.First.{ComesBefore}
 use Rattle.mari_market.specs.Price.{ArePrices}
 use Rattle.mari_market.specs.Sums.{int_sum}
 use Rattle.mari_reach.specs.declared.decisions.Decision.{Decision}
-use Rattle.mari_reach.specs.declared.decisions.Ending.{Ending}
-use Rattle.mari_reach.specs.declared.decisions.Ending.TheVariants.{Void, Bound, Cut}
+use Rattle.mari_reach.specs.declared.decisions.ReachLeaf.{ReachLeaf}
+use Rattle.mari_reach.specs.declared.decisions.ReachLeaf.TheVariants.{Void, Bound, Cut}
 use Rattle.mari_reach.specs.Flows.{dual_value_within, IsCutWithin}
 use Rattle.mari_reach.specs.State.{bounds_in, flows_in, opens, IsVoid}
 
@@ -47,7 +47,7 @@ pub record IsBoundFor (m : Market) (cutoff : ℤ) (word : List Bool) (ds : List 
   pub early : dual_of m ds ps ≡ cutoff → ComesBefore (needed_word m ds ps) word → ⊥
 
 -- a leaf holds for a state at a cutoff, for a gate word: where the state is void only `Void` does
-abbrev pub EndingHolds : Market → ℤ → List Bool → List Decision → Ending → Type 0
-EndingHolds m cutoff word ds Void = IsVoid m ds
-EndingHolds m cutoff word ds (Bound potentials) = (IsVoid m ds → ⊥) × IsBoundFor m cutoff word ds potentials.cents
-EndingHolds m cutoff word ds (Cut cut) = (IsVoid m ds → ⊥) × IsCutWithin (bounds_in m ds) (flows_in m ds) m cut
+abbrev pub ReachLeafHolds : Market → ℤ → List Bool → List Decision → ReachLeaf → Type 0
+ReachLeafHolds m cutoff word ds Void = IsVoid m ds
+ReachLeafHolds m cutoff word ds (Bound potentials) = (IsVoid m ds → ⊥) × IsBoundFor m cutoff word ds potentials.cents
+ReachLeafHolds m cutoff word ds (Cut cut) = (IsVoid m ds → ⊥) × IsCutWithin (bounds_in m ds) (flows_in m ds) m cut

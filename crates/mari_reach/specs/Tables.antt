@@ -10,7 +10,7 @@ use Rattle.mari_market.specs.Sums.{int_at}
 use Rattle.mari_reach.specs.declared.decisions.Decision.{Decision}
 use Rattle.mari_reach.specs.declared.marks.Marks.{Marks}
 use Rattle.mari_reach.specs.declared.states.PriceBox.{PriceBox}
-use Rattle.mari_reach.specs.declared.states.Reach.{Reach}
+use Rattle.mari_reach.specs.declared.states.State.{State}
 use Rattle.mari_reach.specs.Flows.{FlowSpan}
 use Rattle.mari_reach.specs.State.{border_span, gains_within, high_of, loses_within, low_of, opens, reached_span, shuts, state_by}
 
@@ -44,27 +44,27 @@ pub record HasPrices (m : Market) (ds : List Decision) (box : PriceBox) : Type 0
   pub high : (z : ℕ) → z < m.zones → int_at box.high z ≡ high_of m ds z
 
 -- the tables are those of a state
-pub record IsReachOf (m : Market) (ds : List Decision) (r : Reach) : Type 0 where
+pub record IsStateOf (m : Market) (ds : List Decision) (r : State) : Type 0 where
   pub opened : HasOpened m ds r.opened
   pub shut : (g : ℕ) → g < length m.gates → opens_in r.shut g ≡ shuts m ds g
   pub prices : HasPrices m ds r.prices
 
 -- what is known of a gate by the tables
-abbrev pub state_in : Reach → ℕ → GateState
+abbrev pub state_in : State → ℕ → GateState
 state_in r g = state_by (opens_in r.opened g) (opens_in r.shut g)
 
 -- an order's bounds by the tables
-abbrev pub span_in : Reach → Order → Span
+abbrev pub span_in : State → Order → Span
 span_in r o = reached_span (state_in r) (gains_in r.prices o) (loses_in r.prices o) o.gate o
 
 -- a border's bounds by the tables
-abbrev pub flow_in : Reach → Border → FlowSpan
+abbrev pub flow_in : State → Border → FlowSpan
 flow_in r b = border_span (rises_in r.prices b) (falls_in r.prices b) b
 
 -- whether the tables have the gate as both open and closed
-abbrev pub is_torn : Reach → ℕ → Bool
+abbrev pub is_torn : State → ℕ → Bool
 is_torn r g = opens_in r.opened g && opens_in r.shut g
 
 -- whether the tables leave no price to the zone
-abbrev pub is_priceless : Reach → ℕ → Bool
+abbrev pub is_priceless : State → ℕ → Bool
 is_priceless r z = is_dearer_in r.prices z z

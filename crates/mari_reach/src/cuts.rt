@@ -10,7 +10,7 @@ ghost use Rattle.mari_market.specs.Market.{IsValid, IsValidOrder, IsValidBorder}
 ghost use Rattle.mari_market.specs.Sums.{int_sum};
 ghost use Rattle.mari_proofs.specs.NetInjections.{net_put, put_of, Exceeds};
 
-use crate::states::Reach;
+use crate::states::State;
 use mari_market::{Border, Cut, CutSide, MOST_ORDERS, Market, Order, Side, are_rising};
 use mari_units::{MOST_BORDERS, MOST_FLOW, MOST_GATES, MOST_MW, MOST_ZONES};
 
@@ -38,27 +38,27 @@ fn net_put(side: CutSide, order: &Order, span: (u32, u32)) -> i64
 }
 
 /// What an order of the set puts in at least, or at most; and 0 of any other.
-fn order_put(side: CutSide, zones: &[u32], order: &Order, reach: &Reach) -> i64
+fn order_put(side: CutSide, zones: &[u32], order: &Order, state: &State) -> i64
     requires { IsValidOrder MOST_ZONES MOST_GATES order.now }
-    ensures value { result ≡ put_of side (span_in reach.now) zones.now order.now }
+    ensures value { result ≡ put_of side (span_in state.now) zones.now order.now }
     ensures low { neg_ℤ (pos MOST_MW) ≤ℤ result }
     ensures high { result ≤ℤ pos MOST_MW }
 {
     if is_in(zones, order.zone) {
-        net_put(side, order, reach.span(order))
+        net_put(side, order, state.span(order))
     } else {
         0
     }
 }
 
 /// The most that a border carries out of the set, or into it.
-fn border_carries(side: CutSide, zones: &[u32], border: &Border, reach: &Reach) -> i64
+fn border_carries(side: CutSide, zones: &[u32], border: &Border, state: &State) -> i64
     requires { IsValidBorder MOST_ZONES border.now }
-    ensures value { result ≡ carried_by side (flow_in reach.now) zones.now border.now }
+    ensures value { result ≡ carried_by side (flow_in state.now) zones.now border.now }
     ensures low { neg_ℤ (pos MOST_FLOW) ≤ℤ result }
     ensures high { result ≤ℤ pos MOST_FLOW }
 {
-    let (least, greatest) = reach.flows(border);
+    let (least, greatest) = state.flows(border);
     match (is_in(zones, border.from), is_in(zones, border.to)) {
         (true, false) => match side {
             CutSide::Out => greatest,
@@ -73,31 +73,31 @@ fn border_carries(side: CutSide, zones: &[u32], border: &Border, reach: &Reach) 
 }
 
 /// What the orders of the set put in at least, or at most.
-fn orders_put(side: CutSide, zones: &[u32], orders: &[Order], reach: &Reach) -> i64
+fn orders_put(side: CutSide, zones: &[u32], orders: &[Order], state: &State) -> i64
     requires few { length orders.now ≤ MOST_ORDERS }
     requires orders { All (IsValidOrder MOST_ZONES MOST_GATES) orders.now }
-    ensures value { result ≡ int_sum (put_of side (span_in reach.now) zones.now) orders.now }
+    ensures value { result ≡ int_sum (put_of side (span_in state.now) zones.now) orders.now }
     ensures low { neg_ℤ (pos (MOST_ORDERS * MOST_MW)) ≤ℤ result }
     ensures high { result ≤ℤ pos (MOST_ORDERS * MOST_MW) }
 {
     let mut total = 0;
     for order in orders {
-        total += order_put(side, zones, order, reach);
+        total += order_put(side, zones, order, state);
     }
     total
 }
 
 /// The most that the borders carry out of the set, or into it.
-fn borders_carry(side: CutSide, zones: &[u32], borders: &[Border], reach: &Reach) -> i64
+fn borders_carry(side: CutSide, zones: &[u32], borders: &[Border], state: &State) -> i64
     requires few { length borders.now ≤ MOST_BORDERS }
     requires borders { All (IsValidBorder MOST_ZONES) borders.now }
-    ensures value { result ≡ int_sum (carried_by side (flow_in reach.now) zones.now) borders.now }
+    ensures value { result ≡ int_sum (carried_by side (flow_in state.now) zones.now) borders.now }
     ensures low { neg_ℤ (pos (MOST_BORDERS * MOST_FLOW)) ≤ℤ result }
     ensures high { result ≤ℤ pos (MOST_BORDERS * MOST_FLOW) }
 {
     let mut total = 0;
     for border in borders {
-        total += border_carries(side, zones, border, reach);
+        total += border_carries(side, zones, border, state);
     }
     total
 }
@@ -115,20 +115,20 @@ fn exceeds(side: CutSide, put: i64, carried: i64) -> bool
 }
 
 /// Whether the set has more than can leave it, or lacks more than can enter it.
-fn cannot_balance(market: &Market, reach: &Reach, side: CutSide, zones: &[u32]) -> bool
+fn cannot_balance(market: &Market, state: &State, side: CutSide, zones: &[u32]) -> bool
     requires { IsValid market.now }
-    ensures { IsTrue result ↔ CannotBalanceWithin (span_in reach.now) (flow_in reach.now) market.now side zones.now }
+    ensures { IsTrue result ↔ CannotBalanceWithin (span_in state.now) (flow_in state.now) market.now side zones.now }
 {
-    let put = orders_put(side, zones, market.orders.as_slice(), reach);
-    let carried = borders_carry(side, zones, market.borders.as_slice(), reach);
+    let put = orders_put(side, zones, market.orders.as_slice(), state);
+    let carried = borders_carry(side, zones, market.borders.as_slice(), state);
     exceeds(side, put, carried)
 }
 
 /// Whether a cut holds by the tables of a state.
-pub(crate) fn is_cut(market: &Market, reach: &Reach, cut: &Cut) -> bool
+pub(crate) fn is_cut(market: &Market, state: &State, cut: &Cut) -> bool
     requires { IsValid market.now }
-    ensures { IsTrue result ↔ IsCutWithin (span_in reach.now) (flow_in reach.now) market.now cut.now }
+    ensures { IsTrue result ↔ IsCutWithin (span_in state.now) (flow_in state.now) market.now cut.now }
 {
     let zones = cut.zones.as_slice();
-    are_rising(zones, market.zones) && cannot_balance(market, reach, cut.side, zones)
+    are_rising(zones, market.zones) && cannot_balance(market, state, cut.side, zones)
 }

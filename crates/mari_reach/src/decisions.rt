@@ -1,4 +1,8 @@
-//! Decisions of gates and prices, and trees of certificates below them.
+//! Decisions of gates and prices, and the items of a tree below them.
+
+ghost use Rattle.std.specs.Prelude.{◌≡◌};
+ghost use Rattle.mari_reach.specs.Places.{second_after};
+ghost use Rattle.mari_reach.specs.State.{first_of, second_of};
 
 use mari_market::{Cut, Prices};
 use mari_units::Cents;
@@ -23,9 +27,44 @@ pub enum Choice {
     OfPrice(u32, Cents),
 }
 
+impl Choice {
+    /// What its first child decides: the gate is closed, or the price is at most this one.
+    pub fn first(self) -> Decision
+        ensures { result ≡ first_of self }
+    {
+        match self {
+            Choice::OfGate(gate) => Decision::Gate(gate, false),
+            Choice::OfPrice(zone, price) => Decision::AtMost(zone, price),
+        }
+    }
+
+    /// What its second child decides: the gate is open, or the price is above this one.
+    pub fn second(self) -> Decision
+        ensures { result ≡ second_of self }
+    {
+        match self {
+            Choice::OfGate(gate) => Decision::Gate(gate, true),
+            Choice::OfPrice(zone, price) => Decision::Above(zone, price),
+        }
+    }
+}
+
+impl Decision {
+    /// What the second child decides where this is the decision of a first child.
+    pub(crate) fn second(self) -> Option<Decision>
+        ensures { result ≡ second_after self }
+    {
+        match self {
+            Decision::Gate(gate, false) => Some(Decision::Gate(gate, true)),
+            Decision::AtMost(zone, price) => Some(Decision::Above(zone, price)),
+            Decision::Gate(_, true) | Decision::Above(_, _) => None,
+        }
+    }
+}
+
 /// Why nothing better lies below a state.
 #[derive(Clone, Drop)]
-pub enum Ending {
+pub enum ReachLeaf {
     /// The decisions contradict each other.
     Void,
     /// Potentials whose dual value is low enough.
@@ -34,11 +73,11 @@ pub enum Ending {
     Cut(Cut),
 }
 
-/// A part of a tree in preorder: after a branch stand the parts of its children, closed or at most the price first.
+/// An item of a tree of states in preorder: after a branch stand the parts of its children, the first one's first.
 #[derive(Clone, Drop)]
-pub enum Part {
+pub enum ReachItem {
     /// A choice is made: the parts of the children follow.
     Branch(Choice),
     /// Nothing better lies below this state.
-    Leaf(Ending),
+    Leaf(ReachLeaf),
 }

@@ -4,7 +4,6 @@
 ghost use Rattle.std.specs.Prelude.{◌≡◌, ℤ, pos, ◌*◌, ◌-ℤ◌, ◌*ℤ◌, ◌≤ℤ◌, neg_ℤ, ◌≤◌, ◌<◌, length};
 ghost use Rattle.std.specs.List.{All};
 ghost use Rattle.mari_reach.specs.Flows.{best_flow};
-ghost use Rattle.mari_reach.specs.Leaf.{best_of_gate, gain_of};
 ghost use Rattle.mari_reach.specs.Tables.{flow_in, span_in};
 ghost use Rattle.mari_reach.specs.Values.{dual_in};
 ghost use Rattle.mari_market.specs.Dual.{gain_per_mw, best_within, best_border, best_order};
@@ -12,12 +11,12 @@ ghost use Rattle.mari_market.specs.Market.{IsValid, IsValidOrder, IsValidBorder}
 ghost use Rattle.mari_market.specs.Price.{IsCapped, IsPrice, ArePrices, price_at};
 ghost use Rattle.mari_market.specs.Sums.{int_sum};
 
-use crate::states::Reach;
+use crate::states::State;
 use mari_market::{Border, MOST_GAP, MOST_ORDERS, MOST_WORTH, Market, Order, Side};
 use mari_units::{Cents, MOST_BORDERS, MOST_FLOW, MOST_GATES, MOST_MW, MOST_ZONES};
 
-/// A number that no dual value is above, in quarter-cents.
-pub(crate) const MOST_VALUE: u64 = (MOST_ORDERS as u64 + MOST_BORDERS as u64) * MOST_WORTH;
+/// A number that no dual value is above, and whose negative none is below, in quarter-cents.
+pub const MOST_VALUE: u64 = (MOST_ORDERS as u64 + MOST_BORDERS as u64) * MOST_WORTH;
 
 /// What a quantity in MW gains, in quarter-cents, at a gain for each MW.
 fn amount(gap: i64, mw: u32) -> i64
@@ -67,16 +66,16 @@ fn best_within(gap: i64, span: (u32, u32)) -> i64
 }
 
 /// The most that an order gains at its zone's potential.
-fn best_order(order: &Order, reach: &Reach, potentials: &[Cents]) -> i64
+pub(crate) fn best_order(order: &Order, state: &State, potentials: &[Cents]) -> i64
     requires order { IsValidOrder (length potentials.now) MOST_GATES order.now }
     requires few { length potentials.now ≤ MOST_ZONES }
     requires potentials { All IsCapped potentials.now }
-    ensures value { result ≡ best_order (span_in reach.now) potentials.now order.now }
+    ensures value { result ≡ best_order (span_in state.now) potentials.now order.now }
     ensures low { neg_ℤ (pos MOST_WORTH) ≤ℤ result }
     ensures high { result ≤ℤ pos MOST_WORTH }
 {
     let gap = gap(order, potential_at(potentials, order.zone));
-    best_within(gap, reach.span(order))
+    best_within(gap, state.span(order))
 }
 
 /// A zone's potential.
@@ -118,19 +117,19 @@ fn best_border(border: &Border, potentials: &[Cents]) -> i64
 }
 
 /// The most that a border earns within its bounds.
-fn best_flow(border: &Border, reach: &Reach, potentials: &[Cents]) -> i64
+fn best_flow(border: &Border, state: &State, potentials: &[Cents]) -> i64
     requires border { IsValidBorder (length potentials.now) border.now }
     requires few { length potentials.now ≤ MOST_ZONES }
     requires potentials { All IsCapped potentials.now }
-    ensures value { result ≡ best_flow (flow_in reach.now) potentials.now border.now }
+    ensures value { result ≡ best_flow (flow_in state.now) potentials.now border.now }
     ensures low { neg_ℤ (pos MOST_WORTH) ≤ℤ result }
     ensures high { result ≤ℤ pos MOST_WORTH }
 {
     let from = potential_at(potentials, border.from);
     let to = potential_at(potentials, border.to);
-    if reach.rises(border) {
+    if state.rises(border) {
         amount(excess(to, from), border.limit)
-    } else if reach.falls(border) {
+    } else if state.falls(border) {
         amount(excess(from, to), border.back)
     } else {
         best_border(border, potentials)
@@ -138,93 +137,48 @@ fn best_flow(border: &Border, reach: &Reach, potentials: &[Cents]) -> i64
 }
 
 /// The most that all orders gain.
-fn orders_value(orders: &[Order], reach: &Reach, potentials: &[Cents]) -> i64
+fn orders_value(orders: &[Order], state: &State, potentials: &[Cents]) -> i64
     requires few { length orders.now ≤ MOST_ORDERS }
     requires few_zones { length potentials.now ≤ MOST_ZONES }
     requires orders { All (IsValidOrder (length potentials.now) MOST_GATES) orders.now }
     requires potentials { All IsCapped potentials.now }
-    ensures value { result ≡ int_sum (best_order (span_in reach.now) potentials.now) orders.now }
+    ensures value { result ≡ int_sum (best_order (span_in state.now) potentials.now) orders.now }
     ensures low { neg_ℤ (pos (MOST_ORDERS * MOST_WORTH)) ≤ℤ result }
     ensures high { result ≤ℤ pos (MOST_ORDERS * MOST_WORTH) }
 {
     let mut total = 0;
     for order in orders {
-        total += best_order(order, reach, potentials);
+        total += best_order(order, state, potentials);
     }
     total
 }
 
 /// The most that all borders earn.
-fn borders_value(borders: &[Border], reach: &Reach, potentials: &[Cents]) -> i64
+fn borders_value(borders: &[Border], state: &State, potentials: &[Cents]) -> i64
     requires few { length borders.now ≤ MOST_BORDERS }
     requires few_zones { length potentials.now ≤ MOST_ZONES }
     requires borders { All (IsValidBorder (length potentials.now)) borders.now }
     requires potentials { All IsCapped potentials.now }
-    ensures value { result ≡ int_sum (best_flow (flow_in reach.now) potentials.now) borders.now }
+    ensures value { result ≡ int_sum (best_flow (flow_in state.now) potentials.now) borders.now }
     ensures low { neg_ℤ (pos (MOST_BORDERS * MOST_WORTH)) ≤ℤ result }
     ensures high { result ≤ℤ pos (MOST_BORDERS * MOST_WORTH) }
 {
     let mut total = 0;
     for border in borders {
-        total += best_flow(border, reach, potentials);
+        total += best_flow(border, state, potentials);
     }
     total
 }
 
 /// The most that all orders gain and all borders earn.
-pub(crate) fn total_value(market: &Market, reach: &Reach, potentials: &[Cents]) -> i64
+pub(crate) fn total_value(market: &Market, state: &State, potentials: &[Cents]) -> i64
     requires market { IsValid market.now }
     requires one_each { length potentials.now ≡ market.now.zones }
     requires potentials { All IsCapped potentials.now }
-    ensures value { result ≡ dual_in market.now reach.now potentials.now }
+    ensures value { result ≡ dual_in market.now state.now potentials.now }
     ensures low { neg_ℤ (pos MOST_VALUE) ≤ℤ result }
     ensures high { result ≤ℤ pos MOST_VALUE }
 {
-    orders_value(market.orders.as_slice(), reach, potentials)
-        + borders_value(market.borders.as_slice(), reach, potentials)
-}
-
-/// What the orders of one gate gain at most.
-pub(crate) fn gate_value(market: &Market, reach: &Reach, potentials: &[Cents], gate: u32) -> i64
-    requires market { IsValid market.now }
-    requires one_each { length potentials.now ≡ market.now.zones }
-    requires potentials { All IsCapped potentials.now }
-    ensures value { result ≡ gain_of (span_in reach.now) market.now potentials.now gate }
-    ensures low { neg_ℤ (pos (MOST_ORDERS * MOST_WORTH)) ≤ℤ result }
-    ensures high { result ≤ℤ pos (MOST_ORDERS * MOST_WORTH) }
-{
-    gate_orders_value(market.orders.as_slice(), reach, potentials, gate)
-}
-
-/// The most that an order of the gate gains, and 0 for any other.
-fn best_of_gate(order: &Order, reach: &Reach, potentials: &[Cents], gate: u32) -> i64
-    requires order { IsValidOrder (length potentials.now) MOST_GATES order.now }
-    requires few { length potentials.now ≤ MOST_ZONES }
-    requires potentials { All IsCapped potentials.now }
-    ensures value { result ≡ best_of_gate gate (span_in reach.now) potentials.now order.now }
-    ensures low { neg_ℤ (pos MOST_WORTH) ≤ℤ result }
-    ensures high { result ≤ℤ pos MOST_WORTH }
-{
-    if order.gate == Some(gate) {
-        best_order(order, reach, potentials)
-    } else {
-        0
-    }
-}
-
-/// What the orders of one gate gain at most, summed.
-fn gate_orders_value(orders: &[Order], reach: &Reach, potentials: &[Cents], gate: u32) -> i64
-    requires few { length orders.now ≤ MOST_ORDERS }
-    requires orders { All (IsValidOrder (length potentials.now) MOST_GATES) orders.now }
-    requires few_zones { length potentials.now ≤ MOST_ZONES }
-    requires potentials { All IsCapped potentials.now }
-    ensures value { result ≡ int_sum (best_of_gate gate (span_in reach.now) potentials.now) orders.now }
-    ensures low { neg_ℤ (pos (MOST_ORDERS * MOST_WORTH)) ≤ℤ result }
-    ensures high { result ≤ℤ pos (MOST_ORDERS * MOST_WORTH) }
-{
-    let mut total = 0;
-    for order in orders {
-        total += best_of_gate(order, reach, potentials, gate);
-    }
-    total
+    orders_value(market.orders.as_slice(), state, potentials)
+        + borders_value(market.borders.as_slice(), state, potentials)
 }

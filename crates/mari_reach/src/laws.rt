@@ -13,7 +13,7 @@ ghost use Rattle.mari_market.specs.Market.{IsValid};
 ghost use Rattle.mari_market.specs.Optimal.{IsAdmissible, IsConsistent, IsFeasible, IsOptimal};
 ghost use Rattle.mari_market.specs.Price.{price_at};
 ghost use Rattle.mari_reach.specs.declared.decisions.Decision.{Decision};
-ghost use Rattle.mari_reach.specs.declared.decisions.Part.{Part};
+ghost use Rattle.mari_reach.specs.declared.decisions.ReachItem.{ReachItem};
 ghost use Rattle.mari_reach.specs.Flows.{IsCutWithin, IsWithinSpans};
 ghost use Rattle.mari_reach.specs.Leaf.{IsBoundFor, dual_of, gain_of, is_needed};
 ghost use Rattle.mari_reach.specs.State.{IsReached, IsVoid, bounds_in, flows_in, high_of, low_of, opens, shuts, state_at};
@@ -53,12 +53,12 @@ pub fn by_tree(market: &Market)
     requires { IsValid market.now }
 
     // Nothing is better than the cutoff, so what reaches it is optimal.
-    ensures bounds { (w : ℤ) (word : List Bool) (items : List Part) (a : Activation) → ReachHolds market.now w word items → IsAdmissible market.now a → welfare_of market.now a ≤ℤ w }
-    ensures optimal { (w : ℤ) (word : List Bool) (items : List Part) (a : Activation) → ReachHolds market.now w word items → IsAdmissible market.now a → welfare_of market.now a ≡ w → IsOptimal market.now a }
+    ensures bounds { (w : ℤ) (word : List Bool) (items : List ReachItem) (a : Activation) → ReachHolds market.now w word items → IsAdmissible market.now a → welfare_of market.now a ≤ℤ w }
+    ensures optimal { (w : ℤ) (word : List Bool) (items : List ReachItem) (a : Activation) → ReachHolds market.now w word items → IsAdmissible market.now a → welfare_of market.now a ≡ w → IsOptimal market.now a }
 
     // What comes before the word is worse, so what reaches the cutoff by the word is the first.
-    ensures earlier { (w : ℤ) (word : List Bool) (items : List Part) (a : Activation) → ReachHolds market.now w word items → IsAdmissible market.now a → ComesBefore (gate_word_of market.now a) word → welfare_of market.now a ≤ℤ (w -ℤ pos 1) }
-    ensures first { (w : ℤ) (word : List Bool) (items : List Part) (a : Activation) → ReachHolds market.now w word items → IsAdmissible market.now a → welfare_of market.now a ≡ w → gate_word_of market.now a ≡ word → IsFirst market.now a }
+    ensures earlier { (w : ℤ) (word : List Bool) (items : List ReachItem) (a : Activation) → ReachHolds market.now w word items → IsAdmissible market.now a → ComesBefore (gate_word_of market.now a) word → welfare_of market.now a ≤ℤ (w -ℤ pos 1) }
+    ensures first { (w : ℤ) (word : List Bool) (items : List ReachItem) (a : Activation) → ReachHolds market.now w word items → IsAdmissible market.now a → welfare_of market.now a ≡ w → gate_word_of market.now a ≡ word → IsFirst market.now a }
 {}
 
 /// What twins show: an activation that opens a gate and closes a twin that ranks before it isn't the first.

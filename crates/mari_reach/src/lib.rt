@@ -5,15 +5,20 @@
 mod cuts;
 mod decisions;
 mod dual;
+mod gains;
 mod laws;
 mod leaves;
 mod marks;
+mod root;
 mod states;
 mod trees;
+mod walk;
 
-pub use decisions::{Choice, Decision, Ending, Part};
+pub use decisions::{Choice, Decision, ReachItem, ReachLeaf};
+pub use dual::MOST_VALUE;
 pub use laws::{by_tree, early, needed, reached, twins};
 pub use leaves::check_leaf;
 pub use marks::Marks;
-pub use states::{PriceBox, Reach, are_decisions, reach_of};
+pub use root::root_value;
+pub use states::{PriceBox, State, are_decisions, state_of};
 pub use trees::check_tree;

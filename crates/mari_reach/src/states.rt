@@ -1,8 +1,9 @@
 //! States: what decisions of gates and prices leave to other gates, to prices, to orders and to borders.
 
-ghost use Rattle.std.specs.Prelude.{◌≡◌, ◌↔◌, ◌&&◌, ◌||◌, ◌<◌, ◌≤◌, ℕ, ℤ, pos, neg_ℤ, ◌+ℤ◌, ◌≤ℤ◌, ◌<ℤ◌, if◌then◌else◌, ◌==◌, IsTrue, length};
+ghost use Rattle.std.specs.Prelude.{◌≡◌, ◌↔◌, ◌&&◌, ◌||◌, ◌<◌, ◌≤◌, ℕ, ℤ, pos, neg_ℤ, ◌+ℤ◌, ◌≤ℤ◌, ◌<ℤ◌, if◌then◌else◌, ◌==◌, IsTrue, List, length};
 ghost use Rattle.std.specs.Int.{int_max, int_min};
 ghost use Rattle.std.specs.List.{All, list_any, range_with_len};
+ghost use Rattle.mari_market.specs.declared.market.Market.{Market};
 ghost use Rattle.mari_market.specs.declared.market.Order.{Order};
 ghost use Rattle.mari_market.specs.Activation.{is_gate};
 ghost use Rattle.mari_market.specs.Bounds.GateState.{Free};
@@ -12,9 +13,9 @@ ghost use Rattle.mari_market.specs.Prefix.{opens_in};
 ghost use Rattle.mari_market.specs.Price.{IsPrice};
 ghost use Rattle.mari_market.specs.Sums.{int_at};
 ghost use Rattle.mari_reach.specs.declared.decisions.Decision.{Decision};
-ghost use Rattle.mari_reach.specs.State.{are_rivals, ceiling_at, ceiling_said, closes, closes_by, floor_at, floor_said, has_rival, gate_span, high_by, high_said, is_opened, is_shut, line_of, low_by, low_said, opens, opens_by, plain_span, AreDecisions, IsDecision};
+ghost use Rattle.mari_reach.specs.State.{are_rivals, bounds_in, ceiling_at, ceiling_said, closes, closes_by, floor_at, floor_said, flows_in, has_rival, gate_span, high_by, high_said, is_opened, is_shut, line_of, low_by, low_said, opens, opens_by, plain_span, AreDecisions, IsDecision, IsFree, IsVoid};
 ghost use Rattle.mari_reach.specs.Values.{is_void_by};
-ghost use Rattle.mari_reach.specs.Tables.{HasOpened, HasPrices, IsReachOf, falls_in, flow_in, gains_in, is_dearer_in, is_priceless, is_torn, loses_in, rises_in, span_in, state_in};
+ghost use Rattle.mari_reach.specs.Tables.{HasOpened, HasPrices, IsStateOf, falls_in, flow_in, gains_in, is_dearer_in, is_priceless, is_torn, loses_in, rises_in, span_in, state_in};
 
 use crate::decisions::Decision;
 use crate::marks::Marks;
@@ -289,18 +290,28 @@ fn are_rivals(gates: &[GateInfo], gate: usize, other: usize) -> bool
     gate != other && gates[gate].group.is_some() && gates[gate].group == gates[other].group
 }
 
-/// Whether the group of a gate has another open gate.
-fn has_rival(gates: &[GateInfo], opened: &Marks, gate: usize) -> bool
+/// Marks the other gates of a gate's group.
+fn mark_group(marks: &mut Marks, gates: &[GateInfo], gate: usize)
     requires few { length gates.now ≤ MOST_GATES }
     requires there { gate < length gates.now }
-    ensures { result ≡ has_rival gates.now (opens_in opened.now) gate }
+    ensures { (g : ℕ) → g < length gates.now → opens_in marks.new g ≡ (opens_in marks.old g || are_rivals gates.now g gate) }
 {
     for other in 0..gates.len() {
-        if are_rivals(gates, gate, other) && opened.has(other as u32) {
-            return true;
+        if are_rivals(gates, other, gate) {
+            marks.mark(other as u32);
         }
     }
-    false
+}
+
+/// Marks the other gates of an open gate's group.
+fn mark_rivals_of(marks: &mut Marks, gates: &[GateInfo], opened: &Marks, gate: usize)
+    requires few { length gates.now ≤ MOST_GATES }
+    requires there { gate < length gates.now }
+    ensures { (g : ℕ) → g < length gates.now → opens_in marks.new g ≡ (opens_in marks.old g || (are_rivals gates.now g gate && opens_in opened.now gate)) }
+{
+    if gates[gate].group.is_some() && opened.has(gate as u32) {
+        mark_group(marks, gates, gate);
+    }
 }
 
 /// Marks the gates whose group has another open gate.
@@ -309,9 +320,7 @@ fn mark_rivals(marks: &mut Marks, gates: &[GateInfo], opened: &Marks)
     ensures { (g : ℕ) → g < length gates.now → opens_in marks.new g ≡ (opens_in marks.old g || has_rival gates.now (opens_in opened.now) g) }
 {
     for gate in 0..gates.len() {
-        if has_rival(gates, opened, gate) {
-            marks.mark(gate as u32);
-        }
+        mark_rivals_of(marks, gates, opened, gate);
     }
 }
 
@@ -352,7 +361,7 @@ fn shut_by(gates: &[GateInfo], shut: &Marks) -> Marks
 
 /// What decisions leave to gates, prices, orders and borders.
 #[derive(Drop)]
-pub struct Reach {
+pub struct State {
     /// The gates that they open.
     pub opened: Marks,
     /// The gates that they close.
@@ -362,17 +371,17 @@ pub struct Reach {
 }
 
 /// What decisions of gates and zones that are there leave to gates, prices, orders and borders.
-pub fn reach_of(market: &Market, decisions: &[Decision]) -> Reach
+pub fn state_of(market: &Market, decisions: &[Decision]) -> State
     requires market { IsValid market.now }
     requires decisions { AreDecisions market.now decisions.now }
-    ensures { IsReachOf market.now decisions.now result }
+    ensures { IsStateOf market.now decisions.now result }
 {
     let gates = market.gates.as_slice();
     let opened = opened_by(market, decisions);
     let prices = PriceBox::of(market, &opened, decisions, market.orders.as_slice());
     let own = shut_themselves(market, decisions, &opened, &prices);
     let shut = shut_by(gates, &own);
-    Reach {
+    State {
         opened,
         shut,
         prices,
@@ -393,7 +402,7 @@ fn plain_span(gains: bool, loses: bool, order: &Order) -> (u32, u32)
     }
 }
 
-impl Reach {
+impl State {
     /// The least and the greatest quantity of an order of a gate, in MW.
     fn gate_span(&self, gate: u32, gains: bool, order: &Order) -> (u32, u32)
         ensures least { result.0 ≡ (gate_span gains (state_in self.now gate) order.now).lo }
@@ -412,6 +421,10 @@ impl Reach {
         requires { order.now.zone < MOST_ZONES }
         ensures least { result.0 ≡ (span_in self.now order.now).lo }
         ensures greatest { result.1 ≡ (span_in self.now order.now).hi }
+
+        // They are the order's bounds in the state that the tables are of.
+        ensures least_there { (m : Market) (ds : List Decision) → IsStateOf m ds self.now → IsValidOrder m.zones (length m.gates) order.now → result.0 ≡ (bounds_in m ds order.now).lo }
+        ensures greatest_there { (m : Market) (ds : List Decision) → IsStateOf m ds self.now → IsValidOrder m.zones (length m.gates) order.now → result.1 ≡ (bounds_in m ds order.now).hi }
     {
         let gains = self.prices.gains(order);
         match order.gate {
@@ -422,7 +435,8 @@ impl Reach {
 
     /// Whether a gate is neither open nor closed.
     pub fn is_free(&self, gate: u32) -> bool
-        ensures { IsTrue result ↔ (state_in self.now gate ≡ Free) }
+        ensures free { IsTrue result ↔ (state_in self.now gate ≡ Free) }
+        ensures there { (m : Market) (ds : List Decision) → IsStateOf m ds self.now → gate < length m.gates → (IsTrue result ↔ IsFree m ds gate) }
     {
         !self.opened.has(gate) && !self.shut.has(gate)
     }
@@ -452,12 +466,21 @@ impl Reach {
         false
     }
 
-    /// Whether the state is void: one of its gates is both open and closed, or a zone has no price.
-    pub fn is_void(&self, market: &Market) -> bool
+    /// Whether one of the gates is both open and closed, or a zone has no price.
+    fn contradicts(&self, market: &Market) -> bool
         requires { IsValid market.now }
         ensures { result ≡ is_void_by market.now self.now }
     {
         self.is_torn(market.gates.as_slice().len() as u32) || self.is_priceless(market.zones)
+    }
+
+    /// Whether the state is void: one of its gates is both open and closed, or a zone has no price.
+    pub fn is_void(&self, market: &Market) -> bool
+        requires { IsValid market.now }
+        ensures by_tables { result ≡ is_void_by market.now self.now }
+        ensures there { (ds : List Decision) → IsStateOf market.now ds self.now → (IsTrue result ↔ IsVoid market.now ds) }
+    {
+        self.contradicts(market)
     }
 
     /// Whether a border's second zone is dearer than its first at all prices.
@@ -483,6 +506,12 @@ impl Reach {
         requires { IsValidBorder MOST_ZONES border.now }
         ensures least { result.0 ≡ (flow_in self.now border.now).lo }
         ensures greatest { result.1 ≡ (flow_in self.now border.now).hi }
+
+        // They are the border's bounds in the state that the tables are of.
+        ensures least_there { (m : Market) (ds : List Decision) → IsStateOf m ds self.now → IsValidBorder m.zones border.now → result.0 ≡ (flows_in m ds border.now).lo }
+        ensures greatest_there { (m : Market) (ds : List Decision) → IsStateOf m ds self.now → IsValidBorder m.zones border.now → result.1 ≡ (flows_in m ds border.now).hi }
+
+        // They are small enough to be summed.
         ensures low { neg_ℤ (pos MOST_FLOW) ≤ℤ result.0 }
         ensures high { result.0 ≤ℤ pos MOST_FLOW }
         ensures low_too { neg_ℤ (pos MOST_FLOW) ≤ℤ result.1 }

@@ -6,7 +6,7 @@ use crate::small::{
 };
 use mari_market::{Cut, CutSide, Market, Prefix};
 use mari_proofs::TreeVerdict;
-use mari_reach::{Choice, Decision, Ending, Part, are_decisions, check_leaf, check_tree};
+use mari_reach::{Choice, Decision, ReachItem, ReachLeaf, are_decisions, check_leaf, check_tree};
 use mari_units::{Cents, Items, Quarters};
 use std::alloc::{AllocError, Global};
 use std::test::Fail;
@@ -22,7 +22,7 @@ enum LeafRow {
 }
 
 /// A part of a tree.
-enum PartRow {
+enum ItemRow {
     /// A gate.
     Gate(u32),
     /// A price of a zone, in cents per MWh.
@@ -357,11 +357,11 @@ const CASES: &[Case] = &[
     },
 ];
 
-fn leaf_of(alloc: Global, row: &LeafRow) -> Result<Ending, AllocError> {
+fn leaf_of(alloc: Global, row: &LeafRow) -> Result<ReachLeaf, AllocError> {
     match row {
-        LeafRow::Void => Ok(Ending::Void),
-        LeafRow::Bound(cents) => Ok(Ending::Bound(prices_of(alloc, cents)?)),
-        LeafRow::Cut(side, zone) => Ok(Ending::Cut(Cut {
+        LeafRow::Void => Ok(ReachLeaf::Void),
+        LeafRow::Bound(cents) => Ok(ReachLeaf::Bound(prices_of(alloc, cents)?)),
+        LeafRow::Cut(side, zone) => Ok(ReachLeaf::Cut(Cut {
             side: *side,
             zones: Items::of([*zone].to_vec(alloc)?),
         })),
@@ -372,7 +372,7 @@ fn leaf_of(alloc: Global, row: &LeafRow) -> Result<Ending, AllocError> {
 fn holds(
     market: &Market,
     decisions: &[Decision],
-    leaf: &Ending,
+    leaf: &ReachLeaf,
     cutoff: i128,
     word: &Prefix,
 ) -> Option<bool> {
@@ -410,7 +410,7 @@ fn leaves_that_hold_or_not(rt: HostRuntime) -> Result<(), Fail> {
 struct TreeCase {
     name: &'static str,
     market: MarketRow,
-    tree: &'static [PartRow],
+    tree: &'static [ItemRow],
     cutoff: i128,
     gates: u32,
     bits: u64,
@@ -418,20 +418,20 @@ struct TreeCase {
 }
 
 /// The paradox bid is closed, or the demand has too much.
-const PARADOX_TREE: &[PartRow] = &[
-    PartRow::Gate(0),
-    PartRow::Leaf(LeafRow::Bound(&[9_999_900])),
-    PartRow::Leaf(LeafRow::Cut(CutSide::Out, 0)),
+const PARADOX_TREE: &[ItemRow] = &[
+    ItemRow::Gate(0),
+    ItemRow::Leaf(LeafRow::Bound(&[9_999_900])),
+    ItemRow::Leaf(LeafRow::Cut(CutSide::Out, 0)),
 ];
 
 /// The dear bid is closed; or it is open, and the other zone is cheaper, so that the border is full the other way, or as
 /// dear, so that the cheap bid runs in full. The second gate stays free.
-const PRICE_TREE: &[PartRow] = &[
-    PartRow::Gate(0),
-    PartRow::Leaf(LeafRow::Bound(&[3000, 3000])),
-    PartRow::Price(1, 4999),
-    PartRow::Leaf(LeafRow::Cut(CutSide::Out, 0)),
-    PartRow::Leaf(LeafRow::Cut(CutSide::Out, 1)),
+const PRICE_TREE: &[ItemRow] = &[
+    ItemRow::Gate(0),
+    ItemRow::Leaf(LeafRow::Bound(&[3000, 3000])),
+    ItemRow::Price(1, 4999),
+    ItemRow::Leaf(LeafRow::Cut(CutSide::Out, 0)),
+    ItemRow::Leaf(LeafRow::Cut(CutSide::Out, 1)),
 ];
 
 const TREES: &[TreeCase] = &[
@@ -466,11 +466,11 @@ const TREES: &[TreeCase] = &[
         name: "the children of a price exchanged",
         market: ONE_PRICE,
         tree: &[
-            PartRow::Gate(0),
-            PartRow::Leaf(LeafRow::Bound(&[3000, 3000])),
-            PartRow::Price(1, 4999),
-            PartRow::Leaf(LeafRow::Cut(CutSide::Out, 1)),
-            PartRow::Leaf(LeafRow::Cut(CutSide::Out, 0)),
+            ItemRow::Gate(0),
+            ItemRow::Leaf(LeafRow::Bound(&[3000, 3000])),
+            ItemRow::Price(1, 4999),
+            ItemRow::Leaf(LeafRow::Cut(CutSide::Out, 1)),
+            ItemRow::Leaf(LeafRow::Cut(CutSide::Out, 0)),
         ],
         cutoff: 1455000,
         gates: 2,
@@ -480,7 +480,7 @@ const TREES: &[TreeCase] = &[
     TreeCase {
         name: "a price of the box's greatest",
         market: ONE_PRICE,
-        tree: &[PartRow::Price(1, 9999900)],
+        tree: &[ItemRow::Price(1, 9999900)],
         cutoff: 1455000,
         gates: 2,
         bits: 0,
@@ -489,7 +489,7 @@ const TREES: &[TreeCase] = &[
     TreeCase {
         name: "a price of the box's least, with a part missing",
         market: ONE_PRICE,
-        tree: &[PartRow::Price(1, -9999900)],
+        tree: &[ItemRow::Price(1, -9999900)],
         cutoff: 1455000,
         gates: 2,
         bits: 0,
@@ -499,9 +499,9 @@ const TREES: &[TreeCase] = &[
         name: "a price below the box",
         market: ONE_PRICE,
         tree: &[
-            PartRow::Gate(0),
-            PartRow::Leaf(LeafRow::Bound(&[3000, 3000])),
-            PartRow::Price(0, 4999),
+            ItemRow::Gate(0),
+            ItemRow::Leaf(LeafRow::Bound(&[3000, 3000])),
+            ItemRow::Price(0, 4999),
         ],
         cutoff: 1455000,
         gates: 2,
@@ -511,7 +511,7 @@ const TREES: &[TreeCase] = &[
     TreeCase {
         name: "a zone that isn't there",
         market: ONE_PRICE,
-        tree: &[PartRow::Price(2, 4999)],
+        tree: &[ItemRow::Price(2, 4999)],
         cutoff: 1455000,
         gates: 2,
         bits: 0,
@@ -521,8 +521,8 @@ const TREES: &[TreeCase] = &[
         name: "a part is missing",
         market: ONE_PRICE,
         tree: &[
-            PartRow::Gate(1),
-            PartRow::Leaf(LeafRow::Bound(&[3000, 3000])),
+            ItemRow::Gate(1),
+            ItemRow::Leaf(LeafRow::Bound(&[3000, 3000])),
         ],
         cutoff: 1455000,
         gates: 2,
@@ -532,7 +532,7 @@ const TREES: &[TreeCase] = &[
     TreeCase {
         name: "a gate is decided twice",
         market: ONE_PRICE,
-        tree: &[PartRow::Gate(1), PartRow::Gate(1)],
+        tree: &[ItemRow::Gate(1), ItemRow::Gate(1)],
         cutoff: 1455000,
         gates: 2,
         bits: 0,
@@ -541,7 +541,7 @@ const TREES: &[TreeCase] = &[
     TreeCase {
         name: "a gate that isn't there",
         market: ONE_PRICE,
-        tree: &[PartRow::Gate(2)],
+        tree: &[ItemRow::Gate(2)],
         cutoff: 1455000,
         gates: 2,
         bits: 0,
@@ -551,9 +551,9 @@ const TREES: &[TreeCase] = &[
         name: "a gate that contradicts itself is void where it is open",
         market: TORN,
         tree: &[
-            PartRow::Gate(0),
-            PartRow::Leaf(LeafRow::Bound(&[5000])),
-            PartRow::Leaf(LeafRow::Void),
+            ItemRow::Gate(0),
+            ItemRow::Leaf(LeafRow::Bound(&[5000])),
+            ItemRow::Leaf(LeafRow::Void),
         ],
         cutoff: 0,
         gates: 2,
@@ -564,9 +564,9 @@ const TREES: &[TreeCase] = &[
         name: "and has no bound there",
         market: TORN,
         tree: &[
-            PartRow::Gate(0),
-            PartRow::Leaf(LeafRow::Bound(&[5000])),
-            PartRow::Leaf(LeafRow::Bound(&[5000])),
+            ItemRow::Gate(0),
+            ItemRow::Leaf(LeafRow::Bound(&[5000])),
+            ItemRow::Leaf(LeafRow::Bound(&[5000])),
         ],
         cutoff: 1000000,
         gates: 2,
@@ -577,9 +577,9 @@ const TREES: &[TreeCase] = &[
         name: "nor a branch",
         market: TORN,
         tree: &[
-            PartRow::Gate(0),
-            PartRow::Leaf(LeafRow::Bound(&[5000])),
-            PartRow::Gate(1),
+            ItemRow::Gate(0),
+            ItemRow::Leaf(LeafRow::Bound(&[5000])),
+            ItemRow::Gate(1),
         ],
         cutoff: 0,
         gates: 2,
@@ -588,11 +588,11 @@ const TREES: &[TreeCase] = &[
     },
 ];
 
-fn part_of(alloc: Global, row: &PartRow) -> Result<Part, AllocError> {
+fn item_of(alloc: Global, row: &ItemRow) -> Result<ReachItem, AllocError> {
     match row {
-        PartRow::Gate(gate) => Ok(Part::Branch(Choice::OfGate(*gate))),
-        PartRow::Price(zone, price) => Ok(Part::Branch(Choice::OfPrice(*zone, Cents(*price)))),
-        PartRow::Leaf(leaf) => Ok(Part::Leaf(leaf_of(alloc, leaf)?)),
+        ItemRow::Gate(gate) => Ok(ReachItem::Branch(Choice::OfGate(*gate))),
+        ItemRow::Price(zone, price) => Ok(ReachItem::Branch(Choice::OfPrice(*zone, Cents(*price)))),
+        ItemRow::Leaf(leaf) => Ok(ReachItem::Leaf(leaf_of(alloc, leaf)?)),
     }
 }
 
@@ -600,7 +600,7 @@ fn part_of(alloc: Global, row: &PartRow) -> Result<Part, AllocError> {
 fn verdict(
     alloc: Global,
     market: &Market,
-    tree: &[Part],
+    tree: &[ReachItem],
     cutoff: i128,
     word: &Prefix,
 ) -> Option<TreeVerdict> {
@@ -616,7 +616,7 @@ fn verdict_in(alloc: Global, case: &TreeCase) -> Result<Option<TreeVerdict>, Fai
     let market = market_of(alloc, &case.market)?;
     let mut tree = Vec::new(alloc);
     for row in case.tree {
-        tree.push(part_of(alloc, row)?)?;
+        tree.push(item_of(alloc, row)?)?;
     }
     let word = prefix(case.gates, case.bits);
     let answer = verdict(alloc, &market, tree.as_slice(), case.cutoff, &word);

@@ -7,7 +7,7 @@ use Rattle.mari_reach.proofs.dual.borders_value.Given as goal
 
 abbrev pub invariant-loop-border : goal.invariant-loop-border
 invariant-loop-border l = record {
-  sum : l.total ≡ int_sum (best_flow (flow_in l.reach) l.potentials) (take l.border-index l.borders);
+  sum : l.total ≡ int_sum (best_flow (flow_in l.state) l.potentials) (take l.border-index l.borders);
   low : neg_ℤ (pos (MOST_WORTH * l.border-index)) ≤ℤ l.total;
   high : l.total ≤ℤ pos (MOST_WORTH * l.border-index);
 }

@@ -7,7 +7,7 @@ use Rattle.mari_reach.proofs.dual.orders_value.Given as goal
 
 abbrev pub invariant-loop-order : goal.invariant-loop-order
 invariant-loop-order l = record {
-  sum : l.total ≡ int_sum (best_order (span_in l.reach) l.potentials) (take l.order-index l.orders);
+  sum : l.total ≡ int_sum (best_order (span_in l.state) l.potentials) (take l.order-index l.orders);
   low : neg_ℤ (pos (MOST_WORTH * l.order-index)) ≤ℤ l.total;
   high : l.total ≤ℤ pos (MOST_WORTH * l.order-index);
 }

@@ -1,5 +1,5 @@
 use Rattle.std.proofs.Common.{◌<◌, length, arith, ap}
-use Rattle.mari_reach.proofs.ReachTables.{shut_is}
+use Rattle.mari_reach.proofs.StateTables.{shut_is}
 use Rattle.mari_reach.proofs.states.shut_themselves.Goals as goal
 
 pub returns : goal.returns

@@ -6,7 +6,9 @@ use crate::small::{
 };
 use mari_market::{Cut, CutSide, Market, Prefix};
 use mari_proofs::TreeVerdict;
-use mari_reach::{Choice, Decision, ReachItem, ReachLeaf, are_decisions, check_leaf, check_tree};
+use mari_reach::{
+    Choice, Decision, ReachItem, ReachLeaf, are_decisions, check_leaf, check_tree, root_value,
+};
 use mari_units::{Cents, Items, Quarters};
 use std::alloc::{AllocError, Global};
 use std::test::Fail;
@@ -355,6 +357,86 @@ const CASES: &[Case] = &[
         bits: 0,
         holds: true,
     },
+    Case {
+        name: "a gate whose group has another open gate adds nothing",
+        market: FAMILY,
+        decisions: &[FIRST_OPEN],
+        leaf: LeafRow::Bound(&[5000]),
+        cutoff: 200000,
+        gates: 3,
+        bits: 0,
+        holds: true,
+    },
+    Case {
+        name: "but the open gate's child, which is free, does",
+        market: FAMILY,
+        decisions: &[FIRST_OPEN],
+        leaf: LeafRow::Bound(&[5000]),
+        cutoff: 199999,
+        gates: 3,
+        bits: 0,
+        holds: false,
+    },
+    Case {
+        name: "the word of a bound opens the open gate and the child that gains",
+        market: FAMILY,
+        decisions: &[FIRST_OPEN],
+        leaf: LeafRow::Bound(&[5000]),
+        cutoff: 200000,
+        gates: 3,
+        bits: 5,
+        holds: true,
+    },
+    Case {
+        name: "which comes before one that opens the first two",
+        market: FAMILY,
+        decisions: &[FIRST_OPEN],
+        leaf: LeafRow::Bound(&[5000]),
+        cutoff: 200000,
+        gates: 3,
+        bits: 3,
+        holds: false,
+    },
+    Case {
+        name: "orders that always lose add nothing at a potential at which they would gain",
+        market: OVERSIZED,
+        decisions: &[Decision::AtMost(0, Cents(2000))],
+        leaf: LeafRow::Bound(&[6000]),
+        cutoff: 299817000,
+        gates: 1,
+        bits: 0,
+        holds: true,
+    },
+    Case {
+        name: "and what always gains isn't less than its greatest",
+        market: OVERSIZED,
+        decisions: &[Decision::AtMost(0, Cents(2000))],
+        leaf: LeafRow::Bound(&[6000]),
+        cutoff: 299816999,
+        gates: 1,
+        bits: 0,
+        holds: false,
+    },
+    Case {
+        name: "a demand that always gains runs in full at a potential at which it would lose",
+        market: ONE_PRICE,
+        decisions: &[Decision::AtMost(1, Cents(4000))],
+        leaf: LeafRow::Bound(&[200_000, 200_000]),
+        cutoff: 21130000,
+        gates: 2,
+        bits: 0,
+        holds: true,
+    },
+    Case {
+        name: "and one at a price that it may pay need not",
+        market: ONE_PRICE,
+        decisions: &[Decision::AtMost(1, Cents(100_000))],
+        leaf: LeafRow::Bound(&[200_000, 200_000]),
+        cutoff: 22629999,
+        gates: 2,
+        bits: 0,
+        holds: false,
+    },
 ];
 
 fn leaf_of(alloc: Global, row: &LeafRow) -> Result<ReachLeaf, AllocError> {
@@ -480,7 +562,7 @@ const TREES: &[TreeCase] = &[
     TreeCase {
         name: "a price of the box's greatest",
         market: ONE_PRICE,
-        tree: &[ItemRow::Price(1, 9999900)],
+        tree: &[ItemRow::Price(1, 9_999_900)],
         cutoff: 1455000,
         gates: 2,
         bits: 0,
@@ -489,7 +571,7 @@ const TREES: &[TreeCase] = &[
     TreeCase {
         name: "a price of the box's least, with a part missing",
         market: ONE_PRICE,
-        tree: &[ItemRow::Price(1, -9999900)],
+        tree: &[ItemRow::Price(1, -9_999_900)],
         cutoff: 1455000,
         gates: 2,
         bits: 0,
@@ -586,6 +668,70 @@ const TREES: &[TreeCase] = &[
         bits: 0,
         verdict: TreeVerdict::BadShape(2),
     },
+    TreeCase {
+        name: "a false leaf doesn't hide a branch behind it that may not stand there",
+        market: ONE_PRICE,
+        tree: &[
+            ItemRow::Gate(0),
+            ItemRow::Leaf(LeafRow::Void),
+            ItemRow::Gate(2),
+        ],
+        cutoff: 1455000,
+        gates: 2,
+        bits: 0,
+        verdict: TreeVerdict::BadShape(2),
+    },
+    TreeCase {
+        name: "nor a part that is missing",
+        market: ONE_PRICE,
+        tree: &[ItemRow::Gate(0), ItemRow::Leaf(LeafRow::Void)],
+        cutoff: 1455000,
+        gates: 2,
+        bits: 0,
+        verdict: TreeVerdict::BadShape(2),
+    },
+    TreeCase {
+        name: "nor an item that is left over",
+        market: ONE_PRICE,
+        tree: &[
+            ItemRow::Leaf(LeafRow::Void),
+            ItemRow::Leaf(LeafRow::Bound(&[3000, 3000])),
+        ],
+        cutoff: 1455000,
+        gates: 2,
+        bits: 0,
+        verdict: TreeVerdict::BadShape(1),
+    },
+    TreeCase {
+        name: "of two false leaves the first is named",
+        market: ONE_PRICE,
+        tree: &[
+            ItemRow::Price(1, 4999),
+            ItemRow::Leaf(LeafRow::Void),
+            ItemRow::Leaf(LeafRow::Void),
+        ],
+        cutoff: 1455000,
+        gates: 2,
+        bits: 0,
+        verdict: TreeVerdict::BadLeaf(1),
+    },
+    TreeCase {
+        name: "children of a second child have their parts last",
+        market: ONE_PRICE,
+        tree: &[
+            ItemRow::Gate(1),
+            ItemRow::Gate(0),
+            ItemRow::Leaf(LeafRow::Bound(&[3000, 3000])),
+            ItemRow::Price(1, 4999),
+            ItemRow::Leaf(LeafRow::Cut(CutSide::Out, 0)),
+            ItemRow::Leaf(LeafRow::Cut(CutSide::Out, 1)),
+            ItemRow::Leaf(LeafRow::Bound(&[3000, 3000])),
+        ],
+        cutoff: 1455000,
+        gates: 2,
+        bits: 0,
+        verdict: TreeVerdict::Holds,
+    },
 ];
 
 fn item_of(alloc: Global, row: &ItemRow) -> Result<ReachItem, AllocError> {
@@ -631,5 +777,30 @@ fn trees_that_hold_or_not(rt: HostRuntime) -> Result<(), Fail> {
         let answer = verdict_in(rt.alloc(), case)?;
         same_in(&rt, case.name, answer, Some(case.verdict));
     }
+    Ok(())
+}
+
+/// The dual value of potentials where nothing is decided, where they fit the market.
+fn root_in(alloc: Global, row: &MarketRow, cents: &[i64]) -> Result<Option<Quarters>, AllocError> {
+    let market = market_of(alloc, row)?;
+    let potentials = prices_of(alloc, cents)?;
+    let value = if market.valid() && market.are_prices(potentials.cents.as_slice()) {
+        Some(root_value(&market, &potentials))
+    } else {
+        None
+    };
+    drop(potentials);
+    drop(market);
+    Ok(value)
+}
+
+#[test]
+fn free_gates_and_the_demand_gain_at_the_root(rt: HostRuntime) -> Result<(), Fail> {
+    // 20.00 for 40 MW, nothing for the dearer bid, and 99949.00 for 30 MW.
+    let value = root_in(rt.alloc(), &OVERSIZED, &[5000])?;
+    same_in(&rt, "one zone", value, Some(Quarters(299_927_000)));
+    // 10.00 for 5 MW and 0.00 for 100 MW, 970.00 for 15 MW, and nothing for the dear bid and the border.
+    let value = root_in(rt.alloc(), &CHEAPER, &[3000, 3000])?;
+    same_in(&rt, "two zones", value, Some(Quarters(1_460_000)));
     Ok(())
 }

@@ -29,10 +29,12 @@ use Rattle.mari_market.proofs.Prefixes.{opens_within}
 use Rattle.mari_reach.specs.declared.decisions.Decision.{Decision}
 use Rattle.mari_reach.specs.declared.decisions.ReachLeaf.{ReachLeaf}
 use Rattle.mari_reach.specs.declared.decisions.ReachLeaf.TheVariants.{Void, Bound, Cut}
-use Rattle.mari_reach.specs.Flows.{FlowSpan, IsWithinSpans}
+use Rattle.mari_market.specs.Flows.{FlowSpan}
+use Rattle.mari_market.specs.Relaxation.{IsWithinSpans}
 use Rattle.mari_reach.specs.Leaf.{best_of_gate, dual_of, gain_of, is_needed, needed_word, ReachLeafHolds, IsBoundFor}
 use Rattle.mari_reach.specs.State.{bounds_in, flows_in, opens, IsReached}
-use Rattle.mari_reach.proofs.Duals.{cut_has_none, dual_bounds}
+use Rattle.mari_market.proofs.Cuts.{cut_has_none}
+use Rattle.mari_market.proofs.Duality.{weak_duality_within}
 use Rattle.mari_reach.proofs.Reaching.{all_opened, or_either, within_bounds, void_has_none}
 
 -- ---- words
@@ -125,7 +127,7 @@ sum_without g bounds ps (o ∷ os) = omega (arith, ints, without_best (is_gate g
 closed_loses : (m : Market) (ds : List Decision) (a : Activation) (us : List Cents) (ps : List Cents) (g : ℕ) → IsValid m → IsReached m ds a us → is_open m a g ≡ false
     → (welfare_of m a +ℤ gain_of (bounds_in m ds) m ps g) ≤ℤ dual_of m ds ps
 closed_loses m ds a us ps g v r shut =
-    omega (arith, ints, sum_without g (bounds_in m ds) ps m.orders, dual_bounds (without g (bounds_in m ds)) (flows_in m ds) m a ps v (within_without m a g (bounds_in m ds) (flows_in m ds) r.feasible shut (within_bounds m ds a us r)))
+    omega (arith, ints, sum_without g (bounds_in m ds) ps m.orders, weak_duality_within (without g (bounds_in m ds)) (flows_in m ds) m a ps v (within_without m a g (bounds_in m ds) (flows_in m ds) r.feasible shut (within_bounds m ds a us r)))
 
 -- ---- early bounds
 
@@ -152,7 +154,7 @@ pub bound_is_early : (m : Market) (w : ℤ) (u : List Bool) (ds : List Decision)
     → IsBoundFor m w u ds ps → IsReached m ds a us → ComesBefore (gate_word_of m a) u → welfare_of m a ≤ℤ (w -ℤ pos 1)
 bound_is_early m w u ds ps a us v h r b =
     by_lt_z (welfare_of m a) w (λ l. omega (arith, ints, l)) (λ top.
-    let most : welfare_of m a ≤ℤ dual_of m ds ps = dual_bounds (bounds_in m ds) (flows_in m ds) m a ps v (within_bounds m ds a us r) in
+    let most : welfare_of m a ≤ℤ dual_of m ds ps = weak_duality_within (bounds_in m ds) (flows_in m ds) m a ps v (within_bounds m ds a us r) in
     let reached : dual_of m ds ps ≤ℤ welfare_of m a = omega (arith, ints, h.value, top) in
     absurd (h.early (same_value (welfare_of m a) (dual_of m ds ps) w most h.value top)
     (fewer_before (needed_word m ds ps) (gate_word_of m a) u (needed_is_fewer m ds a us ps v r reached) b)))
@@ -163,7 +165,7 @@ bound_is_early m w u ds ps a us v h r b =
 pub leaf_bounds : (m : Market) (w : ℤ) (u : List Bool) (ds : List Decision) (leaf : ReachLeaf) (a : Activation) (us : List Cents) → IsValid m
     → ReachLeafHolds m w u ds leaf → IsReached m ds a us → welfare_of m a ≤ℤ w
 leaf_bounds m w u ds Void a us v h r = absurd (void_has_none m ds a us r h)
-leaf_bounds m w u ds (Bound ps) a us v h r = omega (arith, ints, dual_bounds (bounds_in m ds) (flows_in m ds) m a ps.cents v (within_bounds m ds a us r), h.1.value)
+leaf_bounds m w u ds (Bound ps) a us v h r = omega (arith, ints, weak_duality_within (bounds_in m ds) (flows_in m ds) m a ps.cents v (within_bounds m ds a us r), h.1.value)
 leaf_bounds m w u ds (Cut cut) a us v h r = absurd (cut_has_none (bounds_in m ds) (flows_in m ds) m a cut.side cut.zones v (within_bounds m ds a us r) h.1.side)
 
 -- and what comes before the gate word is worse

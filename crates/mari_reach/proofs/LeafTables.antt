@@ -19,9 +19,10 @@ use Rattle.mari_market.specs.declared.certificate.CutSide.{CutSide}
 use Rattle.mari_market.specs.declared.certificate.CutSide.TheVariants.{In, Out}
 use Rattle.mari_market.specs.Activation.{is_gate}
 use Rattle.mari_market.specs.Bounds.{Span}
-use Rattle.mari_market.specs.Cut.{is_in}
+use Rattle.mari_market.specs.Cut.{is_in, CannotBalanceWithin, IsCutWithin}
+use Rattle.mari_market.specs.Flows.{FlowSpan}
 use Rattle.mari_proofs.specs.NetInjections.{Exceeds, net_put, put_of}
-use Rattle.mari_market.specs.Dual.{best_order, best_trade}
+use Rattle.mari_market.specs.Dual.{best_flow, best_order, best_trade}
 use Rattle.mari_market.specs.First.{ComesBefore}
 use Rattle.mari_market.specs.Market.{IsValid, IsValidBorder, IsValidOrder}
 use Rattle.mari_market.specs.Prefix.{bit_of, opens_in, word_of}
@@ -34,10 +35,9 @@ use Rattle.mari_reach.specs.declared.decisions.Decision.{Decision}
 use Rattle.mari_reach.specs.declared.decisions.ReachLeaf.{ReachLeaf}
 use Rattle.mari_reach.specs.declared.decisions.ReachLeaf.TheVariants.{Void, Bound, Cut}
 use Rattle.mari_reach.specs.declared.states.State.{State}
-use Rattle.mari_reach.specs.Flows.{FlowSpan, best_flow, best_flow_within, CannotBalanceWithin, IsCutWithin}
 use Rattle.mari_reach.specs.Leaf.{best_of_gate, dual_of, gain_of, is_needed, needed_word, ReachLeafHolds, IsBoundFor}
 use Rattle.mari_reach.specs.State.{border_span, bounds_in, flows_in, opens}
-use Rattle.mari_reach.specs.Tables.{IsStateOf, flow_in, span_in}
+use Rattle.mari_reach.specs.Tables.{IsStateOf, falls_in, flow_in, rises_in, span_in}
 use Rattle.mari_reach.specs.Values.{ReachLeafHoldsBy, IsBoundBy, carried_by, dual_in, is_needed_in, needed_in}
 use Rattle.mari_reach.proofs.LeafLaws.{opens_map}
 use Rattle.mari_reach.proofs.StateTables.{live_by, same_flow, same_span, void_by}
@@ -83,15 +83,30 @@ length_of_prefix x n full = length-decisions x x.length ∙ full
 
 -- ---- what a border earns
 
--- at its limit, at its back limit, or between
-pub earns_on : (pa pb : ℤ) (falling : Bool) (b : Border) → (pb -ℤ pa) *ℤ pos b.limit ≡ best_flow_within (pb -ℤ pa) (border_span true falling b)
-earns_on pa pb falling b = omega (arith, ints, clamps)
+-- what a border earns at most where its potentials are these
+abbrev pub best_between : (pa pb : ℤ) → FlowSpan → ℤ
+best_between pa pb s = int_max ((pb -ℤ pa) *ℤ s.limit) ((pa -ℤ pb) *ℤ s.back)
 
-pub earns_back : (pa pb : ℤ) (b : Border) → (pa -ℤ pb) *ℤ pos b.back ≡ best_flow_within (pb -ℤ pa) (border_span false true b)
+-- at its limit, or at its back limit
+pub earns_on : (pa pb : ℤ) (falling : Bool) (b : Border) → (pb -ℤ pa) *ℤ pos b.limit ≡ best_between pa pb (border_span true falling b)
+earns_on pa pb falling b = omega (arith, ints, clamps, mul-neg_z (pa -ℤ pb) (pos b.limit), sub-mul_z pb pa (pos b.limit), sub-mul_z pa pb (pos b.limit))
+
+pub earns_back : (pa pb : ℤ) (b : Border) → (pa -ℤ pb) *ℤ pos b.back ≡ best_between pa pb (border_span false true b)
 earns_back pa pb b = omega (arith, ints, clamps, mul-neg_z (pb -ℤ pa) (pos b.back), sub-mul_z pb pa (pos b.back), sub-mul_z pa pb (pos b.back))
 
-pub earns_between : (pa pb : ℤ) (b : Border) → int_max ((pb -ℤ pa) *ℤ pos b.limit) ((pa -ℤ pb) *ℤ pos b.back) ≡ best_flow_within (pb -ℤ pa) (border_span false false b)
-earns_between pa pb b = omega (arith, ints, clamps, mul-neg_z (pb -ℤ pa) (pos b.back), sub-mul_z pb pa (pos b.back), sub-mul_z pa pb (pos b.back))
+-- the same where the tables show that prices rise, or fall
+pub earns_rising : (r : State) (ps : List Cents) (b : Border) (x gap : ℤ) → rises_in r.prices b ≡ true → gap ≡ price_at ps b.to -ℤ price_at ps b.from → x ≡ gap *ℤ pos b.limit
+    → x ≡ best_flow (flow_in r) ps b
+earns_rising r ps b x gap rising e k =
+    k ∙ ap (λ (g : ℤ). g *ℤ pos b.limit) e ∙ earns_on (price_at ps b.from) (price_at ps b.to) (falls_in r.prices b) b
+    ∙ ap (λ (t : Bool). best_between (price_at ps b.from) (price_at ps b.to) (border_span t (falls_in r.prices b) b)) (sym rising)
+
+pub earns_falling : (r : State) (ps : List Cents) (b : Border) (x gap : ℤ) → rises_in r.prices b ≡ false → falls_in r.prices b ≡ true → gap ≡ price_at ps b.from -ℤ price_at ps b.to → x ≡ gap *ℤ pos b.back
+    → x ≡ best_flow (flow_in r) ps b
+earns_falling r ps b x gap rising falling e k =
+    k ∙ ap (λ (g : ℤ). g *ℤ pos b.back) e ∙ earns_back (price_at ps b.from) (price_at ps b.to) b
+    ∙ ap (λ (t : Bool). best_between (price_at ps b.from) (price_at ps b.to) (border_span false t b)) (sym falling)
+    ∙ ap (λ (t : Bool). best_between (price_at ps b.from) (price_at ps b.to) (border_span t (falls_in r.prices b) b)) (sym rising)
 
 -- ---- the tables and the state
 
@@ -106,7 +121,7 @@ same_earned : (f g : Border → FlowSpan) (ps : List Cents) (zones : ℕ) (bs : 
     → int_sum (best_flow f ps) bs ≡ int_sum (best_flow g ps) bs
 same_earned f g ps zones [] e v = refl
 same_earned f g ps zones (b ∷ bs) e v =
-    ap (λ (s : FlowSpan). best_flow_within (price_at ps b.to -ℤ price_at ps b.from) s +ℤ int_sum (best_flow f ps) bs) (e b (All-head (IsValidBorder zones) b bs v))
+    ap (λ (s : FlowSpan). best_between (price_at ps b.from) (price_at ps b.to) s +ℤ int_sum (best_flow f ps) bs) (e b (All-head (IsValidBorder zones) b bs v))
     ∙ ap (λ (x : ℤ). best_flow g ps b +ℤ x) (same_earned f g ps zones bs e (All-tail (IsValidBorder zones) b bs v))
 
 pub same_dual : (m : Market) (ds : List Decision) (r : State) (ps : List Cents) → IsValid m → IsStateOf m ds r → dual_in m r ps ≡ dual_of m ds ps

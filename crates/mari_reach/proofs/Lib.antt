@@ -1,4 +1,3 @@
-pub mod Duals
 pub mod Lines
 pub mod Ranges
 pub mod Reaching

@@ -28,7 +28,8 @@ use Rattle.mari_market.proofs.Rising.{less}
 use Rattle.mari_market.proofs.Sums.{AllZip-both}
 use Rattle.mari_reach.specs.declared.decisions.Decision.{Decision}
 use Rattle.mari_reach.specs.declared.decisions.Decision.TheVariants.{Above, AtMost, Gate}
-use Rattle.mari_reach.specs.Flows.{IsFlowWithin, IsWithinSpans}
+use Rattle.mari_market.specs.Flows.{IsFlowWithin}
+use Rattle.mari_market.specs.Relaxation.{IsWithinSpans}
 use Rattle.mari_reach.specs.State.{line_from, line_of, opens_by, opens, closes_by, closes, is_one_group, are_rivals, has_rival, is_opened, floor_of, ceiling_of, floor_at, ceiling_at, floor_said, ceiling_said, low_said, high_said, low_of, high_of, gains_within, loses_within, gains, loses, has_loss, is_shut, shuts, state_by, plain_span, gate_span, reached_span, bounds_in, border_span, rises, falls, flows_in, IsVoid, IsReached, Obeys, Agree}
 
 -- ---- tests of lists
@@ -358,14 +359,14 @@ within_state m ds a us h =
 within_border : (rising falling : Bool) (pa pb : ℤ) (b : Border) (f : ℤ) → IsWithinLimits b f → (f <ℤ pos b.limit → pb ≤ℤ pa) → (neg_ℤ (pos b.back) <ℤ f → pa ≤ℤ pb)
     → (rising ≡ true → pa <ℤ pb) → (falling ≡ true → pb <ℤ pa) → IsFlowWithin (border_span rising falling b) f
 within_border true falling pa pb b f w more less up down = record {
-  least = by_lt_z f (pos b.limit) (λ l. absurd (omega (arith, ints, more l, up refl))) (λ l. l);
-  most = w.limit;
+  back = by_lt_z f (pos b.limit) (λ l. absurd (omega (arith, ints, more l, up refl))) (λ l. omega (arith, ints, l));
+  limit = w.limit;
 }
 within_border false true pa pb b f w more less up down = record {
-  least = w.back;
-  most = by_lt_z (neg_ℤ (pos b.back)) f (λ l. absurd (omega (arith, ints, less l, down refl))) (λ l. l);
+  back = w.back;
+  limit = by_lt_z (neg_ℤ (pos b.back)) f (λ l. absurd (omega (arith, ints, less l, down refl))) (λ l. l);
 }
-within_border false false pa pb b f w more less up down = record { least = w.back; most = w.limit }
+within_border false false pa pb b f w more less up down = w
 
 dearer : (high low pa pb : ℤ) → pa ≤ℤ high → low ≤ℤ pb → lt_z high low ≡ true → pa <ℤ pb
 dearer high low pa pb h l e = omega (arith, ints, less high low e)

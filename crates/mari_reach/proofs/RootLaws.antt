@@ -14,7 +14,7 @@ use Rattle.mari_market.specs.Price.{ArePrices}
 use Rattle.mari_market.specs.Relaxation.{all_closed}
 use Rattle.mari_market.proofs.Ties.{none_before_closed}
 use Rattle.mari_reach.specs.declared.states.State.{State}
-use Rattle.mari_reach.specs.Flows.{dual_value_within}
+use Rattle.mari_market.specs.Dual.{dual_value_within}
 use Rattle.mari_reach.specs.Leaf.{IsBoundFor, needed_word}
 use Rattle.mari_reach.specs.State.{bounds_in, ceiling_at, ceiling_of, floor_at, floor_of, flows_in, is_opened, opens, IsVoid}
 use Rattle.mari_reach.specs.Tables.{IsStateOf}

@@ -7,14 +7,14 @@ use Rattle.mari_market.specs.declared.market.Order.{Order}
 use Rattle.mari_market.specs.declared.market.Market.{Market}
 use Rattle.mari_market.specs.Activation.{is_gate}
 use Rattle.mari_market.specs.Bounds.{Span}
-use Rattle.mari_market.specs.Dual.{best_order}
+use Rattle.mari_market.specs.Cut.{IsCutWithin}
+use Rattle.mari_market.specs.Dual.{best_order, dual_value_within}
 use Rattle.mari_market.specs.First.{ComesBefore}
 use Rattle.mari_market.specs.Price.{ArePrices}
 use Rattle.mari_market.specs.Sums.{int_sum}
 use Rattle.mari_reach.specs.declared.decisions.Decision.{Decision}
 use Rattle.mari_reach.specs.declared.decisions.ReachLeaf.{ReachLeaf}
 use Rattle.mari_reach.specs.declared.decisions.ReachLeaf.TheVariants.{Void, Bound, Cut}
-use Rattle.mari_reach.specs.Flows.{dual_value_within, IsCutWithin}
 use Rattle.mari_reach.specs.State.{bounds_in, flows_in, opens, IsVoid}
 
 -- the dual value by a state's bounds

@@ -1,4 +1,3 @@
-pub mod Flows
 pub mod State
 pub mod Leaf
 pub mod Tree

@@ -15,6 +15,7 @@ use Rattle.mari_market.specs.declared.activation.Activation.{Activation}
 use Rattle.mari_market.specs.Activation.{is_gate, is_open}
 use Rattle.mari_market.specs.Bounds.{Span, GateState, gated_span}
 use Rattle.mari_market.specs.Bounds.GateState.{Open, Closed, Free}
+use Rattle.mari_market.specs.Flows.{FlowSpan, border_limits}
 use Rattle.mari_market.specs.Gates.{group_of, parent_of}
 use Rattle.mari_market.specs.Optimal.{IsConsistent, IsFeasible}
 use Rattle.mari_market.specs.Price.{IsPrice, price_at}
@@ -22,7 +23,6 @@ use Rattle.mari_reach.specs.declared.decisions.Choice.{Choice}
 use Rattle.mari_reach.specs.declared.decisions.Choice.TheVariants.{OfGate, OfPrice}
 use Rattle.mari_reach.specs.declared.decisions.Decision.{Decision}
 use Rattle.mari_reach.specs.declared.decisions.Decision.TheVariants.{Above, AtMost, Gate}
-use Rattle.mari_reach.specs.Flows.{FlowSpan}
 
 -- ---- gates
 
@@ -208,11 +208,11 @@ abbrev pub falls : Market → List Decision → Border → Bool
 falls m ds b = lt_z (high_of m ds b.to) (low_of m ds b.from)
 
 -- a border's bounds: its limit where its second zone is always dearer, its back limit where it is always cheaper, else
--- all between
+-- its own limits
 abbrev pub border_span : (rising falling : Bool) → Border → FlowSpan
-border_span true falling b = record { lo = pos b.limit; hi = pos b.limit }
-border_span false true b = record { lo = neg_ℤ (pos b.back); hi = neg_ℤ (pos b.back) }
-border_span false false b = record { lo = neg_ℤ (pos b.back); hi = pos b.limit }
+border_span true falling b = record { limit = pos b.limit; back = neg_ℤ (pos b.limit) }
+border_span false true b = record { limit = neg_ℤ (pos b.back); back = pos b.back }
+border_span false false b = border_limits b
 
 -- a border's bounds in a state
 abbrev pub flows_in : Market → List Decision → Border → FlowSpan

@@ -5,13 +5,13 @@ use Rattle.mari_market.specs.declared.market.Border.{Border}
 use Rattle.mari_market.specs.declared.market.Order.{Order}
 use Rattle.mari_market.specs.declared.market.Market.{Market}
 use Rattle.mari_market.specs.Bounds.{Span, GateState}
+use Rattle.mari_market.specs.Flows.{FlowSpan}
 use Rattle.mari_market.specs.Prefix.{opens_in}
 use Rattle.mari_market.specs.Sums.{int_at}
 use Rattle.mari_reach.specs.declared.decisions.Decision.{Decision}
 use Rattle.mari_reach.specs.declared.marks.Marks.{Marks}
 use Rattle.mari_reach.specs.declared.states.PriceBox.{PriceBox}
 use Rattle.mari_reach.specs.declared.states.State.{State}
-use Rattle.mari_reach.specs.Flows.{FlowSpan}
 use Rattle.mari_reach.specs.State.{border_span, gains_within, high_of, loses_within, low_of, opens, reached_span, shuts, state_by}
 
 -- whether an order gains at every price of the box

@@ -7,13 +7,15 @@ use Rattle.mari_market.specs.declared.market.Border.{Border}
 use Rattle.mari_market.specs.declared.market.Market.{Market}
 use Rattle.mari_market.specs.declared.certificate.CutSide.{CutSide}
 use Rattle.mari_market.specs.declared.certificate.CutSide.TheVariants.{Out, In}
+use Rattle.mari_market.specs.Cut.{IsCutWithin, most_in_within, most_out_within}
+use Rattle.mari_market.specs.Dual.{dual_value_within}
 use Rattle.mari_market.specs.First.{ComesBefore}
+use Rattle.mari_market.specs.Flows.{FlowSpan}
 use Rattle.mari_market.specs.Prefix.{opens_in}
 use Rattle.mari_market.specs.Price.{ArePrices}
 use Rattle.mari_reach.specs.declared.decisions.ReachLeaf.{ReachLeaf}
 use Rattle.mari_reach.specs.declared.decisions.ReachLeaf.TheVariants.{Void, Bound, Cut}
 use Rattle.mari_reach.specs.declared.states.State.{State}
-use Rattle.mari_reach.specs.Flows.{FlowSpan, dual_value_within, most_in, most_out, IsCutWithin}
 use Rattle.mari_reach.specs.Leaf.{gain_of}
 use Rattle.mari_reach.specs.Tables.{flow_in, is_priceless, is_torn, span_in}
 
@@ -31,8 +33,8 @@ needed_in m r ps = map (is_needed_in m r ps) (range_with_len 0 (length m.gates))
 
 -- the most that a border carries out of the zones, for a cut of side Out, and into them, for one of side In
 abbrev pub carried_by : CutSide → (Border → FlowSpan) → List ℕ → Border → ℤ
-carried_by Out flows zones b = most_out flows zones b
-carried_by In flows zones b = most_in flows zones b
+carried_by Out flows zones b = most_out_within flows zones b
+carried_by In flows zones b = most_in_within flows zones b
 
 -- a bound holds by the tables
 pub record IsBoundBy (m : Market) (cutoff : ℤ) (word : List Bool) (r : State) (ps : List Cents) : Type 0 where

@@ -2,10 +2,9 @@
 
 ghost use Rattle.std.specs.Prelude.{◌≡◌, ◌↔◌, ℤ, pos, ◌*◌, ◌≤ℤ◌, neg_ℤ, ◌≤◌, ◌<◌, length, IsTrue};
 ghost use Rattle.std.specs.List.{All};
-ghost use Rattle.mari_reach.specs.Flows.{CannotBalanceWithin, IsCutWithin};
 ghost use Rattle.mari_reach.specs.Tables.{flow_in, span_in};
 ghost use Rattle.mari_reach.specs.Values.{carried_by};
-ghost use Rattle.mari_market.specs.Cut.{is_in};
+ghost use Rattle.mari_market.specs.Cut.{CannotBalanceWithin, IsCutWithin, is_in};
 ghost use Rattle.mari_market.specs.Market.{IsValid, IsValidOrder, IsValidBorder};
 ghost use Rattle.mari_market.specs.Sums.{int_sum};
 ghost use Rattle.mari_proofs.specs.NetInjections.{net_put, put_of, Exceeds};
@@ -58,15 +57,15 @@ fn border_carries(side: CutSide, zones: &[u32], border: &Border, state: &State) 
     ensures low { neg_ℤ (pos MOST_FLOW) ≤ℤ result }
     ensures high { result ≤ℤ pos MOST_FLOW }
 {
-    let (least, greatest) = state.flows(border);
+    let (limit, back) = state.flows(border);
     match (is_in(zones, border.from), is_in(zones, border.to)) {
         (true, false) => match side {
-            CutSide::Out => greatest,
-            CutSide::In => -least,
+            CutSide::Out => limit,
+            CutSide::In => back,
         },
         (false, true) => match side {
-            CutSide::Out => -least,
-            CutSide::In => greatest,
+            CutSide::Out => back,
+            CutSide::In => limit,
         },
         (true, true) | (false, false) => 0,
     }

@@ -3,10 +3,9 @@
 
 ghost use Rattle.std.specs.Prelude.{◌≡◌, ℤ, pos, ◌*◌, ◌-ℤ◌, ◌*ℤ◌, ◌≤ℤ◌, neg_ℤ, ◌≤◌, ◌<◌, length};
 ghost use Rattle.std.specs.List.{All};
-ghost use Rattle.mari_reach.specs.Flows.{best_flow};
 ghost use Rattle.mari_reach.specs.Tables.{flow_in, span_in};
 ghost use Rattle.mari_reach.specs.Values.{dual_in};
-ghost use Rattle.mari_market.specs.Dual.{gain_per_mw, best_within, best_border, best_order};
+ghost use Rattle.mari_market.specs.Dual.{gain_per_mw, best_within, best_border, best_flow, best_order};
 ghost use Rattle.mari_market.specs.Market.{IsValid, IsValidOrder, IsValidBorder};
 ghost use Rattle.mari_market.specs.Price.{IsCapped, IsPrice, ArePrices, price_at};
 ghost use Rattle.mari_market.specs.Sums.{int_sum};

@@ -501,30 +501,31 @@ impl State {
         self.prices.is_dearer(border.from, border.to)
     }
 
-    /// The least and the greatest flow of a border, in MW.
+    /// The most that may flow from a border's first zone to its second, and the most that may flow back, in MW; where one is
+    /// negative, at least so much has to flow the other way.
     pub fn flows(&self, border: &Border) -> (i64, i64)
         requires { IsValidBorder MOST_ZONES border.now }
-        ensures least { result.0 ≡ (flow_in self.now border.now).lo }
-        ensures greatest { result.1 ≡ (flow_in self.now border.now).hi }
+        ensures limit { result.0 ≡ (flow_in self.now border.now).limit }
+        ensures back { result.1 ≡ (flow_in self.now border.now).back }
 
         // They are the border's bounds in the state that the tables are of.
-        ensures least_there { (m : Market) (ds : List Decision) → IsStateOf m ds self.now → IsValidBorder m.zones border.now → result.0 ≡ (flows_in m ds border.now).lo }
-        ensures greatest_there { (m : Market) (ds : List Decision) → IsStateOf m ds self.now → IsValidBorder m.zones border.now → result.1 ≡ (flows_in m ds border.now).hi }
+        ensures limit_there { (m : Market) (ds : List Decision) → IsStateOf m ds self.now → IsValidBorder m.zones border.now → result.0 ≡ (flows_in m ds border.now).limit }
+        ensures back_there { (m : Market) (ds : List Decision) → IsStateOf m ds self.now → IsValidBorder m.zones border.now → result.1 ≡ (flows_in m ds border.now).back }
 
         // They are small enough to be summed.
         ensures low { neg_ℤ (pos MOST_FLOW) ≤ℤ result.0 }
         ensures high { result.0 ≤ℤ pos MOST_FLOW }
-        ensures low_too { neg_ℤ (pos MOST_FLOW) ≤ℤ result.1 }
-        ensures high_too { result.1 ≤ℤ pos MOST_FLOW }
+        ensures low_back { neg_ℤ (pos MOST_FLOW) ≤ℤ result.1 }
+        ensures high_back { result.1 ≤ℤ pos MOST_FLOW }
     {
         let limit = i64::from(border.limit);
-        let back = -i64::from(border.back);
+        let back = i64::from(border.back);
         if self.rises(border) {
-            (limit, limit)
+            (limit, -limit)
         } else if self.falls(border) {
-            (back, back)
+            (-back, back)
         } else {
-            (back, limit)
+            (limit, back)
         }
     }
 

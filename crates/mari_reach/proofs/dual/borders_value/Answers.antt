@@ -1,6 +1,6 @@
 use Rattle.std.proofs.Common.{arith}
 use Rattle.std.proofs.lemmas.Int.{ints}
-use Rattle.mari_reach.specs.Flows.{best_flow}
+use Rattle.mari_market.specs.Dual.{best_flow}
 use Rattle.mari_reach.specs.Tables.{flow_in}
 use Rattle.mari_market.proofs.Sums.{sum_step}
 use Rattle.mari_reach.proofs.dual.borders_value.Goals as goal

@@ -1,5 +1,5 @@
 use Rattle.std.proofs.Common.{◌≡◌, ◌*◌, take, pos, neg_ℤ, ◌≤ℤ◌}
-use Rattle.mari_reach.specs.Flows.{best_flow}
+use Rattle.mari_market.specs.Dual.{best_flow}
 use Rattle.mari_reach.specs.Tables.{flow_in}
 use Rattle.mari_market.specs.Sums.{int_sum}
 use Rattle.mari_market.specs.declared.limits.TheConstants.{MOST_WORTH}

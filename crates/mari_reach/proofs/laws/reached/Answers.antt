@@ -1,5 +1,6 @@
 use Rattle.mari_reach.specs.State.{bounds_in, flows_in}
-use Rattle.mari_reach.proofs.Duals.{cut_has_none, dual_bounds}
+use Rattle.mari_market.proofs.Cuts.{cut_has_none}
+use Rattle.mari_market.proofs.Duality.{weak_duality_within}
 use Rattle.mari_reach.proofs.Reaching.{above_low, all_opened, all_closed_there, below_high, void_has_none, within_bounds}
 use Rattle.mari_reach.proofs.laws.reached.Goals as goal
 
@@ -26,4 +27,4 @@ returns-clause-cut c = λ ds a ps cut r h.
     cut_has_none (bounds_in c.args.market.now ds) (flows_in c.args.market.now ds) c.args.market.now a cut.side cut.zones c.requires (within_bounds c.args.market.now ds a ps r) h.side
 
 pub returns-clause-dual : goal.returns-clause-dual
-returns-clause-dual c = λ ds a ps potentials r. dual_bounds (bounds_in c.args.market.now ds) (flows_in c.args.market.now ds) c.args.market.now a potentials c.requires (within_bounds c.args.market.now ds a ps r)
+returns-clause-dual c = λ ds a ps potentials r. weak_duality_within (bounds_in c.args.market.now ds) (flows_in c.args.market.now ds) c.args.market.now a potentials c.requires (within_bounds c.args.market.now ds a ps r)

@@ -1,0 +1,11 @@
+pub mod Lines
+pub mod Ranges
+pub mod Reaching
+pub mod LeafLaws
+pub mod TreeLaws
+pub mod StateTables
+pub mod LeafTables
+pub mod TreeWalk
+pub mod Exchanges
+pub mod Needs
+pub mod RootLaws

@@ -1,0 +1,65 @@
+-- Loops that go up a line of gates.
+use Rattle.std.proofs.Common.{◌≡◌, ◌||◌, Bool, true, false, ℕ, zero, suc, ◌+◌, ◌-◌, ◌<◌, ◌≤◌, List, length, get_or, Option, Some, None, arith, refl, sym, ap, ◌∙◌}
+use Rattle.std.specs.Prelude.{IfSome}
+use Rattle.std.specs.List.{list_any}
+use Rattle.mari_market.specs.declared.market.GateInfo.{GateInfo}
+use Rattle.mari_market.specs.Gates.{ParentsEarlier}
+use Rattle.mari_gates.proofs.Decisions.{parent_at}
+use Rattle.mari_reach.specs.State.{line_from}
+
+-- what is left of a line, by its first gate
+pub line_test : (test : ℕ → Bool) (gates : List GateInfo) (i at : ℕ) (next : Option ℕ) (d : GateInfo) → i < length gates → at < length gates → next ≡ Some at
+    → list_any test (line_from (length gates - i) gates next) ≡ (test at || list_any test (line_from (length gates - (i + 1)) gates (get_or gates at d).parent))
+line_test test gates i at next d l k is =
+    let e : length gates - i ≡ suc (length gates - (i + 1)) = omega arith in
+    ap (λ (n : ℕ). list_any test (line_from n gates next)) e
+    ∙ ap (λ (o : Option ℕ). list_any test (line_from (suc (length gates - (i + 1))) gates o)) is
+    ∙ ap (λ (o : Option ℕ). test at || list_any test (line_from (length gates - (i + 1)) gates o)) (parent_at gates at d k)
+
+-- nothing is left above a gate without a parent, or after as many gates as there are
+pub line_ends : (test : ℕ → Bool) (n : ℕ) (gates : List GateInfo) (next : Option ℕ) → next ≡ None → list_any test (line_from n gates next) ≡ false
+line_ends test zero gates next e = refl
+line_ends test (suc n) gates None e = refl
+line_ends test (suc n) gates (Some g) e = absurd (cc)
+
+pub line_done : (test : ℕ → Bool) (gates : List GateInfo) (i : ℕ) (next : Option ℕ) → length gates ≤ i → list_any test (line_from (length gates - i) gates next) ≡ false
+line_done test gates i next l = let e : length gates - i ≡ 0 = omega arith in ap (λ (n : ℕ). list_any test (line_from n gates next)) e
+
+pub parent_there : (gates : List GateInfo) (g : ℕ) (d : GateInfo) → ParentsEarlier gates → g < length gates → IfSome (get_or gates g d).parent (λ h. h < length gates)
+parent_there gates g d early l = by (get_or gates g d).parent (λ h e. early g h (parent_at gates g d l ∙ e))
+  where
+    by : (p : Option ℕ) → ((h : ℕ) → p ≡ Some h → h < g) → IfSome p (λ h. h < length gates)
+    by None k = tt
+    by (Some h) k = let before : h < g = k h refl in omega arith
+
+pub some_there : (next : Option ℕ) (at n : ℕ) → next ≡ Some at → IfSome next (λ h. h < n) → at < n
+some_there None at n e h = absurd (cc)
+some_there (Some g) at n e h = let same : g ≡ at = cc in omega arith
+
+-- a step of a loop that marks a line
+pub marks_step : (gates : List GateInfo) (test : ℕ → Bool) (old new start whole : Bool) (i at : ℕ) (next : Option ℕ) (d : GateInfo) → i < length gates → at < length gates → next ≡ Some at
+    → (old || list_any test (line_from (length gates - i) gates next)) ≡ whole → new ≡ (old || test at)
+    → (new || list_any test (line_from (length gates - (i + 1)) gates (get_or gates at d).parent)) ≡ whole
+marks_step gates test old new start whole i at next d l k is before e =
+    ap (λ (b : Bool). b || list_any test (line_from (length gates - (i + 1)) gates (get_or gates at d).parent)) e
+    ∙ regroup old (test at) (list_any test (line_from (length gates - (i + 1)) gates (get_or gates at d).parent))
+    ∙ ap (λ (b : Bool). old || b) (sym (line_test test gates i at next d l k is)) ∙ before
+  where
+    regroup : (x y z : Bool) → ((x || y) || z) ≡ (x || (y || z))
+    regroup true y z = refl
+    regroup false y z = refl
+
+or_none : (b c whole : Bool) → (b || c) ≡ whole → c ≡ false → b ≡ whole
+or_none true c whole e n = e
+or_none false c whole e n = sym n ∙ e
+
+pub marks_end : (b c whole : Bool) → (b || c) ≡ whole → c ≡ false → b ≡ whole
+marks_end b c whole e n = or_none b c whole e n
+
+-- a step of a loop that tests a line
+pub test_step : (gates : List GateInfo) (test : ℕ → Bool) (whole : Bool) (i at : ℕ) (next : Option ℕ) (d : GateInfo) → i < length gates → at < length gates → next ≡ Some at
+    → list_any test (line_from (length gates - i) gates next) ≡ whole → test at ≡ false
+    → list_any test (line_from (length gates - (i + 1)) gates (get_or gates at d).parent) ≡ whole
+test_step gates test whole i at next d l k is before e =
+    sym (ap (λ (b : Bool). b || list_any test (line_from (length gates - (i + 1)) gates (get_or gates at d).parent)) e)
+    ∙ sym (line_test test gates i at next d l k is) ∙ before

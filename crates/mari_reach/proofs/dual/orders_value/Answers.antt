@@ -1,0 +1,13 @@
+use Rattle.std.proofs.Common.{arith}
+use Rattle.std.proofs.lemmas.Int.{ints}
+use Rattle.mari_market.specs.Dual.{best_order}
+use Rattle.mari_market.proofs.Sums.{sum_step}
+use Rattle.mari_reach.specs.Tables.{span_in}
+use Rattle.mari_reach.proofs.dual.orders_value.Goals as goal
+
+pub loop-order-preserved : goal.loop-order-preserved
+loop-order-preserved c = record {
+  sum = sum_step (best_order (span_in c.args.state.now) c.args.potentials.now) c.args.orders.now c.loop-order.order-index _ _ _ _ c.loop-order-test.true c.loop-order.invariant.sum c.best_order-total.ensures.value (omega (arith, ints));
+  low = omega (arith, ints);
+  high = omega (arith, ints);
+}

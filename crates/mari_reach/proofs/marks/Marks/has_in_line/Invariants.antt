@@ -1,0 +1,12 @@
+use Rattle.std.proofs.Common.{◌≡◌, ◌<◌, ◌-◌, length}
+use Rattle.std.specs.Prelude.{IfSome}
+use Rattle.std.specs.List.{list_any}
+use Rattle.mari_market.specs.Prefix.{opens_in}
+use Rattle.mari_reach.specs.State.{line_from, line_of}
+use Rattle.mari_reach.proofs.marks.Marks.has_in_line.Given as goal
+
+abbrev pub invariant-loop-step : goal.invariant-loop-step
+invariant-loop-step l = record {
+  rest : list_any (opens_in l.self) (line_from (length l.gates - l.step) l.gates l.next) ≡ list_any (opens_in l.self) (line_of l.gates l.gate);
+  there : IfSome l.next (λ h. h < length l.gates);
+}

@@ -1,0 +1,70 @@
+-- States as tables.
+use Rattle.std.specs.Prelude.{◌≡◌, ◌&&◌, Bool, ℕ, ◌<◌, List, length}
+use lib.Signed.{lt_z}
+use Rattle.mari_market.specs.declared.market.Border.{Border}
+use Rattle.mari_market.specs.declared.market.Order.{Order}
+use Rattle.mari_market.specs.declared.market.Market.{Market}
+use Rattle.mari_market.specs.Bounds.{Span, GateState}
+use Rattle.mari_market.specs.Flows.{FlowSpan}
+use Rattle.mari_market.specs.Prefix.{opens_in}
+use Rattle.mari_market.specs.Sums.{int_at}
+use Rattle.mari_reach.specs.declared.decisions.Decision.{Decision}
+use Rattle.mari_reach.specs.declared.marks.Marks.{Marks}
+use Rattle.mari_reach.specs.declared.states.PriceBox.{PriceBox}
+use Rattle.mari_reach.specs.declared.states.State.{State}
+use Rattle.mari_reach.specs.State.{border_span, gains_within, high_of, loses_within, low_of, opens, reached_span, shuts, state_by}
+
+-- whether an order gains at every price of the box
+abbrev pub gains_in : PriceBox → Order → Bool
+gains_in box o = gains_within o.side o.price.0 (int_at box.low o.zone) (int_at box.high o.zone)
+
+-- whether an order loses at every price of the box
+abbrev pub loses_in : PriceBox → Order → Bool
+loses_in box o = loses_within o.side o.price.0 (int_at box.low o.zone) (int_at box.high o.zone)
+
+-- whether a zone is dearer than another at all prices of the box
+abbrev pub is_dearer_in : PriceBox → (dear cheap : ℕ) → Bool
+is_dearer_in box dear cheap = lt_z (int_at box.high cheap) (int_at box.low dear)
+
+-- whether a border's second zone is dearer than its first at all prices of the box
+abbrev pub rises_in : PriceBox → Border → Bool
+rises_in box b = is_dearer_in box b.to b.from
+
+-- whether a border's second zone is cheaper than its first at all prices of the box
+abbrev pub falls_in : PriceBox → Border → Bool
+falls_in box b = is_dearer_in box b.from b.to
+
+-- the marks are of the gates that a state opens
+abbrev pub HasOpened : Market → List Decision → Marks → Type 0
+HasOpened m ds marks = (g : ℕ) → g < length m.gates → opens_in marks g ≡ opens m.gates ds g
+
+-- the box has the least and the greatest prices of a state
+pub record HasPrices (m : Market) (ds : List Decision) (box : PriceBox) : Type 0 where
+  pub low : (z : ℕ) → z < m.zones → int_at box.low z ≡ low_of m ds z
+  pub high : (z : ℕ) → z < m.zones → int_at box.high z ≡ high_of m ds z
+
+-- the tables are those of a state
+pub record IsStateOf (m : Market) (ds : List Decision) (r : State) : Type 0 where
+  pub opened : HasOpened m ds r.opened
+  pub shut : (g : ℕ) → g < length m.gates → opens_in r.shut g ≡ shuts m ds g
+  pub prices : HasPrices m ds r.prices
+
+-- what is known of a gate by the tables
+abbrev pub state_in : State → ℕ → GateState
+state_in r g = state_by (opens_in r.opened g) (opens_in r.shut g)
+
+-- an order's bounds by the tables
+abbrev pub span_in : State → Order → Span
+span_in r o = reached_span (state_in r) (gains_in r.prices o) (loses_in r.prices o) o.gate o
+
+-- a border's bounds by the tables
+abbrev pub flow_in : State → Border → FlowSpan
+flow_in r b = border_span (rises_in r.prices b) (falls_in r.prices b) b
+
+-- whether the tables have the gate as both open and closed
+abbrev pub is_torn : State → ℕ → Bool
+is_torn r g = opens_in r.opened g && opens_in r.shut g
+
+-- whether the tables leave no price to the zone
+abbrev pub is_priceless : State → ℕ → Bool
+is_priceless r z = is_dearer_in r.prices z z

@@ -1,0 +1,53 @@
+-- Leaves by the tables of a state.
+use Rattle.std.specs.Prelude.{◌≡◌, ◌||◌, Bool, true, false, ℕ, ℤ, pos, ◌≤ℤ◌, List, length, map}
+use Rattle.std.specs.List.{list_any, range_with_len}
+use lib.Signed.{lt_z}
+use Rattle.mari_units.specs.declared.numbers.Cents.{Cents}
+use Rattle.mari_market.specs.declared.market.Border.{Border}
+use Rattle.mari_market.specs.declared.market.Market.{Market}
+use Rattle.mari_market.specs.declared.certificate.CutSide.{CutSide}
+use Rattle.mari_market.specs.declared.certificate.CutSide.TheVariants.{Out, In}
+use Rattle.mari_market.specs.Cut.{IsCutWithin, most_in_within, most_out_within}
+use Rattle.mari_market.specs.Dual.{dual_value_within}
+use Rattle.mari_market.specs.First.{ComesBefore}
+use Rattle.mari_market.specs.Flows.{FlowSpan}
+use Rattle.mari_market.specs.Prefix.{opens_in}
+use Rattle.mari_market.specs.Price.{ArePrices}
+use Rattle.mari_reach.specs.declared.decisions.ReachLeaf.{ReachLeaf}
+use Rattle.mari_reach.specs.declared.decisions.ReachLeaf.TheVariants.{Void, Bound, Cut}
+use Rattle.mari_reach.specs.declared.states.State.{State}
+use Rattle.mari_reach.specs.Leaf.{gain_of}
+use Rattle.mari_reach.specs.Tables.{flow_in, is_priceless, is_torn, span_in}
+
+-- the dual value by the tables
+abbrev pub dual_in : Market → State → List Cents → ℤ
+dual_in m r ps = dual_value_within (span_in r) (flow_in r) m ps
+
+-- whether the tables have the gate as open, or it gains
+abbrev pub is_needed_in : Market → State → List Cents → ℕ → Bool
+is_needed_in m r ps g = opens_in r.opened g || lt_z (pos 0) (gain_of (span_in r) m ps g)
+
+-- the word of the gates that are needed by the tables
+abbrev pub needed_in : Market → State → List Cents → List Bool
+needed_in m r ps = map (is_needed_in m r ps) (range_with_len 0 (length m.gates))
+
+-- the most that a border carries out of the zones, for a cut of side Out, and into them, for one of side In
+abbrev pub carried_by : CutSide → (Border → FlowSpan) → List ℕ → Border → ℤ
+carried_by Out flows zones b = most_out_within flows zones b
+carried_by In flows zones b = most_in_within flows zones b
+
+-- a bound holds by the tables
+pub record IsBoundBy (m : Market) (cutoff : ℤ) (word : List Bool) (r : State) (ps : List Cents) : Type 0 where
+  pub prices : ArePrices m ps
+  pub value : dual_in m r ps ≤ℤ cutoff
+  pub early : dual_in m r ps ≡ cutoff → ComesBefore (needed_in m r ps) word → ⊥
+
+-- whether the state is void by the tables
+abbrev pub is_void_by : Market → State → Bool
+is_void_by m r = list_any (is_torn r) (range_with_len 0 (length m.gates)) || list_any (is_priceless r) (range_with_len 0 m.zones)
+
+-- a leaf holds by the tables
+abbrev pub ReachLeafHoldsBy : Market → ℤ → List Bool → State → ReachLeaf → Type 0
+ReachLeafHoldsBy m cutoff word r Void = is_void_by m r ≡ true
+ReachLeafHoldsBy m cutoff word r (Bound potentials) = (is_void_by m r ≡ false) × IsBoundBy m cutoff word r potentials.cents
+ReachLeafHoldsBy m cutoff word r (Cut cut) = (is_void_by m r ≡ false) × IsCutWithin (span_in r) (flow_in r) m cut

@@ -1,0 +1,88 @@
+//! Marks of gates.
+
+ghost use Rattle.std.specs.Prelude.{◌≡◌, ◌==◌, ◌||◌, ◌<◌, ◌≤◌, ℕ, false, length};
+ghost use Rattle.std.specs.List.{list_any};
+ghost use Rattle.mari_market.specs.Gates.{ParentsEarlier};
+ghost use Rattle.mari_market.specs.Prefix.{opens_in};
+ghost use Rattle.mari_reach.specs.State.{line_of};
+
+use mari_market::GateInfo;
+use mari_units::MOST_GATES;
+use std::marker::Model;
+
+/// Gates that are marked. Contracts see, for each gate that there may be, whether it is.
+#[derive(Drop)]
+pub struct Marks {
+    marks: [bool; MOST_GATES],
+}
+
+impl Model for Marks {
+    ghost use Rattle.std.specs.Prelude.{Bool, List};
+
+    ghost Value = { List Bool };
+
+    ghost view = { λ t. t.marks };
+}
+
+impl Marks {
+    /// No gate marked.
+    pub fn none() -> Marks
+        ensures { (g : ℕ) → opens_in result g ≡ false }
+    {
+        Marks {
+            marks: [false; MOST_GATES],
+        }
+    }
+
+    /// Marks a gate.
+    pub fn mark(&mut self, gate: u32)
+        requires { gate < MOST_GATES }
+        ensures { (g : ℕ) → opens_in self.new g ≡ (opens_in self.old g || (gate == g)) }
+    {
+        self.marks[gate as usize] = true;
+    }
+
+    /// Whether a gate is marked. One beyond those that there may be isn't.
+    pub fn has(&self, gate: u32) -> bool
+        ensures { result ≡ opens_in self.now gate }
+    {
+        (gate as usize) < MOST_GATES && self.marks[gate as usize]
+    }
+
+    /// Marks a gate and all gates above it.
+    pub(crate) fn mark_line(&mut self, gates: &[GateInfo], gate: u32)
+        requires few { length gates.now ≤ MOST_GATES }
+        requires there { gate < length gates.now }
+        requires earlier { ParentsEarlier gates.now }
+        ensures { (g : ℕ) → opens_in self.new g ≡ (opens_in self.old g || list_any (λ h. h == g) (line_of gates.now gate)) }
+    {
+        let mut next = Some(gate);
+        for step in 0..gates.len() {
+            let Some(at) = next else {
+                return;
+            };
+            self.mark(at);
+            next = gates[at as usize].parent;
+        }
+    }
+
+    /// Whether a gate or one above it is marked.
+    pub(crate) fn has_in_line(&self, gates: &[GateInfo], gate: u32) -> bool
+        requires few { length gates.now ≤ MOST_GATES }
+        requires there { gate < length gates.now }
+        requires earlier { ParentsEarlier gates.now }
+        ensures { result ≡ list_any (opens_in self.now) (line_of gates.now gate) }
+    {
+        let mut next = Some(gate);
+        for step in 0..gates.len() {
+            let Some(at) = next else {
+                return false;
+            };
+            if self.has(at) {
+                return true;
+            }
+            next = gates[at as usize].parent;
+        }
+        false
+    }
+}

@@ -1,0 +1,806 @@
+//! Leaves and trees that hold or not.
+
+use crate::same::same_in;
+use crate::small::{
+    CHEAPER, FAMILY, MarketRow, ONE_PRICE, OVERSIZED, PARADOX, TORN, market_of, prefix, prices_of,
+};
+use mari_market::{Cut, CutSide, Market, Prefix};
+use mari_proofs::TreeVerdict;
+use mari_reach::{
+    Choice, Decision, ReachItem, ReachLeaf, are_decisions, check_leaf, check_tree, root_value,
+};
+use mari_units::{Cents, Items, Quarters};
+use std::alloc::{AllocError, Global};
+use std::test::Fail;
+
+/// A leaf.
+enum LeafRow {
+    /// The decisions contradict each other.
+    Void,
+    /// Potentials, in cents per MWh.
+    Bound(&'static [i64]),
+    /// A cut of one zone.
+    Cut(CutSide, u32),
+}
+
+/// A part of a tree.
+enum ItemRow {
+    /// A gate.
+    Gate(u32),
+    /// A price of a zone, in cents per MWh.
+    Price(u32, i64),
+    /// A leaf.
+    Leaf(LeafRow),
+}
+
+/// Decisions in a market, a leaf, a cutoff and the bits of the word; and whether the leaf holds.
+struct Case {
+    name: &'static str,
+    market: MarketRow,
+    decisions: &'static [Decision],
+    leaf: LeafRow,
+    cutoff: i128,
+    gates: u32,
+    bits: u64,
+    holds: bool,
+}
+
+/// The first gate is open.
+const FIRST_OPEN: Decision = Decision::Gate(0, true);
+
+/// The first gate is closed.
+const FIRST_CLOSED: Decision = Decision::Gate(0, false);
+
+const CASES: &[Case] = &[
+    Case {
+        name: "an open gate of an exclusive group closes the other, whose opening is void",
+        market: FAMILY,
+        decisions: &[FIRST_OPEN, Decision::Gate(1, true)],
+        leaf: LeafRow::Void,
+        cutoff: 0,
+        gates: 3,
+        bits: 0,
+        holds: true,
+    },
+    Case {
+        name: "a child opens its parent, so that its rival is void too",
+        market: FAMILY,
+        decisions: &[Decision::Gate(2, true), Decision::Gate(1, true)],
+        leaf: LeafRow::Void,
+        cutoff: 0,
+        gates: 3,
+        bits: 0,
+        holds: true,
+    },
+    Case {
+        name: "a child below a parent that is closed is void",
+        market: FAMILY,
+        decisions: &[Decision::Gate(2, true), FIRST_CLOSED],
+        leaf: LeafRow::Void,
+        cutoff: 0,
+        gates: 3,
+        bits: 0,
+        holds: true,
+    },
+    Case {
+        name: "a child alone isn't",
+        market: FAMILY,
+        decisions: &[Decision::Gate(2, true)],
+        leaf: LeafRow::Void,
+        cutoff: 0,
+        gates: 3,
+        bits: 0,
+        holds: false,
+    },
+    Case {
+        name: "no price is both at most one and above it",
+        market: OVERSIZED,
+        decisions: &[
+            Decision::AtMost(0, Cents(2000)),
+            Decision::Above(0, Cents(2000)),
+        ],
+        leaf: LeafRow::Void,
+        cutoff: 0,
+        gates: 1,
+        bits: 0,
+        holds: true,
+    },
+    Case {
+        name: "but one is at most the next",
+        market: OVERSIZED,
+        decisions: &[
+            Decision::AtMost(0, Cents(2001)),
+            Decision::Above(0, Cents(2000)),
+        ],
+        leaf: LeafRow::Void,
+        cutoff: 0,
+        gates: 1,
+        bits: 0,
+        holds: false,
+    },
+    Case {
+        name: "an open gate can't be paid by a lower price",
+        market: ONE_PRICE,
+        decisions: &[FIRST_OPEN, Decision::AtMost(0, Cents(4999))],
+        leaf: LeafRow::Void,
+        cutoff: 0,
+        gates: 2,
+        bits: 0,
+        holds: true,
+    },
+    Case {
+        name: "but by its own",
+        market: ONE_PRICE,
+        decisions: &[FIRST_OPEN, Decision::AtMost(0, Cents(5000))],
+        leaf: LeafRow::Void,
+        cutoff: 0,
+        gates: 2,
+        bits: 0,
+        holds: false,
+    },
+    Case {
+        name: "a void state has no bound",
+        market: ONE_PRICE,
+        decisions: &[FIRST_OPEN, Decision::AtMost(0, Cents(4999))],
+        leaf: LeafRow::Bound(&[3000, 3000]),
+        cutoff: 1000000000,
+        gates: 2,
+        bits: 0,
+        holds: false,
+    },
+    Case {
+        name: "which one that isn't void has",
+        market: ONE_PRICE,
+        decisions: &[FIRST_OPEN, Decision::AtMost(0, Cents(5000))],
+        leaf: LeafRow::Bound(&[3000, 3000]),
+        cutoff: 1000000000,
+        gates: 2,
+        bits: 0,
+        holds: true,
+    },
+    Case {
+        name: "an oversized bid is cut",
+        market: OVERSIZED,
+        decisions: &[FIRST_OPEN],
+        leaf: LeafRow::Cut(CutSide::Out, 0),
+        cutoff: 0,
+        gates: 1,
+        bits: 0,
+        holds: true,
+    },
+    Case {
+        name: "a closed one isn't",
+        market: OVERSIZED,
+        decisions: &[FIRST_CLOSED],
+        leaf: LeafRow::Cut(CutSide::Out, 0),
+        cutoff: 0,
+        gates: 1,
+        bits: 0,
+        holds: false,
+    },
+    Case {
+        name: "a void state has no cut",
+        market: OVERSIZED,
+        decisions: &[FIRST_OPEN, Decision::AtMost(0, Cents(2999))],
+        leaf: LeafRow::Cut(CutSide::Out, 0),
+        cutoff: 0,
+        gates: 1,
+        bits: 0,
+        holds: false,
+    },
+    Case {
+        name: "a bid that is open in the dearer zone has no way out",
+        market: ONE_PRICE,
+        decisions: &[FIRST_OPEN, Decision::AtMost(1, Cents(4999))],
+        leaf: LeafRow::Cut(CutSide::Out, 0),
+        cutoff: 0,
+        gates: 2,
+        bits: 0,
+        holds: true,
+    },
+    Case {
+        name: "but where the other zone may be as dear",
+        market: ONE_PRICE,
+        decisions: &[FIRST_OPEN, Decision::AtMost(1, Cents(5000))],
+        leaf: LeafRow::Cut(CutSide::Out, 0),
+        cutoff: 0,
+        gates: 2,
+        bits: 0,
+        holds: false,
+    },
+    Case {
+        name: "nor where nothing is said of its price",
+        market: ONE_PRICE,
+        decisions: &[FIRST_OPEN],
+        leaf: LeafRow::Cut(CutSide::Out, 0),
+        cutoff: 0,
+        gates: 2,
+        bits: 0,
+        holds: false,
+    },
+    Case {
+        name: "a bid that always gains has too much",
+        market: ONE_PRICE,
+        decisions: &[FIRST_OPEN, Decision::Above(1, Cents(4999))],
+        leaf: LeafRow::Cut(CutSide::Out, 1),
+        cutoff: 0,
+        gates: 2,
+        bits: 0,
+        holds: true,
+    },
+    Case {
+        name: "and at its own price it need not run",
+        market: ONE_PRICE,
+        decisions: &[FIRST_OPEN, Decision::Above(1, Cents(2999))],
+        leaf: LeafRow::Cut(CutSide::Out, 1),
+        cutoff: 0,
+        gates: 2,
+        bits: 0,
+        holds: false,
+    },
+    Case {
+        name: "a border to a zone that is always dearer is full, which costs at other potentials",
+        market: ONE_PRICE,
+        decisions: &[
+            Decision::AtMost(0, Cents(2500)),
+            Decision::Above(1, Cents(2500)),
+        ],
+        leaf: LeafRow::Bound(&[3000, 2000]),
+        cutoff: 1450000,
+        gates: 2,
+        bits: 0,
+        holds: true,
+    },
+    Case {
+        name: "and not less than that",
+        market: ONE_PRICE,
+        decisions: &[
+            Decision::AtMost(0, Cents(2500)),
+            Decision::Above(1, Cents(2500)),
+        ],
+        leaf: LeafRow::Bound(&[3000, 2000]),
+        cutoff: 1449999,
+        gates: 2,
+        bits: 0,
+        holds: false,
+    },
+    Case {
+        name: "but it isn't where the prices may be the same",
+        market: ONE_PRICE,
+        decisions: &[
+            Decision::AtMost(0, Cents(2501)),
+            Decision::Above(1, Cents(2500)),
+        ],
+        leaf: LeafRow::Bound(&[3000, 2000]),
+        cutoff: 1450000,
+        gates: 2,
+        bits: 0,
+        holds: false,
+    },
+    Case {
+        name: "a potential bounds at its dual value",
+        market: OVERSIZED,
+        decisions: &[FIRST_CLOSED],
+        leaf: LeafRow::Bound(&[5000]),
+        cutoff: 299847000,
+        gates: 1,
+        bits: 0,
+        holds: true,
+    },
+    Case {
+        name: "and not below it",
+        market: OVERSIZED,
+        decisions: &[FIRST_CLOSED],
+        leaf: LeafRow::Bound(&[5000]),
+        cutoff: 299846999,
+        gates: 1,
+        bits: 0,
+        holds: false,
+    },
+    Case {
+        name: "nor for a later word at its dual value",
+        market: OVERSIZED,
+        decisions: &[FIRST_CLOSED],
+        leaf: LeafRow::Bound(&[5000]),
+        cutoff: 299847000,
+        gates: 1,
+        bits: 1,
+        holds: false,
+    },
+    Case {
+        name: "but above it",
+        market: OVERSIZED,
+        decisions: &[FIRST_CLOSED],
+        leaf: LeafRow::Bound(&[5000]),
+        cutoff: 299847001,
+        gates: 1,
+        bits: 1,
+        holds: true,
+    },
+    Case {
+        name: "a free gate that doesn't gain bounds no word that opens it",
+        market: ONE_PRICE,
+        decisions: &[FIRST_CLOSED],
+        leaf: LeafRow::Bound(&[3000, 3000]),
+        cutoff: 1455000,
+        gates: 2,
+        bits: 2,
+        holds: false,
+    },
+    Case {
+        name: "one that gains does",
+        market: CHEAPER,
+        decisions: &[FIRST_CLOSED],
+        leaf: LeafRow::Bound(&[3000, 3000]),
+        cutoff: 1460000,
+        gates: 2,
+        bits: 2,
+        holds: true,
+    },
+    Case {
+        name: "but none that opens an earlier one",
+        market: CHEAPER,
+        decisions: &[FIRST_CLOSED],
+        leaf: LeafRow::Bound(&[3000, 3000]),
+        cutoff: 1460000,
+        gates: 2,
+        bits: 1,
+        holds: false,
+    },
+    Case {
+        name: "and every earlier word",
+        market: CHEAPER,
+        decisions: &[FIRST_CLOSED],
+        leaf: LeafRow::Bound(&[3000, 3000]),
+        cutoff: 1460000,
+        gates: 2,
+        bits: 0,
+        holds: true,
+    },
+    Case {
+        name: "a gate whose group has another open gate adds nothing",
+        market: FAMILY,
+        decisions: &[FIRST_OPEN],
+        leaf: LeafRow::Bound(&[5000]),
+        cutoff: 200000,
+        gates: 3,
+        bits: 0,
+        holds: true,
+    },
+    Case {
+        name: "but the open gate's child, which is free, does",
+        market: FAMILY,
+        decisions: &[FIRST_OPEN],
+        leaf: LeafRow::Bound(&[5000]),
+        cutoff: 199999,
+        gates: 3,
+        bits: 0,
+        holds: false,
+    },
+    Case {
+        name: "the word of a bound opens the open gate and the child that gains",
+        market: FAMILY,
+        decisions: &[FIRST_OPEN],
+        leaf: LeafRow::Bound(&[5000]),
+        cutoff: 200000,
+        gates: 3,
+        bits: 5,
+        holds: true,
+    },
+    Case {
+        name: "which comes before one that opens the first two",
+        market: FAMILY,
+        decisions: &[FIRST_OPEN],
+        leaf: LeafRow::Bound(&[5000]),
+        cutoff: 200000,
+        gates: 3,
+        bits: 3,
+        holds: false,
+    },
+    Case {
+        name: "orders that always lose add nothing at a potential at which they would gain",
+        market: OVERSIZED,
+        decisions: &[Decision::AtMost(0, Cents(2000))],
+        leaf: LeafRow::Bound(&[6000]),
+        cutoff: 299817000,
+        gates: 1,
+        bits: 0,
+        holds: true,
+    },
+    Case {
+        name: "and what always gains isn't less than its greatest",
+        market: OVERSIZED,
+        decisions: &[Decision::AtMost(0, Cents(2000))],
+        leaf: LeafRow::Bound(&[6000]),
+        cutoff: 299816999,
+        gates: 1,
+        bits: 0,
+        holds: false,
+    },
+    Case {
+        name: "a demand that always gains runs in full at a potential at which it would lose",
+        market: ONE_PRICE,
+        decisions: &[Decision::AtMost(1, Cents(4000))],
+        leaf: LeafRow::Bound(&[200_000, 200_000]),
+        cutoff: 21130000,
+        gates: 2,
+        bits: 0,
+        holds: true,
+    },
+    Case {
+        name: "and one at a price that it may pay need not",
+        market: ONE_PRICE,
+        decisions: &[Decision::AtMost(1, Cents(100_000))],
+        leaf: LeafRow::Bound(&[200_000, 200_000]),
+        cutoff: 22629999,
+        gates: 2,
+        bits: 0,
+        holds: false,
+    },
+];
+
+fn leaf_of(alloc: Global, row: &LeafRow) -> Result<ReachLeaf, AllocError> {
+    match row {
+        LeafRow::Void => Ok(ReachLeaf::Void),
+        LeafRow::Bound(cents) => Ok(ReachLeaf::Bound(prices_of(alloc, cents)?)),
+        LeafRow::Cut(side, zone) => Ok(ReachLeaf::Cut(Cut {
+            side: *side,
+            zones: Items::of([*zone].to_vec(alloc)?),
+        })),
+    }
+}
+
+/// Whether a leaf holds, where the market is valid and the decisions and the word fit it.
+fn holds(
+    market: &Market,
+    decisions: &[Decision],
+    leaf: &ReachLeaf,
+    cutoff: i128,
+    word: &Prefix,
+) -> Option<bool> {
+    if market.valid()
+        && are_decisions(market, decisions)
+        && word.length as usize == market.gates.as_slice().len()
+    {
+        Some(check_leaf(market, decisions, leaf, Quarters(cutoff), word))
+    } else {
+        None
+    }
+}
+
+/// Whether the leaf of a case holds.
+fn holds_in(alloc: Global, case: &Case) -> Result<Option<bool>, Fail> {
+    let leaf = leaf_of(alloc, &case.leaf)?;
+    let market = market_of(alloc, &case.market)?;
+    let word = prefix(case.gates, case.bits);
+    let answer = holds(&market, case.decisions, &leaf, case.cutoff, &word);
+    drop(market);
+    drop(leaf);
+    Ok(answer)
+}
+
+#[test]
+fn leaves_that_hold_or_not(rt: HostRuntime) -> Result<(), Fail> {
+    for case in CASES {
+        let answer = holds_in(rt.alloc(), case)?;
+        same_in(&rt, case.name, answer, Some(case.holds));
+    }
+    Ok(())
+}
+
+/// A market, a tree, a cutoff and the bits of a word; and the verdict on the tree.
+struct TreeCase {
+    name: &'static str,
+    market: MarketRow,
+    tree: &'static [ItemRow],
+    cutoff: i128,
+    gates: u32,
+    bits: u64,
+    verdict: TreeVerdict,
+}
+
+/// The paradox bid is closed, or the demand has too much.
+const PARADOX_TREE: &[ItemRow] = &[
+    ItemRow::Gate(0),
+    ItemRow::Leaf(LeafRow::Bound(&[9_999_900])),
+    ItemRow::Leaf(LeafRow::Cut(CutSide::Out, 0)),
+];
+
+/// The dear bid is closed; or it is open, and the other zone is cheaper, so that the border is full the other way, or as
+/// dear, so that the cheap bid runs in full. The second gate stays free.
+const PRICE_TREE: &[ItemRow] = &[
+    ItemRow::Gate(0),
+    ItemRow::Leaf(LeafRow::Bound(&[3000, 3000])),
+    ItemRow::Price(1, 4999),
+    ItemRow::Leaf(LeafRow::Cut(CutSide::Out, 0)),
+    ItemRow::Leaf(LeafRow::Cut(CutSide::Out, 1)),
+];
+
+const TREES: &[TreeCase] = &[
+    TreeCase {
+        name: "a paradox bid: closed, its welfare is the bound; open, nothing balances",
+        market: PARADOX,
+        tree: PARADOX_TREE,
+        cutoff: 399956000,
+        gates: 1,
+        bits: 0,
+        verdict: TreeVerdict::Holds,
+    },
+    TreeCase {
+        name: "not below that welfare",
+        market: PARADOX,
+        tree: PARADOX_TREE,
+        cutoff: 399955999,
+        gates: 1,
+        bits: 0,
+        verdict: TreeVerdict::BadLeaf(1),
+    },
+    TreeCase {
+        name: "two gates and a price by five parts",
+        market: ONE_PRICE,
+        tree: PRICE_TREE,
+        cutoff: 1455000,
+        gates: 2,
+        bits: 0,
+        verdict: TreeVerdict::Holds,
+    },
+    TreeCase {
+        name: "the children of a price exchanged",
+        market: ONE_PRICE,
+        tree: &[
+            ItemRow::Gate(0),
+            ItemRow::Leaf(LeafRow::Bound(&[3000, 3000])),
+            ItemRow::Price(1, 4999),
+            ItemRow::Leaf(LeafRow::Cut(CutSide::Out, 1)),
+            ItemRow::Leaf(LeafRow::Cut(CutSide::Out, 0)),
+        ],
+        cutoff: 1455000,
+        gates: 2,
+        bits: 0,
+        verdict: TreeVerdict::BadLeaf(3),
+    },
+    TreeCase {
+        name: "a price of the box's greatest",
+        market: ONE_PRICE,
+        tree: &[ItemRow::Price(1, 9_999_900)],
+        cutoff: 1455000,
+        gates: 2,
+        bits: 0,
+        verdict: TreeVerdict::BadShape(0),
+    },
+    TreeCase {
+        name: "a price of the box's least, with a part missing",
+        market: ONE_PRICE,
+        tree: &[ItemRow::Price(1, -9_999_900)],
+        cutoff: 1455000,
+        gates: 2,
+        bits: 0,
+        verdict: TreeVerdict::BadShape(1),
+    },
+    TreeCase {
+        name: "a price below the box",
+        market: ONE_PRICE,
+        tree: &[
+            ItemRow::Gate(0),
+            ItemRow::Leaf(LeafRow::Bound(&[3000, 3000])),
+            ItemRow::Price(0, 4999),
+        ],
+        cutoff: 1455000,
+        gates: 2,
+        bits: 0,
+        verdict: TreeVerdict::BadShape(2),
+    },
+    TreeCase {
+        name: "a zone that isn't there",
+        market: ONE_PRICE,
+        tree: &[ItemRow::Price(2, 4999)],
+        cutoff: 1455000,
+        gates: 2,
+        bits: 0,
+        verdict: TreeVerdict::BadShape(0),
+    },
+    TreeCase {
+        name: "a part is missing",
+        market: ONE_PRICE,
+        tree: &[
+            ItemRow::Gate(1),
+            ItemRow::Leaf(LeafRow::Bound(&[3000, 3000])),
+        ],
+        cutoff: 1455000,
+        gates: 2,
+        bits: 0,
+        verdict: TreeVerdict::BadShape(2),
+    },
+    TreeCase {
+        name: "a gate is decided twice",
+        market: ONE_PRICE,
+        tree: &[ItemRow::Gate(1), ItemRow::Gate(1)],
+        cutoff: 1455000,
+        gates: 2,
+        bits: 0,
+        verdict: TreeVerdict::BadShape(1),
+    },
+    TreeCase {
+        name: "a gate that isn't there",
+        market: ONE_PRICE,
+        tree: &[ItemRow::Gate(2)],
+        cutoff: 1455000,
+        gates: 2,
+        bits: 0,
+        verdict: TreeVerdict::BadShape(0),
+    },
+    TreeCase {
+        name: "a gate that contradicts itself is void where it is open",
+        market: TORN,
+        tree: &[
+            ItemRow::Gate(0),
+            ItemRow::Leaf(LeafRow::Bound(&[5000])),
+            ItemRow::Leaf(LeafRow::Void),
+        ],
+        cutoff: 0,
+        gates: 2,
+        bits: 0,
+        verdict: TreeVerdict::Holds,
+    },
+    TreeCase {
+        name: "and has no bound there",
+        market: TORN,
+        tree: &[
+            ItemRow::Gate(0),
+            ItemRow::Leaf(LeafRow::Bound(&[5000])),
+            ItemRow::Leaf(LeafRow::Bound(&[5000])),
+        ],
+        cutoff: 1000000,
+        gates: 2,
+        bits: 0,
+        verdict: TreeVerdict::BadLeaf(2),
+    },
+    TreeCase {
+        name: "nor a branch",
+        market: TORN,
+        tree: &[
+            ItemRow::Gate(0),
+            ItemRow::Leaf(LeafRow::Bound(&[5000])),
+            ItemRow::Gate(1),
+        ],
+        cutoff: 0,
+        gates: 2,
+        bits: 0,
+        verdict: TreeVerdict::BadShape(2),
+    },
+    TreeCase {
+        name: "a false leaf doesn't hide a branch behind it that may not stand there",
+        market: ONE_PRICE,
+        tree: &[
+            ItemRow::Gate(0),
+            ItemRow::Leaf(LeafRow::Void),
+            ItemRow::Gate(2),
+        ],
+        cutoff: 1455000,
+        gates: 2,
+        bits: 0,
+        verdict: TreeVerdict::BadShape(2),
+    },
+    TreeCase {
+        name: "nor a part that is missing",
+        market: ONE_PRICE,
+        tree: &[ItemRow::Gate(0), ItemRow::Leaf(LeafRow::Void)],
+        cutoff: 1455000,
+        gates: 2,
+        bits: 0,
+        verdict: TreeVerdict::BadShape(2),
+    },
+    TreeCase {
+        name: "nor an item that is left over",
+        market: ONE_PRICE,
+        tree: &[
+            ItemRow::Leaf(LeafRow::Void),
+            ItemRow::Leaf(LeafRow::Bound(&[3000, 3000])),
+        ],
+        cutoff: 1455000,
+        gates: 2,
+        bits: 0,
+        verdict: TreeVerdict::BadShape(1),
+    },
+    TreeCase {
+        name: "of two false leaves the first is named",
+        market: ONE_PRICE,
+        tree: &[
+            ItemRow::Price(1, 4999),
+            ItemRow::Leaf(LeafRow::Void),
+            ItemRow::Leaf(LeafRow::Void),
+        ],
+        cutoff: 1455000,
+        gates: 2,
+        bits: 0,
+        verdict: TreeVerdict::BadLeaf(1),
+    },
+    TreeCase {
+        name: "children of a second child have their parts last",
+        market: ONE_PRICE,
+        tree: &[
+            ItemRow::Gate(1),
+            ItemRow::Gate(0),
+            ItemRow::Leaf(LeafRow::Bound(&[3000, 3000])),
+            ItemRow::Price(1, 4999),
+            ItemRow::Leaf(LeafRow::Cut(CutSide::Out, 0)),
+            ItemRow::Leaf(LeafRow::Cut(CutSide::Out, 1)),
+            ItemRow::Leaf(LeafRow::Bound(&[3000, 3000])),
+        ],
+        cutoff: 1455000,
+        gates: 2,
+        bits: 0,
+        verdict: TreeVerdict::Holds,
+    },
+];
+
+fn item_of(alloc: Global, row: &ItemRow) -> Result<ReachItem, AllocError> {
+    match row {
+        ItemRow::Gate(gate) => Ok(ReachItem::Branch(Choice::OfGate(*gate))),
+        ItemRow::Price(zone, price) => Ok(ReachItem::Branch(Choice::OfPrice(*zone, Cents(*price)))),
+        ItemRow::Leaf(leaf) => Ok(ReachItem::Leaf(leaf_of(alloc, leaf)?)),
+    }
+}
+
+/// The verdict on a tree, where the market is valid and the word fits it.
+fn verdict(
+    alloc: Global,
+    market: &Market,
+    tree: &[ReachItem],
+    cutoff: i128,
+    word: &Prefix,
+) -> Option<TreeVerdict> {
+    if market.valid() && word.length as usize == market.gates.as_slice().len() {
+        check_tree(alloc, market, tree, Quarters(cutoff), word).ok()
+    } else {
+        None
+    }
+}
+
+/// The verdict on the tree of a case.
+fn verdict_in(alloc: Global, case: &TreeCase) -> Result<Option<TreeVerdict>, Fail> {
+    let market = market_of(alloc, &case.market)?;
+    let mut tree = Vec::new(alloc);
+    for row in case.tree {
+        tree.push(item_of(alloc, row)?)?;
+    }
+    let word = prefix(case.gates, case.bits);
+    let answer = verdict(alloc, &market, tree.as_slice(), case.cutoff, &word);
+    drop(tree);
+    drop(market);
+    Ok(answer)
+}
+
+#[test]
+fn trees_that_hold_or_not(rt: HostRuntime) -> Result<(), Fail> {
+    for case in TREES {
+        let answer = verdict_in(rt.alloc(), case)?;
+        same_in(&rt, case.name, answer, Some(case.verdict));
+    }
+    Ok(())
+}
+
+/// The dual value of potentials where nothing is decided, where they fit the market.
+fn root_in(alloc: Global, row: &MarketRow, cents: &[i64]) -> Result<Option<Quarters>, AllocError> {
+    let market = market_of(alloc, row)?;
+    let potentials = prices_of(alloc, cents)?;
+    let value = if market.valid() && market.are_prices(potentials.cents.as_slice()) {
+        Some(root_value(&market, &potentials))
+    } else {
+        None
+    };
+    drop(potentials);
+    drop(market);
+    Ok(value)
+}
+
+#[test]
+fn free_gates_and_the_demand_gain_at_the_root(rt: HostRuntime) -> Result<(), Fail> {
+    // 20.00 for 40 MW, nothing for the dearer bid, and 99949.00 for 30 MW.
+    let value = root_in(rt.alloc(), &OVERSIZED, &[5000])?;
+    same_in(&rt, "one zone", value, Some(Quarters(299_927_000)));
+    // 10.00 for 5 MW and 0.00 for 100 MW, 970.00 for 15 MW, and nothing for the dear bid and the border.
+    let value = root_in(rt.alloc(), &CHEAPER, &[3000, 3000])?;
+    same_in(&rt, "two zones", value, Some(Quarters(1_460_000)));
+    Ok(())
+}

@@ -61,9 +61,10 @@ def sum_of(path):
         return None
     except OSError:
         return "unreadable"
+    if not stat.S_ISREG(os.fstat(file).st_mode):
+        os.close(file)
+        return "no file"
     with open(file, "rb") as data:
-        if not stat.S_ISREG(os.fstat(file).st_mode):
-            return "no file"
         found = hashlib.sha256()
         try:
             while part := data.read(1 << 20):

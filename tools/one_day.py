@@ -31,6 +31,7 @@ TEXTS = {
     "value": ("value.txt", (0,), [*MARKET, "publication.txt"]),
 }
 LOCK = b".days.lock"
+MOST_OF_A_RECORD = 1 << 20
 USAGE, NOT_STARTED, NOT_KEPT = 2, 127, 125
 # What the program prints last is a line that says why, with these; with others it is a part of a text.
 SAYS_WHY = (2, 3, 4, 7, 8, 9)
@@ -53,25 +54,31 @@ def to_text(name):
     return name.decode("utf-8", "surrogateescape")
 
 
+class NoFile(OSError):
+    """What stands under a name is no plain file."""
+
+
+def opened(path):
+    """A plain file, to be read. Nothing waits for what a pipe or a device may bring."""
+    file = os.open(path, os.O_RDONLY | os.O_NONBLOCK | os.O_CLOEXEC)
+    if not stat.S_ISREG(os.fstat(file).st_mode):
+        os.close(file)
+        raise NoFile
+    return open(file, "rb")
+
+
 def sum_of(path):
     """The sha256 of a file; None where there is none, and a word where it is something else or can't be read."""
     try:
-        file = os.open(path, os.O_RDONLY | os.O_NONBLOCK | os.O_CLOEXEC)
+        with opened(path) as data:
+            found = hashlib.sha256()
+            while part := data.read(1 << 20):
+                found.update(part)
+            return found.hexdigest()
     except FileNotFoundError:
         return None
     except OSError:
-        return "unreadable"
-    if not stat.S_ISREG(os.fstat(file).st_mode):
-        os.close(file)
-        return "no file"
-    with open(file, "rb") as data:
-        found = hashlib.sha256()
-        try:
-            while part := data.read(1 << 20):
-                found.update(part)
-        except OSError:
-            return "unreadable"
-    return found.hexdigest()
+        return "no file that can be read"
 
 
 def is_sum(found):
@@ -104,10 +111,10 @@ class Folder:
     def record(self):
         """What the last call noted of itself, or None."""
         try:
-            with open(self.made_by, "rb") as data:
-                record = json.load(data)
+            with opened(self.made_by) as data:
+                record = json.loads(data.read(MOST_OF_A_RECORD))
             record = {key: record[key] for key in ("words", "program", "read", "text", "code", "said")}
-            is_right = isinstance(record["words"], list) and isinstance(record["read"], dict) and isinstance(record["code"], int)
+            is_right = isinstance(record["words"], list) and isinstance(record["code"], int) and list(record["read"]) == self.read
             return record if is_right and isinstance(record["program"], str) and isinstance(record["said"], str) else None
         except (OSError, ValueError, KeyError, TypeError, RecursionError):
             return None
@@ -128,18 +135,19 @@ class Folder:
         record = self.record()
         if not record or (record["words"], record["program"]) != (words, program):
             return None
-        if record["code"] not in self.whole or list(record["read"]) != self.read or self.changed(record):
-            return None
-        return record["code"]
+        return record["code"] if record["code"] in self.whole and not self.changed(record) else None
+
+    def write(self, path, text):
+        """Puts a small text under a name, which it gets once it is whole."""
+        part = self.made_by + b".part"
+        remove(part)
+        with open(os.open(part, os.O_WRONLY | os.O_CREAT | os.O_EXCL, 0o666), "w", encoding="utf-8", errors="backslashreplace") as file:
+            file.write(text + "\n")
+        os.replace(part, path)
 
     def note(self, record):
         """Writes what the text was made by, or why there is none."""
-        part = self.made_by + b".part"
-        remove(part)
-        with open(os.open(part, os.O_WRONLY | os.O_CREAT | os.O_EXCL, 0o666), "w", encoding="ascii") as file:
-            json.dump(record, file)
-            file.write("\n")
-        os.replace(part, self.made_by)
+        self.write(self.made_by, json.dumps(record))
 
     def keep(self, record):
         """Gives the text its name, and notes what it was made by."""
@@ -156,8 +164,8 @@ class Folder:
             if record["code"] != USAGE and not os.path.isdir(self.text) and os.path.lexists(self.text):
                 os.replace(self.text, self.text + b".old")
         with contextlib.suppress(OSError):
-            with open(self.failed, "w", encoding="utf-8", errors="backslashreplace") as file:
-                file.write(record["said"] + "\n")
+            self.write(self.failed, record["said"])
+        with contextlib.suppress(OSError):
             if record["code"] != USAGE:
                 self.note(record)
 
@@ -333,8 +341,9 @@ def end_group(child):
 
 
 def end_by_signal():
-    """Lets the signals that ask for the end raise Ended, once."""
-    numbers = (signal.SIGHUP, signal.SIGINT, signal.SIGTERM)
+    """Lets the signals that ask for the end raise Ended, once; one that is ignored, as by nohup, stays so."""
+    asking = (signal.SIGHUP, signal.SIGINT, signal.SIGTERM)
+    numbers = [it for it in asking if signal.getsignal(it) != signal.SIG_IGN]
 
     def end(number, _):
         for other in numbers:

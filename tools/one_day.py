@@ -114,8 +114,9 @@ class Folder:
             with opened(self.made_by) as data:
                 record = json.loads(data.read(MOST_OF_A_RECORD))
             record = {key: record[key] for key in ("words", "program", "read", "text", "code", "said")}
-            is_right = isinstance(record["words"], list) and isinstance(record["code"], int) and list(record["read"]) == self.read
-            return record if is_right and isinstance(record["program"], str) and isinstance(record["said"], str) else None
+            kinds = {"words": list, "program": str, "read": dict, "code": int, "said": str}
+            is_right = all(isinstance(record[key], kind) for key, kind in kinds.items()) and list(record["read"]) == self.read
+            return record if is_right else None
         except (OSError, ValueError, KeyError, TypeError, RecursionError):
             return None
 
@@ -155,7 +156,8 @@ class Folder:
         os.replace(self.part, self.text)
         self.note(record)
         for path in (self.text + b".old", self.failed):
-            remove(path)
+            with contextlib.suppress(OSError):
+                remove(path)
 
     def give_up(self, record):
         """Notes why there is no text. That of an earlier call isn't the one that was asked for, and gets another name."""
@@ -331,13 +333,14 @@ class Runner:
 
 
 def end_group(child):
-    """Ends a process and those that it started."""
+    """Ends a process that runs, and those that it started."""
     for number in (signal.SIGTERM, signal.SIGKILL):
+        if child.poll() is not None:
+            return
         with contextlib.suppress(ProcessLookupError, PermissionError):
             os.killpg(child.pid, number)
         with contextlib.suppress(subprocess.TimeoutExpired):
             child.wait(5)
-            return
 
 
 def end_by_signal():

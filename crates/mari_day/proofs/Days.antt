@@ -1,7 +1,8 @@
--- The numbers of a day's text are in range.
-use Rattle.std.proofs.Common.{◌≡◌, ℕ, zero, suc, ◌*◌, ◌-◌, ◌<◌, ◌≤◌, ◌==◌, Bool, true, List, [], ◌∷◌, length, map, filter, get_or, refl, arith}
+-- A whole day is printed, and the numbers of its text are in range.
+use Rattle.std.proofs.Common.{◌≡◌, ℕ, zero, suc, ◌*◌, ◌-◌, ◌<◌, ◌≤◌, ◌==◌, Bool, true, List, [], ◌∷◌, ◌++◌, ◌∙◌, length, map, filter, get_or, refl, sym, ap, append_assoc, append-nil, arith}
 use Rattle.std.specs.Prelude.{not, count_by}
-use Rattle.std.specs.List.{All, range_with_len}
+use Rattle.std.specs.List.{All, flat_map, range_with_len}
+use Rattle.std.proofs.lemmas.Grind.{flat_map-append}
 use Rattle.std.proofs.lemmas.Bool.Decides.{nat_tests}
 use Rattle.std.proofs.lemmas.List.{length-map}
 use Rattle.std.proofs.lemmas.List.FromFn.{get_or-range_with_len, length-range_with_len}
@@ -13,10 +14,18 @@ use Rattle.mari_market.specs.Clearing.{ArePartsOfSearch, IsSpent}
 use Rattle.mari_market.specs.declared.clearing.PartItem.{PartItem}
 use Rattle.mari_market.specs.declared.clearing.Spent.{Spent}
 use Rattle.mari_market.specs.declared.market.Market.{Market}
+use Rattle.mari_lines.specs.Spelling.{line_text}
 use Rattle.mari_lines.specs.declared.line.AmountLine.{AmountLine}
+use Rattle.mari_lines.specs.declared.line.Line.TheVariants as line
+use Rattle.mari_lines.specs.declared.line.MoneyLine.{MoneyLine}
 use Rattle.mari_lines.specs.Ranges.{Between, IsAmountLine, IsHeading, IsMoneyLine, Listed}
 use Rattle.mari_publish.specs.declared.publication.Block.{Block}
 use Rattle.mari_publish.specs.declared.publication.Publication.{Publication}
+use Rattle.mari_publish.specs.Lines.{block_lines, closing_lines, closing_lines_by, published_in, unpublished_in}
+use Rattle.mari_publish.specs.Ranges.{BlockFits}
+use Rattle.mari_publish.specs.Texts.{block_text_of, head_text_of, text_of, text_of_lines, total_text_of}
+use Rattle.mari_publish.proofs.Counts.{both_kinds}
+use Rattle.mari_publish.proofs.Parts.{text_of_blocks}
 use Rattle.mari_remain.specs.Accepted.{IsAccepted}
 use Rattle.mari_remain.specs.declared.books.Books.{Books}
 use Rattle.mari_settle.specs.Lines.{nothing}
@@ -24,15 +33,32 @@ use Rattle.mari_settle.specs.declared.ledger.Ledger.{Ledger}
 use Rattle.mari_day.specs.Dated.{IsDated}
 use Rattle.mari_progress.specs.Money.{amount_line, money_line, money_lines_of}
 use Rattle.mari_settle.specs.Conditions.{LineIsWithin, most_of_operator}
-use Rattle.mari_progress.specs.Progress.{AreTotals}
-use Rattle.mari_day.specs.Progress.{IsDayProgress}
-use Rattle.mari_day.specs.Stepped.{IsDayOf}
+use Rattle.mari_progress.specs.Progress.{AreTotals, IsProgress}
+use Rattle.mari_day.specs.Day.{IsDayPart, part_text}
+use Rattle.mari_day.specs.Progress.{PrintsWhole}
 use Rattle.mari_progress.specs.declared.progress.Progress.{Progress}
 use Rattle.mari_progress.specs.Reported.{heading_of}
 use Rattle.mari_day.proofs.BlockFits.{lines-fit, IsHalf}
 use Rattle.mari_progress.proofs.Lists.{along-length}
 use Rattle.mari_progress.proofs.Sums.{one-each-provider, provider-lines}
 use Rattle.mari_remain.proofs.Counts.{filtered}
+
+-- the head, the blocks and the totals are the text of a day
+day-text : (p : Publication) → (head_text_of p.date p.quarters p.budget ++ flat_map block_text_of p.blocks) ++ total_text_of p ≡ text_of p
+day-text p =
+    let head : List ℕ = line_text (line.Head p.date p.quarters p.budget) in
+    append_assoc (head ++ []) (flat_map block_text_of p.blocks) (total_text_of p)
+    ∙ ap (λ (t : List ℕ). t ++ (flat_map block_text_of p.blocks ++ total_text_of p)) (append-nil head)
+    ∙ ap (λ (t : List ℕ). head ++ (t ++ total_text_of p)) (sym (text_of_blocks p.blocks))
+    ∙ ap (λ (t : List ℕ). head ++ t) (sym (flat_map-append line_text (flat_map block_lines p.blocks) (closing_lines p)))
+
+-- the closing lines, by what they are made of
+pub closing-text : (p : Publication) (operators : List MoneyLine) (providers : List AmountLine) (published unpublished : ℕ)
+    → operators ≡ p.operators → providers ≡ p.providers → published ≡ published_in p.blocks
+    → unpublished ≡ unpublished_in p.blocks → text_of_lines (closing_lines_by operators providers published unpublished) ≡ total_text_of p
+closing-text p operators providers published unpublished e f g h =
+    ap (λ xs. text_of_lines (closing_lines_by xs providers published unpublished)) e ∙ ap (λ xs. text_of_lines (closing_lines_by p.operators xs published unpublished)) f
+    ∙ ap (λ n. text_of_lines (closing_lines_by p.operators p.providers n unpublished)) g ∙ ap (λ n. text_of_lines (closing_lines_by p.operators p.providers (published_in p.blocks) n)) h
 
 module _ {X : Type 0} where
   -- where each item has one of n numbers, and at most c have the same, there are at most c * n
@@ -102,7 +128,8 @@ module _ (books : Books) (ok : IsAccepted books) (dated : IsDated books) where
               (ok.bids.providers (get_or places k d) [] (omega (arith, place)), omega (arith, few, within))),
         )
 
-  module _ (budget : ℕ) (node_range : Between 1 50000 budget) (blocks : List Block) (kept : Progress) (progress : IsDayProgress books budget blocks kept) (every : length blocks ≡ length books.runs.runs) where
+  module _ (budget : ℕ) (node_range : Between 1 50000 budget) (blocks : List Block) (part : IsDayPart books budget blocks) (fits : All BlockFits blocks)
+      (kept : Progress) (progress : IsProgress books blocks kept) (every : length blocks ≡ length books.runs.runs) where
     pub few-blocks : length blocks ≤ 1000
     few-blocks = omega (arith, every, ok.runs.few)
 
@@ -114,29 +141,40 @@ module _ (books : Books) (ok : IsAccepted books) (dated : IsDated books) where
       budget = budget;
       blocks = blocks;
       operators = money_lines_of books.zones.operators kept.totals.operators;
-      providers = lines blocks kept.totals progress.kept.totals few-blocks;
+      providers = lines blocks kept.totals progress.totals few-blocks;
     }
 
-    pub is-day : IsDayOf books budget blocks day-of-blocks
-    is-day = record {
-      day = record {
+    -- how many of its blocks aren't published
+    pub others : length books.runs.runs - kept.published ≡ unpublished_in blocks
+    others = omega (arith, every, progress.published, both_kinds blocks)
+
+    pub printed : PrintsWhole (books, budget) kept.published (part_text books budget blocks ++ total_text_of day-of-blocks)
+    printed = record {
+      publication = day-of-blocks;
+      is_day = record {
         head = record { date_is = refl; quarters_is = refl };
         budget = refl;
-        part = progress.part;
+        part = part;
         every = every;
         totals = record {
-          operators = progress.kept.totals.operators;
-          providers = provider-lines books blocks kept.totals progress.kept.totals;
+          operators = progress.totals.operators;
+          providers = provider-lines books blocks kept.totals progress.totals;
         };
       };
       in_range = record {
         head = (dated.date, dated.quarters, node_range);
-        blocks = progress.fits;
+        blocks = fits;
         totals = record {
           runs = few-blocks;
-          operators = operators-fit blocks kept.totals progress.kept.totals few-blocks;
-          providers = providers-fit blocks kept.totals progress.kept.totals few-blocks;
+          operators = operators-fit blocks kept.totals progress.totals few-blocks;
+          providers = providers-fit blocks kept.totals progress.totals few-blocks;
         };
       };
-      of_blocks = refl;
+      text = day-text day-of-blocks;
+      published = progress.published;
+      unpublished = others;
     }
+
+-- of a whole day that was printed, how many blocks are published is at most the number of its runs
+pub few-published : (books : Books) (budget published : ℕ) (text : List ℕ) → PrintsWhole (books, budget) published text → published ≤ length books.runs.runs
+few-published books budget published text is = omega (arith, is.published, is.is_day.every, both_kinds is.publication.blocks)

@@ -7,11 +7,11 @@ pub mod TreeFits
 pub mod AreaFits
 pub mod BlockFits
 pub mod Shapes
+pub mod Framing
 pub mod Days
 pub mod Progressing
 pub mod Keeping
 pub mod Enough
 pub mod Facts
-pub mod Texts
 pub mod Migrated
 pub mod MigratedFolder

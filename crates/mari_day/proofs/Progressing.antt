@@ -1,11 +1,8 @@
 -- What is kept of a day part stands for one block more after each run.
-use Rattle.std.proofs.Common.{ℕ, ◌≤◌, List, [], ◌∷◌, ◌++◌, length, Some, None, arith}
-use Rattle.std.proofs.lemmas.List.{length-append}
-use Rattle.std.proofs.lemmas.List.Elements.{All-push}
+use Rattle.std.proofs.Common.{ℕ, ◌≤◌, List, [], ◌∷◌, ◌++◌, length, Some, None}
 use Rattle.mari_publish.specs.declared.publication.Block.{Block}
 use Rattle.mari_publish.specs.declared.publication.Block.TheVariants as block
 use Rattle.mari_publish.specs.declared.publication.FullBlock.{FullBlock}
-use Rattle.mari_publish.specs.Ranges.{BlockFits}
 use Rattle.mari_remain.specs.declared.books.Books.{Books}
 use Rattle.mari_remain.specs.Accepted.{IsAccepted}
 use Rattle.mari_progress.specs.declared.progress.Progress.{Progress}
@@ -13,10 +10,8 @@ use Rattle.mari_progress.specs.declared.progress.SettledRun.{SettledRun}
 use Rattle.mari_progress.specs.After.{run_after}
 use Rattle.mari_progress.specs.Progress.{IsProgress}
 use Rattle.mari_progress.specs.Runs.{IsNextRun, IsSoundBlock, IsSoundRun}
-use Rattle.mari_progress.proofs.Lists.{each-more}
 use Rattle.mari_progress.proofs.Progressing.{unpublished-too}
-use Rattle.mari_day.specs.Day.{IsDayPart}
-use Rattle.mari_day.specs.Progress.{IsDayProgress, IsSettledIn}
+use Rattle.mari_day.specs.Progress.{IsSettledIn}
 use Rattle.mari_day.specs.Published.{IsBlock, IsPublishedRun}
 
 -- a block of a day is sound
@@ -33,39 +28,18 @@ pub sound-block : (books : Books) (budget : ℕ) (before : List Block) (b : Bloc
 sound-block books budget before (block.Published b) is = sound-run books budget before b is
 sound-block books budget before (block.Unpublished heading count) is = is.is_of
 
--- a day part with one block more
-pub part-more : (books : Books) (budget : ℕ) (blocks : List Block) (b : Block) → IsDayPart books budget blocks
-    → run_after blocks ≤ length books.runs.runs → IsBlock books budget blocks b
-    → IsDayPart books budget (blocks ++ b ∷ [])
-part-more books budget blocks b part last is = record {
-  few = omega (arith, last, length-append blocks (b ∷ []));
-  each = each-more (IsBlock books budget) blocks b part.each is;
-}
-
-module _ (books : Books) (budget : ℕ) (blocks : List Block) (kept : Progress) (progress : IsDayProgress books budget blocks kept) (last : run_after blocks ≤ length books.runs.runs) where
+module _ (books : Books) (budget : ℕ) (blocks : List Block) (kept : Progress) (progress : IsProgress books blocks kept) (last : run_after blocks ≤ length books.runs.runs) where
   -- a block that adds nothing
-  pub none-more : IsAccepted books → (d : Block) → IsBlock books budget blocks d → BlockFits d → IsSettledIn books blocks d None → IsDayProgress books budget (blocks ++ d ∷ []) kept
-  none-more ok (block.Published b) is fits of = absurd of
-  none-more ok (block.Unpublished heading count) is fits of =
-      let b : Block = block.Unpublished heading count in
-      record {
-        part = part-more books budget blocks b progress.part last is;
-        fits = All-push BlockFits blocks b progress.fits fits;
-        kept = unpublished-too books ok blocks kept progress.kept last heading count is.is_of;
-      }
+  pub none-more : IsAccepted books → (d : Block) → IsBlock books budget blocks d → IsSettledIn books blocks d None → IsProgress books (blocks ++ d ∷ []) kept
+  none-more ok (block.Published b) is of = absurd of
+  none-more ok (block.Unpublished heading count) is of = unpublished-too books ok blocks kept progress last heading count is.is_of
 
   -- a block that adds something is published
   pub some-run : (d : Block) → IsBlock books budget blocks d → (settled : SettledRun) → IsSettledIn books blocks d (Some settled) → (b : FullBlock) × IsNextRun books blocks b settled
   some-run (block.Unpublished heading count) is settled of = absurd of
   some-run (block.Published b) is settled of = (b, record { sound = sound-run books budget blocks b is; adds = of })
 
-  pub some-more : (d : Block) → IsBlock books budget blocks d → BlockFits d → (settled : SettledRun) → IsSettledIn books blocks d (Some settled) → (after : Progress)
-      → ((b : FullBlock) → IsNextRun books blocks b settled → IsProgress books (blocks ++ block.Published b ∷ []) after) → IsDayProgress books budget (blocks ++ d ∷ []) after
-  some-more (block.Unpublished heading count) is fits settled of after added = absurd of
-  some-more (block.Published b) is fits settled of after added =
-      let p : Block = block.Published b in
-      record {
-        part = part-more books budget blocks p progress.part last is;
-        fits = All-push BlockFits blocks p progress.fits fits;
-        kept = added b (record { sound = sound-run books budget blocks b is; adds = of });
-      }
+  pub some-more : (d : Block) → IsBlock books budget blocks d → (settled : SettledRun) → IsSettledIn books blocks d (Some settled) → (after : Progress)
+      → ((b : FullBlock) → IsNextRun books blocks b settled → IsProgress books (blocks ++ block.Published b ∷ []) after) → IsProgress books (blocks ++ d ∷ []) after
+  some-more (block.Unpublished heading count) is settled of after added = absurd of
+  some-more (block.Published b) is settled of after added = added b (record { sound = sound-run books budget blocks b is; adds = of })

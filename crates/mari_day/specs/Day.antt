@@ -1,6 +1,5 @@
 -- The day of books within a budget of nodes, a part of it, and their texts.
-use Rattle.std.specs.Prelude.{ℕ, ◌≡◌, ◌<◌, ◌≤◌, ◌⊎◌, List, Option, Some, ◌++◌, length, slice_get, take}
-use Rattle.std.specs.List.{flat_map}
+use Rattle.std.specs.Prelude.{ℕ, ◌≡◌, ◌<◌, ◌≤◌, List, Option, length}
 pub use Rattle.mari_io.specs.Taken.{TookPart, then_took}
 use Rattle.mari_publish.specs.declared.publication.Block.{Block}
 use Rattle.mari_publish.specs.declared.publication.Publication.{Publication}
@@ -10,18 +9,18 @@ use Rattle.mari_publish.specs.Texts.{block_text_of, head_text_of, text_of}
 use Rattle.mari_remain.specs.declared.books.Books.{Books}
 use Rattle.mari_market.specs.SearchTree.{HasSize}
 use Rattle.mari_progress.specs.After.{market_after}
+use Rattle.mari_day.specs.Frame.{IsPartBy, IsPartTextBy, StoppedBy, WroteBy, WrotePrefixBy, part_text_by}
 use Rattle.mari_day.specs.Published.{IsBlock}
 use Rattle.mari_progress.specs.Totals.{HasHead, HasTotals}
 use Rattle.mari_day.specs.declared.text.PrintedDay.{PrintedDay}
 use Rattle.mari_day.specs.declared.day.DayEnd.{DayEnd}
 use Rattle.mari_day.specs.declared.day.DayEnd.TheVariants.{Done, WriteFault, Memory}
-use Rattle.mari_day.specs.declared.step.Stop.{Stop}
-use Rattle.mari_day.specs.declared.step.Stop.TheVariants.{Sink, Memory as NoMemory}
+use Rattle.mari_day.specs.declared.frame.Stop.{Stop}
+use Rattle.mari_day.specs.declared.frame.Stop.TheVariants.{Sink, Memory as NoMemory}
 
 -- the blocks of a day part: those of the first runs in order, each after the blocks printed before it
-pub record IsDayPart (books : Books) (budget : ℕ) (blocks : List Block) : Type 0 where
-  pub few : length blocks ≤ length books.runs.runs
-  pub each : (k : ℕ) (b : Block) → slice_get blocks k ≡ Some b → IsBlock books budget (take k blocks) b
+abbrev pub IsDayPart : Books → (budget : ℕ) → List Block → Type 0
+IsDayPart books budget blocks = IsPartBy (length books.runs.runs) (IsBlock books budget) blocks
 
 -- a day: the date, the quarters and the budget, a block for every run, and the sums over the published blocks
 pub record IsDay (books : Books) (nodes : ℕ) (p : Publication) : Type 0 where
@@ -33,13 +32,11 @@ pub record IsDay (books : Books) (nodes : ℕ) (p : Publication) : Type 0 where
 
 -- the text of a day part: the head and the blocks
 abbrev pub part_text : Books → (budget : ℕ) → List Block → List ℕ
-part_text books budget blocks = head_text_of books.date books.quarters budget ++ flat_map block_text_of blocks
+part_text books budget blocks = part_text_by (head_text_of books.date books.quarters budget) block_text_of blocks
 
 -- the text is that of a day part, or of a day
-pub record IsPartText (books : Books) (budget : ℕ) (text : List ℕ) : Type 0 where
-  pub blocks : List Block
-  pub part : IsDayPart books budget blocks
-  pub spelled : text ≡ part_text books budget blocks
+abbrev pub IsPartText : Books → (budget : ℕ) → List ℕ → Type 0
+IsPartText books budget text = IsPartTextBy (length books.runs.runs) (IsBlock books budget) (head_text_of books.date books.quarters budget) block_text_of text
 
 pub record IsDayText (books : Books) (budget : ℕ) (text : List ℕ) : Type 0 where
   pub publication : Publication
@@ -63,21 +60,16 @@ pub record WroteWholeDay (books : Books) (budget published unpublished : ℕ) (b
   pub taken : after ≡ then_took before text
 
 -- a first part of the text of a day part, or of a day, was written
-pub record WrotePrefix (books : Books) (budget : ℕ) (before after : Option (List ℕ)) : Type 0 where
-  pub text : List ℕ
-  pub is_text : IsPartText books budget text ⊎ IsDayText books budget text
-  pub taken : TookPart before after text
+abbrev pub WrotePrefix : Books → (budget : ℕ) → (before after : Option (List ℕ)) → Type 0
+WrotePrefix books budget before after = WrotePrefixBy (IsPartText books budget) (IsDayText books budget) before after
 
 -- the head and whole blocks were written
-pub record WrotePart (books : Books) (budget : ℕ) (before after : Option (List ℕ)) : Type 0 where
-  pub text : List ℕ
-  pub is_text : IsPartText books budget text
-  pub taken : after ≡ then_took before text
+abbrev pub WrotePart : Books → (budget : ℕ) → (before after : Option (List ℕ)) → Type 0
+WrotePart books budget before after = WroteBy (IsPartText books budget) before after
 
 -- what was written of a day whose writing stopped before its end
 abbrev pub Stopped : Books → (budget : ℕ) → (before after : Option (List ℕ)) → Stop → Type 0
-Stopped books budget before after Sink = WrotePrefix books budget before after
-Stopped books budget before after NoMemory = (after ≡ before) ⊎ WrotePart books budget before after
+Stopped books budget before after stop = StoppedBy (IsPartText books budget) (IsDayText books budget) before after stop
 
 -- what a sink has taken of a day, by how it ended
 abbrev pub EndsDay : Books → (budget : ℕ) → (before after : Option (List ℕ)) → DayEnd → Type 0

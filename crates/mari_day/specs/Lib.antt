@@ -7,9 +7,9 @@ pub mod Fetching
 pub mod Reading
 pub mod Run
 pub mod Published
+pub mod Frame
 pub mod Day
 pub mod Assembled
 pub mod Progress
-pub mod Stepped
 pub mod Keeps
 pub mod Migrating

@@ -1,24 +1,33 @@
 -- What a day keeps between its runs, and the blocks that it stands for.
-use Rattle.std.specs.Prelude.{ℕ, List, Option, Some, None, ⊤}
+use Rattle.std.specs.Prelude.{ℕ, ◌-◌, List, Option, Some, None, ⊤, length}
 use Rattle.std.specs.List.{All}
 use Rattle.mari_publish.specs.declared.publication.Block.{Block}
 use Rattle.mari_publish.specs.declared.publication.Block.TheVariants as block
 use Rattle.mari_publish.specs.Ranges.{BlockFits}
+use Rattle.mari_market.specs.Clearing.{IsBudget}
+use Rattle.mari_remain.specs.Accepted.{IsAccepted}
 use Rattle.mari_remain.specs.declared.books.Books.{Books}
 use Rattle.mari_progress.specs.declared.progress.Progress.{Progress}
 use Rattle.mari_progress.specs.declared.progress.SettledRun.{SettledRun}
 use Rattle.mari_progress.specs.After.{also_after, market_after}
 use Rattle.mari_progress.specs.Progress.{IsProgress}
 use Rattle.mari_progress.specs.Runs.{IsRunOf}
-use Rattle.mari_day.specs.declared.step.RunDone.{RunDone}
-use Rattle.mari_day.specs.Day.{IsDayPart}
+use Rattle.mari_day.specs.declared.run.RunDone.{RunDone}
+use Rattle.mari_day.specs.Dated.{IsDated}
+use Rattle.mari_day.specs.Day.{IsPrintedDay}
 use Rattle.mari_day.specs.Published.{IsBlock}
 
--- what is kept stands for the blocks of a day part, whose numbers are in range
-pub record IsDayProgress (books : Books) (budget : ℕ) (blocks : List Block) (p : Progress) : Type 0 where
-  pub part : IsDayPart books budget blocks
+-- what is kept of the day of these books stands for these blocks, whose numbers are in range
+pub record KeepsDay (books : Books) (budget : ℕ) (blocks : List Block) (p : Progress) : Type 0 where
+  pub accepted : IsAccepted books
+  pub dated : IsDated books
+  pub nodes : IsBudget budget
   pub fits : All BlockFits blocks
   pub kept : IsProgress books blocks p
+
+-- the text is that of a whole day of these books, of whose blocks so many are published
+abbrev pub PrintsWhole : Books × ℕ → (published : ℕ) → List ℕ → Type 0
+PrintsWhole of published text = IsPrintedDay of.0 of.1 (record { text = text; published = published; unpublished = length of.0.runs.runs - published })
 
 -- what a block adds to its day, which is nothing unless it is published
 abbrev pub IsSettledIn : Books → (before : List Block) → Block → Option SettledRun → Type 0

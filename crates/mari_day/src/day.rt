@@ -1,26 +1,23 @@
-//! The day of books: its head, a block for each run, and the totals, each written as soon as it is made.
+//! The day of books: its head, a block for each run, and the totals.
 
-ghost use Rattle.std.specs.Prelude.{◌≡◌, ◌≤◌, ◌-◌, ℕ, List, IfErr, IfOk, Err, length, map};
+ghost use Rattle.std.specs.Prelude.{◌≡◌, IfOk, length, map};
 ghost use Rattle.std.specs.List.{All, range_with_len};
 ghost use Rattle.mari_units.specs.Names.{IsName};
 ghost use Rattle.mari_io.specs.Outside.{Counts};
-ghost use Rattle.mari_publish.specs.declared.publication.Block.{Block as PrintedBlock};
-ghost use Rattle.mari_publish.specs.Texts.{head_text_of};
 ghost use Rattle.mari_remain.specs.Accepted.{IsAccepted};
 ghost use Rattle.mari_day.specs.Dated.{IsDated};
-ghost use Rattle.mari_day.specs.Day.{EndsDay, Stopped, WroteWholeDay};
+ghost use Rattle.mari_day.specs.Day.{EndsDay};
 ghost use Rattle.mari_progress.specs.Money.{amount_line};
-ghost use Rattle.mari_day.specs.Progress.{IsDayProgress};
-ghost use Rattle.mari_day.specs.Stepped.{Closes, Writes, WroteFirst};
 ghost use Rattle.mari_market.specs.Clearing.{IsBudget};
 
+use crate::frame::{DaySoFar, Stop, write_day};
 use crate::lines::{amount_lines, money_lines};
-use crate::step::{Stop, day_step, write_or_stop};
+use crate::run::{RunDone, run_done};
 use mari_bids::BidBook;
 use mari_io::Sink;
 use mari_market::Clearer;
 use mari_progress::{Progress, run_count};
-use mari_publish::{AmountLine, closing_text, head_text};
+use mari_publish::{AmountLine, Block, block_text, closing_text, head_text};
 use mari_remain::Books;
 use mari_units::{Memory, Quarters};
 use std::alloc::Global;
@@ -66,136 +63,76 @@ fn all_places(alloc: Global, count: u32) -> Result<Vec<u32>, Memory>
     Ok(places)
 }
 
-/// Writes the head.
-fn write_head<K: Sink>(alloc: Global, books: &Books, budget: u32, sink: &mut K) -> Result<(), Stop>
-    requires dated { IsDated books.now }
-    requires accepted { IsAccepted books.now }
-    requires budget { IsBudget budget }
-    ensures written { Writes (head_text_of books.now.date books.now.quarters budget) (K.taken sink.old) (K.taken sink.new) result }
-    ensures cause { Counts (result ≡ Err Stop.Sink) (K.faults sink.old) (K.faults sink.new) }
-{
-    let text = head_text(alloc, &books.date, books.quarters, budget)?;
-    let written = write_or_stop(sink, &text);
-    drop(text);
-    written
-}
-
-/// Writes the head, and gives what is kept before the first block.
-fn begin<K: Sink>(alloc: Global, books: &Books, budget: u32, sink: &mut K) -> Result<Progress, Stop>
-    requires accepted { IsAccepted books.now }
-    requires dated { IsDated books.now }
-    requires budget { IsBudget budget }
-    ensures begun { IfOk result (λ progress. WroteFirst books.now budget 0 progress (K.taken sink.old) (K.taken sink.new)) }
-    ensures stopped { IfErr result (Stopped books.now budget (K.taken sink.old) (K.taken sink.new)) }
-    ensures cause { Counts (result ≡ Err Stop.Sink) (K.faults sink.old) (K.faults sink.new) }
-{
-    let progress = Progress::start(alloc, books)?;
-    match write_head(alloc, books, budget, sink) {
-        Ok(()) => Ok(progress),
-        Err(stop) => {
-            drop(progress);
-            Err(stop)
-        }
-    }
-}
-
-/// Writes the head and the blocks of all runs, in order.
-fn write_runs<C: Clearer, K: Sink>(
-    alloc: Global,
-    books: &Books,
+/// What is kept of a day of books between its blocks.
+#[derive(Drop)]
+struct PublicationSoFar<'a> {
+    books: &'a Books,
     budget: u32,
-    clearer: &mut C,
-    sink: &mut K,
-) -> Result<Progress, Stop>
-    // What is to be cleared, and by whom.
-    requires accepted { IsAccepted books.now }
-    requires dated { IsDated books.now }
-    requires budget { IsBudget budget }
-    requires ready { C.ready clearer.old }
+    progress: Progress,
+}
 
-    // What the sink has taken by the end, and why no more.
-    ensures written { IfOk result (λ progress. WroteFirst books.now budget (length books.now.runs.runs) progress (K.taken sink.old) (K.taken sink.new)) }
-    ensures stopped { IfErr result (Stopped books.now budget (K.taken sink.old) (K.taken sink.new)) }
-    ensures cause { Counts (result ≡ Err Stop.Sink) (K.faults sink.old) (K.faults sink.new) }
+impl<'a, C: Clearer> DaySoFar<C> for PublicationSoFar<'a> {
+    ghost use Rattle.mari_publish.specs.Texts.{block_text_of, head_text_of};
+    ghost use Rattle.mari_day.specs.Progress.{KeepsDay, PrintsWhole};
+    ghost use Rattle.mari_day.specs.Published.{IsBlock};
 
-    // The clearer may clear on.
-    ensures ready { C.ready clearer.new }
-{
-    let mut progress = begin(alloc, books, budget, sink)?;
-    for run in 0..run_count(books) {
-        match day_step(alloc, books, run + 1, budget, &mut progress, clearer, sink) {
-            Ok(()) => {}
-            Err(stop) => {
-                drop(progress);
-                return Err(stop);
-            }
-        }
+    /// The books, and the budget of nodes of each run.
+    type Source = (Books, u32);
+
+    type Block = Block;
+
+    ghost of = { λ day. (day.books.now, day.budget) };
+
+    ghost runs = { λ of. length of.0.runs.runs };
+
+    ghost head_text = { λ of. head_text_of of.0.date of.0.quarters of.1 };
+
+    ghost block_text = { λ of. block_text_of };
+
+    ghost IsNext = { λ of. IsBlock of.0 of.1 };
+
+    ghost Keeps = { λ day blocks. KeepsDay day.books.now day.budget blocks day.progress };
+
+    ghost IsWhole = { λ day. PrintsWhole (day.books.now, day.budget) day.progress.published };
+
+    ghost Ready = { C.ready };
+
+    fn run_count(&self) -> u32 {
+        run_count(self.books)
     }
-    Ok(progress)
-}
 
-/// Writes the totals, after the blocks of all runs.
-fn close<K: Sink>(
-    alloc: Global,
-    books: &Books,
-    progress: &Progress,
-    sink: &mut K,
-) -> Result<(), Stop>
-    requires accepted { IsAccepted books.now }
-    requires dated { IsDated books.now }
-    requires stands { (budget : ℕ) × (blocks : List PrintedBlock) × IsDayProgress books.now budget blocks progress.now × (length blocks ≡ length books.now.runs.runs) }
-    ensures closes { (budget : ℕ) (blocks : List PrintedBlock) → IsBudget budget → IsDayProgress books.now budget blocks progress.now
-        → length blocks ≡ length books.now.runs.runs → Closes books.now budget blocks (K.taken sink.old) (K.taken sink.new) result }
-    ensures cause { Counts (result ≡ Err Stop.Sink) (K.faults sink.old) (K.faults sink.new) }
-{
-    let totals = &progress.totals;
-    let operators = money_lines(alloc, &books.zones.operators, totals.operators.as_slice())?;
-    let providers = total_lines(alloc, &books.bids, totals.providers.as_slice())?;
-    let unpublished = run_count(books) - progress.published;
-    let text = closing_text(
-        alloc,
-        &operators,
-        &providers,
-        progress.published,
-        unpublished,
-    )?;
-    write_or_stop(sink, &text)
-}
+    fn head(&self, alloc: Global) -> Result<Vec<u8>, Memory> {
+        head_text(alloc, &self.books.date, self.books.quarters, self.budget)
+    }
 
-/// Writes a whole day, and answers how many of its runs are published.
-fn write_day<C: Clearer, K: Sink>(
-    alloc: Global,
-    books: &Books,
-    budget: u32,
-    clearer: &mut C,
-    sink: &mut K,
-) -> Result<u32, Stop>
-    // What is to be cleared, and by whom.
-    requires accepted { IsAccepted books.now }
-    requires dated { IsDated books.now }
-    requires budget { IsBudget budget }
-    requires ready { C.ready clearer.old }
-
-    // What the sink has taken by the end, and why no more.
-    ensures written { IfOk result (λ published. (published ≤ length books.now.runs.runs)
-        × WroteWholeDay books.now budget published (length books.now.runs.runs - published) (K.taken sink.old) (K.taken sink.new)) }
-    ensures stopped { IfErr result (Stopped books.now budget (K.taken sink.old) (K.taken sink.new)) }
-    ensures cause { Counts (result ≡ Err Stop.Sink) (K.faults sink.old) (K.faults sink.new) }
-
-    // The clearer may clear on.
-    ensures ready { C.ready clearer.new }
-{
-    let progress = write_runs(alloc, books, budget, clearer, sink)?;
-    match close(alloc, books, &progress, sink) {
-        Ok(()) => {
-            let published = progress.published;
-            drop(progress);
-            Ok(published)
+    fn next(&mut self, alloc: Global, run: u32, clearer: &mut C) -> Result<Vec<u8>, Memory> {
+        let RunDone { block, settled } = run_done(
+            alloc,
+            self.books,
+            run,
+            self.budget,
+            &self.progress,
+            clearer,
+        )?;
+        let text = block_text(alloc, &block)?;
+        drop(block);
+        if let Some(settled) = settled {
+            self.progress.add(self.books, run, settled);
         }
-        Err(stop) => {
-            drop(progress);
-            Err(stop)
-        }
+        Ok(text)
+    }
+
+    fn end(&self, alloc: Global) -> Result<Vec<u8>, Memory> {
+        let totals = &self.progress.totals;
+        let operators = money_lines(
+            alloc,
+            &self.books.zones.operators,
+            totals.operators.as_slice(),
+        )?;
+        let providers = total_lines(alloc, &self.books.bids, totals.providers.as_slice())?;
+        let published = self.progress.published;
+        let unpublished = run_count(self.books) - published;
+        closing_text(alloc, &operators, &providers, published, unpublished)
     }
 }
 
@@ -224,10 +161,18 @@ pub fn run_day<C: Clearer, K: Sink>(
     // The clearer may clear on.
     ensures ready { C.ready clearer.new }
 {
-    match write_day(alloc, books, budget, clearer, sink) {
-        Ok(published) => DayEnd::Done {
-            published,
-            unpublished: run_count(books) - published,
+    let Ok(progress) = Progress::start(alloc, books) else {
+        return DayEnd::Memory;
+    };
+    let mut day = PublicationSoFar {
+        books,
+        budget,
+        progress,
+    };
+    match write_day(alloc, &mut day, clearer, sink) {
+        Ok(()) => DayEnd::Done {
+            published: day.progress.published,
+            unpublished: run_count(books) - day.progress.published,
         },
         Err(Stop::Sink) => DayEnd::WriteFault,
         Err(Stop::Memory) => DayEnd::Memory,

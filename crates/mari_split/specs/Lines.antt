@@ -2,7 +2,7 @@
 use Rattle.std.specs.Prelude.{ℕ, ◌+◌, List, [], ◌∷◌, ◌++◌, false, map}
 use lib.Chars.{codes}
 use Rattle.std.specs.Fmt.{decimal}
-use Rattle.std.specs.List.{flat_map}
+use Rattle.mari_day.specs.Frame.{part_text_by}
 use Rattle.mari_rows.specs.Names.{name_at}
 use Rattle.mari_market.specs.declared.clearing.Clearing.{Clearing}
 use Rattle.mari_lines.specs.Spelling.{heading_fields, published_text, spaced}
@@ -55,7 +55,7 @@ split_block_text names (split.Unpublished heading island count) = unpublished_te
 
 -- the text of a day part: the first line and the blocks
 abbrev pub split_part_text : Books → (budget : ℕ) → List SplitBlock → List ℕ
-split_part_text books budget blocks = split_head books.date books.quarters budget ++ flat_map (split_block_text books.zones.zones) blocks
+split_part_text books budget blocks = part_text_by (split_head books.date books.quarters budget) (split_block_text books.zones.zones) blocks
 
 -- the last line: how many runs are published, and how many aren't
 abbrev pub split_end : List SplitBlock → List ℕ

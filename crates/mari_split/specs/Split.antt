@@ -1,6 +1,6 @@
 -- A day whose runs are cleared island by island. Read this file first; `Lines` spells its text, and `Days` says what a
 -- sink takes of it.
-use Rattle.std.specs.Prelude.{◌≡◌, ℕ, ◌+◌, ◌<◌, ◌≤◌, List, Option, Some, length, map, slice_get, take}
+use Rattle.std.specs.Prelude.{◌≡◌, ℕ, ◌+◌, ◌<◌, ◌≤◌, List, Option, length, map, slice_get, take}
 use Rattle.std.specs.List.{All}
 use Rattle.std.specs.Option.{IsSomeAnd}
 use Rattle.mari_units.specs.declared.numbers.Cents.{Cents}
@@ -16,6 +16,7 @@ use Rattle.mari_progress.specs.After.{also_after, market_after, run_after}
 use Rattle.mari_progress.specs.Money.{HasLedger}
 use Rattle.mari_progress.specs.Prices.{HasPrices}
 use Rattle.mari_progress.specs.Reported.{NamesMarket, activation_of, heading_of}
+use Rattle.mari_day.specs.Frame.{IsPartBy}
 use Rattle.mari_islands.specs.declared.islands.Island.{Island}
 use Rattle.mari_islands.specs.declared.join.Joined.{Joined}
 use Rattle.mari_islands.specs.Cleared.{ArePublished, IsClearable, IsFirstOfWhole}
@@ -75,9 +76,8 @@ IsSplitBlock books budget before (split.Published r) = IsSplitRun books budget b
 IsSplitBlock books budget before (split.Unpublished heading island count) = IsUnpublishedSplitRun books budget before heading island count
 
 -- the blocks of the first runs in order, each after the blocks printed before it
-pub record IsSplitPart (books : Books) (budget : ℕ) (blocks : List SplitBlock) : Type 0 where
-  pub few : length blocks ≤ length books.runs.runs
-  pub each : (k : ℕ) (b : SplitBlock) → slice_get blocks k ≡ Some b → IsSplitBlock books budget (take k blocks) b
+abbrev pub IsSplitPart : Books → (budget : ℕ) → List SplitBlock → Type 0
+IsSplitPart books budget blocks = IsPartBy (length books.runs.runs) (IsSplitBlock books budget) blocks
 
 -- a block for every run
 pub record IsSplitDay (books : Books) (budget : ℕ) (blocks : List SplitBlock) : Type 0 where

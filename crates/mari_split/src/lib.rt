@@ -8,7 +8,6 @@
 mod laws;
 mod run;
 mod split;
-mod step;
 mod text;
 mod writing;
 

@@ -4,10 +4,11 @@ ghost use Rattle.std.specs.Prelude.{◌≡◌, ◌≤◌, List, IfOk, length};
 ghost use Rattle.mari_market.specs.Clearing.{IsBudget};
 ghost use Rattle.mari_remain.specs.Accepted.{IsAccepted};
 ghost use Rattle.mari_progress.specs.After.{run_after};
+ghost use Rattle.mari_progress.specs.Progress.{IsProgress};
 ghost use Rattle.mari_day.specs.Dated.{IsDated};
 ghost use Rattle.mari_split.specs.declared.split.SplitBlock.{SplitBlock as PrintedBlock};
 ghost use Rattle.mari_split.specs.Split.{blocks_of};
-ghost use Rattle.mari_split.specs.Steps.{IsSplitDone, IsSplitProgress, SplitFits};
+ghost use Rattle.mari_split.specs.Steps.{IsSplitDone, SplitFits};
 
 use crate::split::{SplitBlock, SplitRun};
 use mari_day::published_run;
@@ -41,14 +42,14 @@ pub fn run_split<C: Clearer>(
     requires accepted { IsAccepted books.now }
     requires dated { IsDated books.now }
     requires last { run ≤ length books.now.runs.runs }
-    requires stands { (blocks : List PrintedBlock) × IsSplitProgress books.now budget blocks progress.now × (run ≡ run_after (blocks_of blocks)) }
+    requires stands { (blocks : List PrintedBlock) × IsProgress books.now (blocks_of blocks) progress.now × (run ≡ run_after (blocks_of blocks)) }
 
     // What clears its islands.
     requires budget { IsBudget budget }
     requires ready { C.ready clearer.old }
 
     // The block, whatever blocks these are.
-    ensures done { (blocks : List PrintedBlock) → IsSplitProgress books.now budget blocks progress.now → run ≡ run_after (blocks_of blocks) → IfOk result (IsSplitDone books.now budget blocks) }
+    ensures done { (blocks : List PrintedBlock) → IsProgress books.now (blocks_of blocks) progress.now → run ≡ run_after (blocks_of blocks) → IfOk result (IsSplitDone books.now budget blocks) }
     ensures fits { IfOk result (λ done. SplitFits done.block) }
 
     // The clearer may clear on.

@@ -1,127 +1,86 @@
-//! The day of books whose runs are cleared island by island: its first line, a block for each run, and its last line,
-//! each written as soon as it is made.
+//! The day of books whose runs are cleared island by island: its first line, a block for each run, and its last line.
 
-ghost use Rattle.std.specs.Prelude.{◌≡◌, ◌≤◌, ◌-◌, ℕ, List, IfErr, IfOk, Err, length};
+ghost use Rattle.std.specs.Prelude.{◌≡◌, length};
 ghost use Rattle.mari_io.specs.Outside.{Counts};
 ghost use Rattle.mari_market.specs.Clearing.{IsBudget};
 ghost use Rattle.mari_remain.specs.Accepted.{IsAccepted};
-ghost use Rattle.mari_progress.specs.declared.progress.Progress.{Progress as KeptProgress};
 ghost use Rattle.mari_day.specs.Dated.{IsDated};
-ghost use Rattle.mari_split.specs.declared.split.SplitBlock.{SplitBlock as PrintedBlock};
-ghost use Rattle.mari_split.specs.Days.{EndsSplit, SplitStopped, WroteSplitDay};
-ghost use Rattle.mari_split.specs.Lines.{split_end};
-ghost use Rattle.mari_split.specs.Steps.{IsSplitProgress, WroteFirstBlocks};
-ghost use Rattle.mari_day.specs.Stepped.{Writes};
+ghost use Rattle.mari_split.specs.Days.{EndsSplit};
 
-use crate::step::split_step;
-use crate::text::{end_text, head_text};
-use mari_day::{DayEnd, Stop, write_or_stop};
+use crate::run::{SplitDone, run_split};
+use crate::split::SplitBlock;
+use crate::text::{block_text, end_text, head_text};
+use mari_day::{DayEnd, DaySoFar, Stop, write_day};
 use mari_io::Sink;
 use mari_market::Clearer;
 use mari_progress::{Progress, run_count};
 use mari_remain::Books;
+use mari_units::Memory;
 use std::alloc::Global;
 
-/// Writes the first line, and gives what is kept before the first block.
-fn begin<K: Sink>(alloc: Global, books: &Books, budget: u32, sink: &mut K) -> Result<Progress, Stop>
-    requires { IsAccepted books.now }
-    ensures begun { IfOk result (λ progress. WroteFirstBlocks books.now budget 0 progress (K.taken sink.old) (K.taken sink.new)) }
-    ensures stopped { IfErr result (SplitStopped books.now budget (K.taken sink.old) (K.taken sink.new)) }
-    ensures cause { Counts (result ≡ Err Stop.Sink) (K.faults sink.old) (K.faults sink.new) }
-{
-    let progress = Progress::start(alloc, books)?;
-    let head = head_text(alloc, &books.date, books.quarters, budget)?;
-    match write_or_stop(sink, &head) {
-        Ok(()) => Ok(progress),
-        Err(stop) => {
-            drop(progress);
-            Err(stop)
-        }
-    }
-}
-
-/// Writes the first line and the blocks of all runs, in order.
-fn write_runs<C: Clearer, K: Sink>(
-    alloc: Global,
-    books: &Books,
+/// What is kept of such a day between its blocks.
+#[derive(Drop)]
+struct SplitSoFar<'a> {
+    books: &'a Books,
     budget: u32,
-    clearer: &mut C,
-    sink: &mut K,
-) -> Result<Progress, Stop>
-    // What is to be cleared, and by whom.
-    requires accepted { IsAccepted books.now }
-    requires dated { IsDated books.now }
-    requires budget { IsBudget budget }
-    requires ready { C.ready clearer.old }
+    progress: Progress,
+}
 
-    // What the sink has taken by the end, and why no more.
-    ensures written { IfOk result (λ progress. WroteFirstBlocks books.now budget (length books.now.runs.runs) progress (K.taken sink.old) (K.taken sink.new)) }
-    ensures stopped { IfErr result (SplitStopped books.now budget (K.taken sink.old) (K.taken sink.new)) }
-    ensures cause { Counts (result ≡ Err Stop.Sink) (K.faults sink.old) (K.faults sink.new) }
+impl<'a, C: Clearer> DaySoFar<C> for SplitSoFar<'a> {
+    ghost use Rattle.mari_split.specs.Lines.{split_block_text, split_head};
+    ghost use Rattle.mari_split.specs.Split.{IsSplitBlock};
+    ghost use Rattle.mari_split.specs.Steps.{KeepsSplit, PrintsWholeSplit};
 
-    // The clearer may clear on.
-    ensures ready { C.ready clearer.new }
-{
-    let mut progress = begin(alloc, books, budget, sink)?;
-    for run in 0..run_count(books) {
-        match split_step(alloc, books, run + 1, budget, &mut progress, clearer, sink) {
-            Ok(()) => {}
-            Err(stop) => {
-                drop(progress);
-                return Err(stop);
-            }
-        }
+    /// The books, and the budget of nodes of each island.
+    type Source = (Books, u32);
+
+    type Block = SplitBlock;
+
+    ghost of = { λ day. (day.books.now, day.budget) };
+
+    ghost runs = { λ of. length of.0.runs.runs };
+
+    ghost head_text = { λ of. split_head of.0.date of.0.quarters of.1 };
+
+    ghost block_text = { λ of. split_block_text of.0.zones.zones };
+
+    ghost IsNext = { λ of. IsSplitBlock of.0 of.1 };
+
+    ghost Keeps = { λ day blocks. KeepsSplit day.books.now day.budget blocks day.progress };
+
+    ghost IsWhole = { λ day. PrintsWholeSplit (day.books.now, day.budget) day.progress.published };
+
+    ghost Ready = { C.ready };
+
+    fn run_count(&self) -> u32 {
+        run_count(self.books)
     }
-    Ok(progress)
-}
 
-/// Writes the last line, after the blocks of all runs; `published` is the number of published ones.
-fn close<K: Sink>(alloc: Global, books: &Books, published: u32, sink: &mut K) -> Result<(), Stop>
-    requires accepted { IsAccepted books.now }
-    requires stands { (budget : ℕ) × (blocks : List PrintedBlock) × (kept : KeptProgress) × IsSplitProgress books.now budget blocks kept × (kept.published ≡ published) × (length blocks ≡ length books.now.runs.runs) }
-    ensures closes { (budget : ℕ) (blocks : List PrintedBlock) (kept : KeptProgress) → IsSplitProgress books.now budget blocks kept → kept.published ≡ published
-        → length blocks ≡ length books.now.runs.runs → Writes (split_end blocks) (K.taken sink.old) (K.taken sink.new) result }
-    ensures cause { Counts (result ≡ Err Stop.Sink) (K.faults sink.old) (K.faults sink.new) }
-{
-    let unpublished = run_count(books) - published;
-    let text = end_text(alloc, published, unpublished)?;
-    write_or_stop(sink, &text)
-}
+    fn head(&self, alloc: Global) -> Result<Vec<u8>, Memory> {
+        head_text(alloc, &self.books.date, self.books.quarters, self.budget)
+    }
 
-/// Writes a whole day, and answers how many of its runs are published.
-fn write_day<C: Clearer, K: Sink>(
-    alloc: Global,
-    books: &Books,
-    budget: u32,
-    clearer: &mut C,
-    sink: &mut K,
-) -> Result<u32, Stop>
-    // What is to be cleared, and by whom.
-    requires accepted { IsAccepted books.now }
-    requires dated { IsDated books.now }
-    requires budget { IsBudget budget }
-    requires ready { C.ready clearer.old }
-
-    // What the sink has taken by the end, and why no more.
-    ensures written { IfOk result (λ published. (published ≤ length books.now.runs.runs)
-        × WroteSplitDay books.now budget published (length books.now.runs.runs - published) (K.taken sink.old) (K.taken sink.new)) }
-    ensures stopped { IfErr result (SplitStopped books.now budget (K.taken sink.old) (K.taken sink.new)) }
-    ensures cause { Counts (result ≡ Err Stop.Sink) (K.faults sink.old) (K.faults sink.new) }
-
-    // The clearer may clear on.
-    ensures ready { C.ready clearer.new }
-{
-    let progress = write_runs(alloc, books, budget, clearer, sink)?;
-    match close(alloc, books, progress.published, sink) {
-        Ok(()) => {
-            let published = progress.published;
-            drop(progress);
-            Ok(published)
+    fn next(&mut self, alloc: Global, run: u32, clearer: &mut C) -> Result<Vec<u8>, Memory> {
+        let SplitDone { block, settled } = run_split(
+            alloc,
+            self.books,
+            run,
+            self.budget,
+            &self.progress,
+            clearer,
+        )?;
+        let text = block_text(alloc, &self.books.zones.zones, &block)?;
+        drop(block);
+        if let Some(settled) = settled {
+            self.progress.add(self.books, run, settled);
         }
-        Err(stop) => {
-            drop(progress);
-            Err(stop)
-        }
+        Ok(text)
+    }
+
+    fn end(&self, alloc: Global) -> Result<Vec<u8>, Memory> {
+        let published = self.progress.published;
+        let unpublished = run_count(self.books) - published;
+        end_text(alloc, published, unpublished)
     }
 }
 
@@ -151,10 +110,18 @@ pub fn split_day<C: Clearer, K: Sink>(
     // The clearer may clear on.
     ensures ready { C.ready clearer.new }
 {
-    match write_day(alloc, books, budget, clearer, sink) {
-        Ok(published) => DayEnd::Done {
-            published,
-            unpublished: run_count(books) - published,
+    let Ok(progress) = Progress::start(alloc, books) else {
+        return DayEnd::Memory;
+    };
+    let mut day = SplitSoFar {
+        books,
+        budget,
+        progress,
+    };
+    match write_day(alloc, &mut day, clearer, sink) {
+        Ok(()) => DayEnd::Done {
+            published: day.progress.published,
+            unpublished: run_count(books) - day.progress.published,
         },
         Err(Stop::Sink) => DayEnd::WriteFault,
         Err(Stop::Memory) => DayEnd::Memory,

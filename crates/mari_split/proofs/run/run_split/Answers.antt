@@ -7,7 +7,7 @@ use Rattle.mari_split.proofs.Blocks.{few_islands, run_fits, spent_below, split, 
 use Rattle.mari_split.proofs.run.run_split.Goals as goal
 
 pub market_of-requires-clause-after : goal.market_of-requires-clause-after
-market_of-requires-clause-after g c = let s = c.requires.stands in (blocks_of s.0, s.1.kept, s.2)
+market_of-requires-clause-after g c = let s = c.requires.stands in (blocks_of s.0, s.1, s.2)
 
 pub overflow_add-result : goal.overflow_add-result
 overflow_add-result g c =
@@ -28,8 +28,8 @@ pub returns-in_ok-done-in-Published-clause-done : goal.returns-in_ok-done-in-Pub
 returns-in_ok-done-in-Published-clause-done g c = λ blocks progress is.
     let books = c.args.books.now in
     let made = c.in_ok-made.made in
-    let same = c.in_ok-made.ensures.market (blocks_of blocks) progress.kept is in
-    let also = c.also-also.ensures.after (blocks_of blocks) progress.kept is in
+    let same = c.in_ok-made.ensures.market (blocks_of blocks) progress is in
+    let also = c.also-also.ensures.after (blocks_of blocks) progress is in
     let islands = c.in_ok-islands.islands.items in
     let clearings = c.in-Published.clearings in
     let law = rw c.deref.ensures.value at c.in-Published.ensures.law in
@@ -45,7 +45,7 @@ pub returns-in-Spent-clause-done : goal.returns-in-Spent-clause-done
 returns-in-Spent-clause-done g c = λ blocks progress is.
     let books = c.args.books.now in
     let made = c.in_ok-made.made in
-    let same = c.in_ok-made.ensures.market (blocks_of blocks) progress.kept is in
+    let same = c.in_ok-made.ensures.market (blocks_of blocks) progress is in
     let islands = c.in_ok-islands.islands.items in
     let law = rw c.deref.ensures.value at c.in-Spent.ensures.law in
     let own = unpublished_split books c.args.budget c.args.run made islands c.in-Spent.island c.in-Spent.spent c.in_ok-islands.ensures.islands law in

@@ -12,7 +12,7 @@ use Rattle.mari_progress.specs.Reported.{heading_of}
 use Rattle.mari_progress.proofs.Progressing.{priced-after, settled-after}
 use Rattle.mari_day.specs.Published.{IsPublishedOf, IsPublishedRun}
 use Rattle.mari_day.proofs.Days.{heading-fits, spent-fits}
-use Rattle.mari_day.proofs.step.run_done.Goals as goal
+use Rattle.mari_day.proofs.run.run_done.Goals as goal
 
 -- what is known of the run's own market and prices, of those after the blocks
 module _ (books : Books) (budget : ℕ) (blocks : List Block) (made : RunMarket) (e : made ≡ market_after books blocks) where
@@ -28,12 +28,12 @@ module _ (books : Books) (budget : ℕ) (blocks : List Block) (made : RunMarket)
   unpublished-after count h = let M : RunMarket → Type 0 = λ m. IsUnpublished m.market budget count in subst M e h
 
 pub market_of-requires-clause-after : goal.market_of-requires-clause-after
-market_of-requires-clause-after g c = let s = c.requires.stands in (s.0, s.1.kept, s.2)
+market_of-requires-clause-after g c = let s = c.requires.stands in (s.0, s.1, s.2)
 
 pub published_run-requires-clause-also : goal.published_run-requires-clause-also
 published_run-requires-clause-also g c =
     let s = c.requires.stands in
-    priced-after c.args.books.now s.0 c.in_ok-made.made (c.in_ok-made.ensures.market s.0 s.1.kept s.2) _ c.also-also.result (c.also-also.ensures.prices s.0 s.1.kept)
+    priced-after c.args.books.now s.0 c.in_ok-made.made (c.in_ok-made.ensures.market s.0 s.1 s.2) _ c.also-also.result (c.also-also.ensures.prices s.0 s.1)
 
 pub returns-in_ok-done-in-Published-clause-fits : goal.returns-in_ok-done-in-Published-clause-fits
 returns-in_ok-done-in-Published-clause-fits g c = c.in_ok-done-in-Published.ensures.fits c.args.budget c.requires.budget.1 c.in-Published.ensures.law
@@ -48,8 +48,8 @@ returns-in-Spent-clause-fits g c =
 pub returns-in_ok-done-in-Published-clause-done : goal.returns-in_ok-done-in-Published-clause-done
 returns-in_ok-done-in-Published-clause-done g c = λ blocks progress is.
     let books = c.args.books.now in
-    let made = c.in_ok-made.ensures.market blocks progress.kept is in
-    let also = c.also-also.ensures.after blocks progress.kept is in
+    let made = c.in_ok-made.ensures.market blocks progress is in
+    let also = c.also-also.ensures.after blocks progress is in
     let done = c.in_ok-done-in-Published.done in
     record {
       block = published-after books c.args.budget blocks c.in_ok-made.made made c.args.run is _ also done.block (c.in_ok-done-in-Published.ensures.published c.args.budget c.in-Published.ensures.law);
@@ -59,7 +59,7 @@ returns-in_ok-done-in-Published-clause-done g c = λ blocks progress is.
 pub returns-in-Spent-clause-done : goal.returns-in-Spent-clause-done
 returns-in-Spent-clause-done g c = λ blocks progress is.
     let books = c.args.books.now in
-    let made = c.in_ok-made.ensures.market blocks progress.kept is in
+    let made = c.in_ok-made.ensures.market blocks progress is in
     record {
       block = record {
         is_of = c.heading.ensures ∙ ap (heading_of books) is;

@@ -46,9 +46,3 @@ pub providers-there : (bids : List Bid) (numbers : List ℕ) (n : ℕ) → All (
 providers-there bids numbers n all there =
     all-once (λ place. place < n) (map (λ i. (bid_numbered bids i).provider) numbers)
     (All-map (λ place. place < n) (λ i. (bid_numbered bids i).provider) numbers (λ k d below. all _ _ (there k d below)))
-
-    by : (b : Bool) → (place == p) ≡ b → get_or (set marks place true) p false ≡ (listed || (place == p || false))
-    by true e =
-        let here : get_or (set marks place true) p false ≡ true = subst (λ (q : ℕ). get_or (set marks place true) q false ≡ true) (eqb-true place p e) (get_or-set_same marks place true false there) in
-        here ∙ sym (ap (λ (b : Bool). listed || (b || false)) e ∙ or_comm listed true)
-    by false e = get_or-set_other marks place p true false (λ q. eqb-false place p e (sym q)) ∙ marked p ∙ sym (ap (λ (b : Bool). listed || (b || false)) e ∙ or_comm listed false)

@@ -1,0 +1,57 @@
+"""Puts the repository's shipped program into a wheel, where it is the manifest's and the machine can run it.
+
+All else stands in pyproject.toml. A wheel without the program is one for any machine.
+"""
+
+import hashlib
+import platform
+import shutil
+from pathlib import Path
+
+from setuptools import setup
+from setuptools.command.build_py import build_py
+
+try:
+    from setuptools.command.bdist_wheel import bdist_wheel
+except ImportError:
+    from wheel.bdist_wheel import bdist_wheel
+
+RELEASE = Path(__file__).resolve().parent.parent / "release"
+
+
+def shipped():
+    """Whether release/mari is there, for this kind of machine, and the program that the manifest names."""
+    program, manifest = RELEASE / "mari", RELEASE / "manifest"
+    if not (program.is_file() and manifest.is_file()) or (platform.system(), platform.machine()) != ("Linux", "x86_64"):
+        return False
+    wanted = dict(line.split(" ", 1) for line in manifest.read_text().splitlines() if " " in line)
+    return hashlib.sha256(program.read_bytes()).hexdigest() == wanted["program"]
+
+
+class BuildWithProgram(build_py):
+    """Copies the program beside the modules."""
+
+    def run(self):
+        """Builds as always, and then copies."""
+        super().run()
+        if shipped() and not getattr(self, "editable_mode", False):
+            place = Path(self.build_lib) / "mari" / "_program" / "mari"
+            place.parent.mkdir(parents=True, exist_ok=True)
+            shutil.copyfile(RELEASE / "mari", place)
+            place.chmod(0o755)
+
+
+class WheelOfMachine(bdist_wheel):
+    """Names the machine and the C library that the program needs."""
+
+    def finalize_options(self):
+        """A wheel with a program is of one machine."""
+        super().finalize_options()
+        self.root_is_pure = not shipped()
+
+    def get_tag(self):
+        """Any Python 3, and Linux on x86-64 with glibc 2.34."""
+        return ("py3", "none", "manylinux_2_34_x86_64") if shipped() else super().get_tag()
+
+
+setup(cmdclass={"build_py": BuildWithProgram, "bdist_wheel": WheelOfMachine})

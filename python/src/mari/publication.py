@@ -1,0 +1,348 @@
+"""The text of a printed day, read into rows.
+
+Prices are in euro per MWh and money in euro, both exact decimals; quantities are in MW. `Program.check` is what says
+whether a publication is that of its folder: reading tests the form of lines alone.
+"""
+
+from __future__ import annotations
+
+import re
+from collections.abc import Callable, Iterable, Iterator
+from dataclasses import dataclass, field
+from decimal import Decimal
+from os import PathLike
+from pathlib import Path
+from typing import NamedTuple, TypeVar
+
+from mari.errors import MariMissing, MariText
+from mari.units import euros
+
+
+Row = TypeVar("Row")
+
+
+class ZonePrice(NamedTuple):
+    """A zone's published price, the interval that it was taken from, and its price area, from 1."""
+
+    zone: str
+    price: Decimal
+    least: Decimal
+    greatest: Decimal
+    area: int
+
+
+class Flow(NamedTuple):
+    """The MW that flow over a border, negative from its second zone to its first, and its rent."""
+
+    from_zone: str
+    to_zone: str
+    mw: int
+    rent: Decimal
+
+
+class Activation(NamedTuple):
+    """A bid that is offered to the run, and the MW that are activated of it."""
+
+    bid: str
+    mw: int
+
+
+class OperatorMoney(NamedTuple):
+    """What an operator pays for its net import, its part of the rents, and the first less the second."""
+
+    operator: str
+    payment: Decimal
+    rent: Decimal
+    net: Decimal
+
+
+class ProviderMoney(NamedTuple):
+    """What a provider gets for its energy."""
+
+    provider: str
+    amount: Decimal
+
+
+@dataclass
+class RunBlock:
+    """What a run found. Where it isn't published, `nodes` says how many were made, and all else is empty.
+
+    `demands` has the MW that are met of each demand of the run, in the order of demands.csv. `tree` has the kinds of
+    the certificate's items in preorder: `branch`, `bound`, `cut` and `conflict`; the feed has their numbers.
+    """
+
+    run: int
+    quarter: int
+    kind: str
+    nodes: int | None = None
+    welfare: Decimal = Decimal(0)
+    zones: list[ZonePrice] = field(default_factory=list)
+    borders: list[Flow] = field(default_factory=list)
+    bids: list[Activation] = field(default_factory=list)
+    demands: list[int] = field(default_factory=list)
+    tree: list[str] = field(default_factory=list)
+    operators: list[OperatorMoney] = field(default_factory=list)
+    providers: list[ProviderMoney] = field(default_factory=list)
+
+    @property
+    def published(self) -> bool:
+        """Whether the run is published."""
+        return self.nodes is None
+
+    def price(self, zone: str) -> Decimal:
+        """The published price of a zone."""
+        return next(row.price for row in self.zones if row.zone == zone)
+
+
+@dataclass
+class Publication:
+    """A printed day: its blocks in the order of the runs, and the totals over the published ones.
+
+    `budget` is the number of nodes that each search had.
+    """
+
+    date: str
+    quarters: int
+    budget: int
+    blocks: list[RunBlock] = field(default_factory=list)
+    operators: list[OperatorMoney] = field(default_factory=list)
+    providers: list[ProviderMoney] = field(default_factory=list)
+
+    @classmethod
+    def read(cls, path: str | PathLike[str]) -> Publication:
+        """The publication of a file, or of a folder's publication.txt."""
+        place = Path(path)
+        if place.is_dir():
+            place = place / "publication.txt"
+        if not place.exists():
+            raise MariMissing(place.name)
+        with place.open(encoding="ascii", errors="replace", newline="\n") as lines:
+            return cls.of_lines(lines)
+
+    @classmethod
+    def of_text(cls, text: str) -> Publication:
+        """The publication of a text."""
+        return cls.of_lines(text.splitlines(keepends=True))
+
+    @classmethod
+    def of_lines(cls, lines: Iterable[str]) -> Publication:
+        """The publication of lines with their ends."""
+        reader = _Reader(lines)
+        publication = reader.head()
+        publication.blocks.extend(reader.blocks())
+        reader.totals(publication)
+        return publication
+
+    def block(self, run: int) -> RunBlock:
+        """The block of a run."""
+        return self.blocks[run - 1]
+
+    @property
+    def unpublished(self) -> list[int]:
+        """The runs that aren't published."""
+        return [block.run for block in self.blocks if not block.published]
+
+    @property
+    def welfare(self) -> Decimal:
+        """The welfare of the published runs together, in euro."""
+        return sum((block.welfare for block in self.blocks), Decimal(0))
+
+
+def iter_blocks(lines: Iterable[str]) -> Iterator[RunBlock]:
+    """The blocks of a printed day, one at a time, so that a day of any length takes the memory of one block."""
+    reader = _Reader(lines)
+    reader.head()
+    yield from reader.blocks()
+
+
+def read_split(lines: Iterable[str]) -> list[RunBlock]:
+    """The runs of the text of `split`: blocks whose trees are those of their islands, one after the other."""
+    reader = _Reader(lines)
+    reader.one("split", 5)
+    blocks = []
+    while reader.is_at("run"):
+        words = reader.words
+        reader.step()
+        block = RunBlock(reader.whole(words[1]), reader.whole(words[2]), words[3])
+        if words[4] == "unpublished":
+            block.nodes = reader.whole(words[6])
+        else:
+            block.welfare = euros(reader.whole(reader.one("welfare", 2)[1]))
+            reader.market(block)
+            while reader.is_at("island"):
+                reader.step()
+                reader.step()
+                block.tree += reader.tree()
+            reader.one("end", 2)
+        blocks.append(block)
+    reader.one("done", 3)
+    return blocks
+
+
+def read_joint(lines: Iterable[str]) -> tuple[int | None, Decimal, list[RunBlock]]:
+    """The text of `blocks`: the nodes where it isn't published, the welfare, and what each quarter hour has."""
+    reader = _Reader(lines)
+    words = reader.words
+    reader.step()
+    if words[3] == "unpublished":
+        return reader.whole(words[4]), Decimal(0), []
+    welfare = euros(reader.whole(reader.one("welfare", 2)[1]))
+    quarters = []
+    while reader.is_at("quarter"):
+        quarter = RunBlock(0, reader.whole(reader.one("quarter", 2)[1]), "scheduled")
+        reader.market(quarter)
+        quarters.append(quarter)
+    reader.tree()
+    reader.one("end", 1)
+    return None, welfare, quarters
+
+
+_PRICE = re.compile(r"-?(?:0|[1-9][0-9]*)\.[0-9]{2}")
+_MONEY = re.compile(r"-?(?:0|[1-9][0-9]*)\.[0-9]{4}")
+_WHOLE = re.compile(r"-?(?:0|[1-9][0-9]*)")
+_LENGTHS = {
+    "zone": 6,
+    "border": 5,
+    "bid": 3,
+    "demand": 3,
+    "operator": 5,
+    "provider": 3,
+    "total-operator": 5,
+    "total-provider": 3,
+}
+_TREE = ("branch", "bound", "cut", "conflict")
+_OF_CONFLICT = ("at", "flows", "mws")
+
+
+class _Reader:
+    """Reads a text line by line; `number` is that of the line in hand."""
+
+    def __init__(self, lines: Iterable[str]) -> None:
+        self.lines = iter(lines)
+        self.number = 0
+        self.words: list[str] = []
+        self.step()
+
+    def step(self) -> None:
+        """Takes the next line; no words where there is none."""
+        line = next(self.lines, None)
+        self.number += 1
+        if line is None:
+            self.words = []
+        elif not line.endswith("\n"):
+            raise self.fault("has no end: the text is cut off")
+        else:
+            self.words = line[:-1].split(" ")
+
+    def fault(self, reason: str) -> MariText:
+        return MariText(self.number, reason)
+
+    def is_at(self, word: str) -> bool:
+        return bool(self.words) and self.words[0] == word
+
+    def whole(self, text: str) -> int:
+        if not _WHOLE.fullmatch(text):
+            raise self.fault(f"{text!r} isn't a whole number")
+        return int(text)
+
+    def price(self, text: str) -> Decimal:
+        if not _PRICE.fullmatch(text):
+            raise self.fault(f"{text!r} isn't a price")
+        return Decimal(text)
+
+    def money(self, text: str) -> Decimal:
+        if not _MONEY.fullmatch(text):
+            raise self.fault(f"{text!r} isn't money")
+        return Decimal(text)
+
+    def many(self, word: str, read: Callable[[list[str]], Row]) -> list[Row]:
+        """What is read of each line of a kind, as many as follow."""
+        rows = []
+        while self.is_at(word):
+            if len(self.words) != _LENGTHS[word]:
+                raise self.fault(f"a line of {word} has {_LENGTHS[word]} words")
+            rows.append(read(self.words))
+            self.step()
+        return rows
+
+    def one(self, word: str, length: int) -> list[str]:
+        """The words of a line that must come now."""
+        if not self.is_at(word) or len(self.words) != length:
+            raise self.fault(f"should be the line {word}" if self.words else "is missing: the text ends too early")
+        words = self.words
+        self.step()
+        return words
+
+    def head(self) -> Publication:
+        words = self.one("mari", 5)
+        if words[1] != "1":
+            raise self.fault(f"form {words[1]} isn't known")
+        return Publication(words[2], self.whole(words[3]), self.whole(words[4]))
+
+    def blocks(self) -> Iterator[RunBlock]:
+        while self.is_at("run"):
+            words = self.words
+            if len(words) == 6 and words[4] == "unpublished":
+                yield RunBlock(self.whole(words[1]), self.whole(words[2]), words[3], self.whole(words[5]))
+                self.step()
+            elif len(words) == 5 and words[4] == "published":
+                block = RunBlock(self.whole(words[1]), self.whole(words[2]), words[3])
+                self.step()
+                self.body(block)
+                yield block
+            else:
+                raise self.fault("isn't the heading of a run")
+
+    def body(self, block: RunBlock) -> None:
+        block.welfare = euros(self.whole(self.one("welfare", 2)[1]))
+        self.market(block)
+        block.tree = self.tree()
+        block.operators, block.providers = self.ledger("")
+        if self.whole(self.one("end", 2)[1]) != block.run:
+            raise self.fault("comes after the end of another run")
+
+    def market(self, block: RunBlock) -> None:
+        block.zones = self.many("zone", self.zone)
+        block.borders = self.many("border", self.border)
+        block.bids = self.many("bid", lambda words: Activation(words[1], self.whole(words[2])))
+        block.demands = self.many("demand", lambda words: self.whole(words[2]))
+
+    def zone(self, words: list[str]) -> ZonePrice:
+        price, least, greatest = map(self.price, words[2:5])
+        return ZonePrice(words[1], price, least, greatest, self.whole(words[5]))
+
+    def border(self, words: list[str]) -> Flow:
+        return Flow(words[1], words[2], self.whole(words[3]), self.money(words[4]))
+
+    def operator(self, words: list[str]) -> OperatorMoney:
+        payment, rent, net = map(self.money, words[2:])
+        return OperatorMoney(words[1], payment, rent, net)
+
+    def tree(self) -> list[str]:
+        count = self.whole(self.one("tree", 2)[1])
+        kinds: list[str] = []
+        for _ in range(count):
+            kind = self.words[0] if self.words else ""
+            if kind not in _TREE:
+                raise self.fault("should be an item of the certificate")
+            kinds.append(kind)
+            self.step()
+            for word in _OF_CONFLICT if kind == "conflict" else ():
+                if not self.is_at(word):
+                    raise self.fault(f"should be the line {word}")
+                self.step()
+        return kinds
+
+    def ledger(self, prefix: str) -> tuple[list[OperatorMoney], list[ProviderMoney]]:
+        operators = self.many(f"{prefix}operator", self.operator)
+        providers = self.many(f"{prefix}provider", lambda words: ProviderMoney(words[1], self.money(words[2])))
+        return operators, providers
+
+    def totals(self, publication: Publication) -> None:
+        publication.operators, publication.providers = self.ledger("total-")
+        words = self.one("done", 3)
+        counts = [len(publication.blocks) - len(publication.unpublished), len(publication.unpublished)]
+        if [self.whole(word) for word in words[1:]] != counts:
+            raise MariText(self.number - 1, "counts other runs than there are")
+        if self.words:
+            raise self.fault("comes after the end")

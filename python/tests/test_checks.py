@@ -1,0 +1,347 @@
+"""The package refuses what the program refuses: the same file, line and check, and it names the field."""
+
+import os
+import random
+import tempfile
+import unittest
+from pathlib import Path
+
+from mari import Folder, MariError, MariFileError, MariMissing, MariRefused, problems
+from mari.checks import CHECKS
+
+from tests.days import damaged, random_folder
+from tests.program import PROGRAM, needs_program
+
+OF_NO_FIELD = {"BadHeader", "BadRow", "NoZone", "NotOneRecord", "TooManyGates"}
+COUNT = int(os.environ.get("MARI_DAMAGED", "300"))
+
+
+BASE = {
+    "day.csv": b"date,rule\n2025-03-12,UTC0\n",
+    "zones.csv": b"zone,operator\nA,TA\nB,TB\n",
+    "borders.csv": b"from,to,limit,back\nA,B,50,50\n",
+    "bids.csv": b"id,provider,zone,quarter,direction,price,least,greatest,kind\n"
+    b"a,P,A,1,up,20,0,9,both\nb,P,A,1,up,20,0,9,both\nc,P,A,2,up,20,0,9,both\nd,P,A,5,up,20,0,9,both\n"
+    b"t,P,A,3,up,20,0,9,both\n",
+    "links.csv": b"kind,first,second\nchild,b,a\ngroup,g,c\nneeds,c,a\n",
+    "runs.csv": b"run,quarter,kind,reference\n1,1,scheduled,40.00\n",
+    "demands.csv": b"run,zone,mw,price\n",
+}
+
+EACH = [
+    ("zones.csv", "".join(f"Z{at},T\n" for at in range(63)), "zone"),
+    ("zones.csv", "C,T U\n", "operator"),
+    ("zones.csv", "A,T\n", "zone"),
+    ("zones.csv", "C,T,\n", ""),
+    ("borders.csv", "A,C,1,1\n", "to"),
+    ("borders.csv", "C,A,1,1\n", "from"),
+    ("borders.csv", "A,A,1,1\n", "to"),
+    ("borders.csv", "B,A,x,1\n", "from"),
+    ("bids.csv", "e,P,A,1,up,20,0,9,direct\n", "kind"),
+    ("bids.csv", f"{'e' * 17},P,A,1,up,20,0,9,both\n", "id"),
+    ("bids.csv", "a,P,C,99,up,20,0,0,both\n", "id"),
+    ("bids.csv", "e,P,C,99,up,20,0,0,both\n", "zone"),
+    ("bids.csv", "e,P,A,97,up,20,0,0,both\n", "quarter"),
+    ("bids.csv", "e,P,A,96,up,99999.01,0,9,both\n", "price"),
+    ("bids.csv", "e,P,A,96,up,-99999.01,0,9,both\n", "price"),
+    ("bids.csv", "e,P,A,96,up,20,10000,9,both\n", "least"),
+    ("bids.csv", "e,P,A,96,up,20,-1,9,both\n", "least"),
+    ("bids.csv", "e,P,A,96,up,20,10000,10000,both\n", "greatest"),
+    ("bids.csv", "e,P,A,96,up,20,10,9,both\n", "least"),
+    ("bids.csv", "".join(f"x{at},P,A,1,up,20,0,9,both\n" for at in range(4095)), "quarter"),
+    ("links.csv", "Child,b,a\n", "kind"),
+    ("links.csv", "group,,nobody\n", "first"),
+    ("links.csv", "group,h,nobody\n", "second"),
+    ("links.csv", "bars,nobody,a\n", "first"),
+    ("links.csv", "group,g,a\n", "second"),
+    ("links.csv", "child,c,a\n", "second"),
+    ("links.csv", "needs,d,c\n", "second"),
+    ("links.csv", "technical,d,c\n", "second"),
+    ("links.csv", "technical,t,a\n", "second"),
+    ("links.csv", "child,a,b\n", "second"),
+    ("links.csv", "child,d,d\n", "second"),
+    ("links.csv", "group,h,c\n", "second"),
+    ("links.csv", "child,b,a\n", "first"),
+    ("links.csv", "bars,c,a\nneeds,c,a\n", "first"),
+    ("bids.csv", "".join(f"x{at},P,A,1,up,20,1,9,both\n" for at in range(511)), ""),
+    ("runs.csv", "2,1,Direct,40\n", "kind"),
+    ("runs.csv", "3,2,scheduled,40\n", "run"),
+    ("runs.csv", "2,0,scheduled,40\n", "quarter"),
+    ("runs.csv", f"2,{'9' * 40},scheduled,40\n", "quarter"),
+    ("runs.csv", "2,1,scheduled,40\n", "kind"),
+    ("runs.csv", "2,97,direct,40\n", "quarter"),
+    ("runs.csv", "2,1,direct,100000\n", "reference"),
+    ("runs.csv", "".join(f"{at},1,direct,40\n" for at in range(2, 1002)), "run"),
+    ("demands.csv", "1,A,80.5,\n", "mw"),
+    ("demands.csv", "1,A,80, \n", "price"),
+    ("demands.csv", "2,C,80,\n", "run"),
+    ("demands.csv", "1,C,100000,\n", "zone"),
+    ("demands.csv", "1,A,100000,\n", "mw"),
+    ("demands.csv", "1,A,1,100000\n", "price"),
+    ("demands.csv", "1,A,1,\n" * 513, "run"),
+    ("borders.csv", "from,to,limit,back\nA,B,50.5,1", "limit"),
+]
+
+MANY_ZONES = "zone,operator\n" + "".join(f"Z{at},T\n" for at in range(24))
+MANY_BORDERS = "from,to,limit,back\n" + "".join(f"Z{a},Z{b},1,1\n" for a in range(24) for b in range(a))
+
+OF_LIMITS = [
+    ("1.0,A,B,1,1\n", "run"),
+    ("1,A,B,1,x\n", "back"),
+    ("2,A,C,100000,1\n", "run"),
+    ("1,B,A,100000,1\n", "from"),
+    ("1,A,B,1,1\n1,A,B,100000,1\n", "run"),
+    ("1,A,B,100000,1\n", "limit"),
+    ("1,A,B,1,-1\n", "back"),
+]
+
+OF_BLOCKS = [
+    ("k k,a\n", "BadField", "block"),
+    ("k,x\n", "UnknownBid", "bid"),
+    ("k,d\n", "Quarter", "bid"),
+    ("k,f\nl,f\n", "Repeated", "bid"),
+    ("k,a\n", "Linked", "bid"),
+    ("k,b\n", "Linked", "bid"),
+    ("k,c\n", "Quarter", "bid"),
+]
+
+
+def said_by_program(path):
+    """What the program says of a folder's form: its words, or none where it accepts it."""
+    ended = PROGRAM.run("migrate", str(path), "limits")
+    words = ended.stdout.decode("ascii").split()
+    return words if ended.returncode else None
+
+
+def said_by_package(path):
+    try:
+        Folder.read(path)
+    except MariRefused as refused:
+        return ["refused", refused.file, str(refused.line), str(refused.number), refused.check]
+    except MariMissing as missing:
+        return ["missing", missing.file]
+    return None
+
+
+@needs_program
+class TestAgainstProgram(unittest.TestCase):
+    def test_damaged_files(self):
+        chance = random.Random(20250312)
+        refused = without_field = 0
+        for number in range(COUNT):
+            pages = random_folder(chance).pages()
+            for _ in range(chance.choice([1, 1, 1, 2])):
+                name = chance.choice(list(pages))
+                pages[name] = damaged(chance, pages[name])
+            with tempfile.TemporaryDirectory() as scratch:
+                for name, page in pages.items():
+                    (Path(scratch) / name).write_bytes(page)
+                wanted = said_by_program(scratch)
+                if wanted and wanted[3:] == ["17", "AlreadyTwo"]:
+                    wanted = None
+                with self.subTest(number=number, wanted=wanted):
+                    self.assertEqual(said_by_package(scratch), wanted)
+                    if wanted and wanted[0] == "refused":
+                        refused += 1
+                        first = problems(scratch)[0]
+                        self.assertEqual([first.file, str(first.line), str(first.number)], wanted[1:4])
+                        if not first.field:
+                            without_field += 1
+                            self.assertIn(first.check, OF_NO_FIELD)
+        self.assertGreater(refused, COUNT // 4)
+        if os.environ.get("MARI_DAMAGED"):
+            print(f"damaged: {COUNT} folders, {refused} refused, {without_field} of them for no single field")
+
+    def test_each_check(self):
+        """Every check of every market file but the calendar's, each by the least change that fails it."""
+        seen = set()
+        for file, text, field in EACH:
+            pages = Folder.of_pages(BASE).pages()
+            page = pages[file]
+            pages[file] = page + text.encode() if text.endswith("\n") else text.encode()
+            with self.subTest(file=file, text=text[-60:]), tempfile.TemporaryDirectory() as scratch:
+                for name, bytes_ in pages.items():
+                    (Path(scratch) / name).write_bytes(bytes_)
+                wanted = said_by_program(scratch)
+                self.assertIsNotNone(wanted)
+                self.assertEqual(said_by_package(scratch), wanted)
+                self.assertEqual(problems(scratch)[0].field, field)
+                seen.add((wanted[1], wanted[4]))
+        own = {(file, name) for file, names in CHECKS.items() for name in names}
+        later = {("borders.csv", "AlreadyTwo"), ("links.csv", "AcrossQuarters"), ("runs.csv", "NoScheduled")}
+        left = {one for one in own - seen - later if one[0] not in ("day.csv", "limits.csv", "blocks.csv")}
+        self.assertEqual(left, {("zones.csv", "NoZone"), ("borders.csv", "TooManyBorders")})
+
+    def refused_so(self, pages, file, field):
+        """Program and package refuse these pages for the same file, line and check, and the field is this one."""
+        with tempfile.TemporaryDirectory() as scratch:
+            for name, page in pages.items():
+                (Path(scratch) / name).write_bytes(page)
+            wanted = said_by_program(scratch)
+            self.assertEqual(wanted[:2], ["refused", file])
+            self.assertEqual(said_by_package(scratch), wanted)
+            self.assertEqual(problems(scratch)[0].field, field)
+        return wanted[4]
+
+    def test_many_borders_and_no_zone(self):
+        pages = {**BASE, "zones.csv": MANY_ZONES.encode(), "borders.csv": MANY_BORDERS.encode()}
+        self.assertEqual(self.refused_so(pages, "borders.csv", "from"), "TooManyBorders")
+        pages = {**BASE, "zones.csv": b"zone,operator\n"}
+        self.assertEqual(self.refused_so(pages, "zones.csv", ""), "NoZone")
+
+    def test_as_much_as_may_be(self):
+        """Files that are as long as they may be are accepted by both."""
+        pages = {**BASE, "zones.csv": MANY_ZONES.encode()}
+        pages["zones.csv"] += "".join(f"Y{at},T\n" for at in range(38)).encode() + b"A,T\nB,T\n"
+        pages["borders.csv"] = b"".join(line + b"\n" for line in MANY_BORDERS.encode().splitlines()[:257])
+        pages["bids.csv"] += "".join(f"x{at},P,A,1,up,20,{int(at < 510)},9,both\n" for at in range(4094)).encode()
+        pages["runs.csv"] += "".join(f"{at},1,direct,40\n" for at in range(2, 1001)).encode()
+        pages["demands.csv"] += b"1,A,1,\n" * 512
+        with tempfile.TemporaryDirectory() as scratch:
+            for name, page in pages.items():
+                (Path(scratch) / name).write_bytes(page)
+            self.assertIsNone(said_by_program(scratch))
+            self.assertIsNone(said_by_package(scratch))
+
+    def test_limits(self):
+        seen = set()
+        for text, field in OF_LIMITS:
+            with self.subTest(text=text):
+                pages = {**BASE, "borders.csv": b"from,to\nA,B\n"}
+                pages["limits.csv"] = b"run,from,to,limit,back\n" + text.encode()
+                seen.add(self.refused_so(pages, "limits.csv", field))
+        self.assertEqual(seen, set(CHECKS["limits.csv"]))
+
+    def test_blocks(self):
+        for text, check, field in OF_BLOCKS:
+            with self.subTest(text=text), tempfile.TemporaryDirectory() as scratch:
+                for name, page in BASE.items():
+                    more = b"f,P,A,1,up,20,0,9,both\n" if name == "bids.csv" else b""
+                    (Path(scratch) / name).write_bytes(page + more)
+                (Path(scratch) / "blocks.csv").write_text("block,bid\n" + text)
+                with self.assertRaises(MariRefused) as caught:
+                    PROGRAM.blocks(scratch, 1, 1)
+                self.assertEqual((caught.exception.check, caught.exception.field), (check, field))
+
+    def test_random_folders_are_accepted(self):
+        chance = random.Random(7)
+        for _ in range(20):
+            with tempfile.TemporaryDirectory() as scratch:
+                folder = random_folder(chance)
+                folder.write(scratch)
+                said = said_by_program(scratch)
+                self.assertIn(said, (None, ["refused", "borders.csv", "1", "17", "AlreadyTwo"]))
+                self.assertEqual(Folder.read(scratch).pages(), folder.pages())
+
+    def test_refusal_of_the_program_has_field_and_hint(self):
+        with tempfile.TemporaryDirectory() as scratch:
+            random_folder(random.Random(1)).write(scratch)
+            bids = Path(scratch) / "bids.csv"
+            bids.write_text(bids.read_text() + 'x1,P1,North,1,up,"60,00",0,10,both\n')
+            line = bids.read_text().count("\n")
+            with self.assertRaises(MariRefused) as caught:
+                PROGRAM.clear(scratch)
+            error = caught.exception
+            self.assertEqual((error.file, error.line, error.check), ("bids.csv", line, "BadField"))
+            self.assertEqual((error.field, error.value), ("price", "60,00"))
+            self.assertIn("write 60.00", error.hint)
+
+
+class TestProblems(unittest.TestCase):
+    def pages(self, **changed):
+        made = {
+            "day.csv": b"date,rule\n2025-03-12,UTC0\n",
+            "zones.csv": b"zone,operator\nA,TA\nB,TB\n",
+            "borders.csv": b"from,to,limit,back\nA,B,50,50\n",
+            "bids.csv": b"id,provider,zone,quarter,direction,price,least,greatest,kind\n",
+            "links.csv": b"kind,first,second\n",
+            "runs.csv": b"run,quarter,kind,reference\n1,1,scheduled,40.00\n",
+            "demands.csv": b"run,zone,mw,price\n",
+        }
+        made.update({f"{name}.csv": page for name, page in changed.items()})
+        return made
+
+    def refused(self, **changed):
+        with self.assertRaises(MariRefused) as caught:
+            Folder.of_pages(self.pages(**changed))
+        return caught.exception
+
+    def bid(self, **changed):
+        fields = {"id": "x", "provider": "P", "zone": "A", "quarter": "1", "direction": "up", "price": "20"}
+        fields |= {"least": "0", "greatest": "5", "kind": "both"} | changed
+        page = ",".join(fields) + "\n" + ",".join(f'"{value}"' for value in fields.values()) + "\n"
+        return self.refused(bids=page.encode())
+
+    def test_hints(self):
+        for field, value, hint in (
+            ("price", "60,00", "write 60.00"),
+            ("price", "1,300.00", "write 1300.00"),
+            ("price", "1.3E+02", "write 130.00"),
+            ("price", "\u221260", "write -60"),
+            ("price", "60.00 ", "write 60.00"),
+            ("price", "20.125", "two decimals"),
+            ("greatest", "120.0", "write 120,"),
+            ("greatest", "12.5", "write whole MW"),
+            ("greatest", "10 MW", "write 10, without a unit"),
+            ("quarter", "24:00", "number of the quarter hour"),
+            ("kind", "Both", "write both"),
+            ("direction", "Up ", "write up"),
+            ("id", "", "1 to 16"),
+            ("id", "1b4e28ba-2fa1-11d2", "18 characters"),
+            ("provider", "\u00d8st", "'\\xd8'"),
+        ):
+            with self.subTest(value=value):
+                error = self.bid(**{field: value})
+                self.assertEqual((error.field, error.value), (field, value))
+                self.assertIn(hint, str(error))
+
+    def test_headers(self):
+        head = b"zone,operator\n"
+        for page, hint in (
+            (head.replace(b",", b";"), "semicolons"),
+            (head.replace(b",", b"\t"), "tabs"),
+            (head.decode().encode("utf-16"), "UTF-16"),
+            (b"sep=,\n" + head, "take the line"),
+            (b"zone, operator\n", "without blanks"),
+            (b"operator,zone\n", "order"),
+            (b"Zone,Operator\n", "capital"),
+            (b"A,TA\n", "missing"),
+            (b"zone,operator,\n", "comma at the end"),
+            (b"", "empty"),
+        ):
+            with self.subTest(page=page):
+                self.assertIn(hint, str(self.refused(zones=page)))
+
+    def test_rows(self):
+        for changed, hint in (
+            ({"day": b"date,rule\n2025-03-12,CET-1CEST,M3.5.0,M10.5.0/3\n"}, '2025-03-12,"CET-1CEST,M3.5.0,M10.5.0/3"'),
+            ({"zones": b"zone,operator\n  \nA,TA\n"}, "blanks"),
+            ({"zones": b"zone,operator\n# all zones\nA,TA\n"}, "comments"),
+            ({"zones": b'zone,operator\n"A,TA\nB,TB\n'}, "isn't closed"),
+            ({"demands": b"run,zone,mw,price\n1,A,80,60,00\n"}, "decimal comma"),
+            ({"demands": b"run,zone,mw,price\n1,A,80,nan\n"}, "left empty"),
+            ({"zones": b"zone,operator\nA,\xd8st\n"}, "'\\xd8st' isn't UTF-8"),
+        ):
+            with self.subTest(hint=hint):
+                self.assertIn(hint, str(self.refused(**changed)))
+
+    def test_all_problems_of_a_file(self):
+        with tempfile.TemporaryDirectory() as scratch:
+            demands = b"run,zone,mw,price\n" + b'1,A,10,"60,00"\n' * 3000
+            for name, page in self.pages(demands=demands).items():
+                (Path(scratch) / name).write_bytes(page)
+            found = problems(scratch)
+        self.assertEqual([one.line for one in found], list(range(2, 3002)))
+        self.assertEqual({(one.field, one.hint) for one in found}, {("price", "write 60.00, with a decimal point")})
+
+    def test_missing(self):
+        pages = self.pages()
+        del pages["links.csv"]
+        with self.assertRaises(MariFileError) as caught:
+            Folder.of_pages(pages)
+        self.assertEqual(caught.exception.file, "links.csv")
+        self.assertIsInstance(caught.exception, MariError)
+
+
+if __name__ == "__main__":
+    unittest.main()

@@ -28,7 +28,17 @@ from mari.errors import (
 from mari.folder import Folder, StrPath, problems
 from mari.lint import Finding, lint
 from mari.program import Checked, Joint, Program, Worth, find_program
-from mari.publication import Activation, Flow, Publication, RunBlock, ZonePrice, iter_blocks
+from mari.publication import (
+    Activation,
+    Flow,
+    Island,
+    Item,
+    Publication,
+    RunBlock,
+    ZonePrice,
+    iter_blocks,
+    iter_parts,
+)
 from mari.reasons import Reason, State, reasons
 from mari.rows import Bid, Block, Border, Demand, Limit, Link, Run, Zone
 
@@ -55,6 +65,8 @@ __all__ = [
     "Finding",
     "Flow",
     "Folder",
+    "Island",
+    "Item",
     "Joint",
     "Limit",
     "Link",
@@ -85,6 +97,7 @@ __all__ = [
     "clear",
     "find_program",
     "iter_blocks",
+    "iter_parts",
     "lint",
     "problems",
     "reasons",

@@ -227,13 +227,36 @@ class DayClock:
         return cls(date, clock, start, quarters)
 
     def begin(self, quarter: int) -> datetime:
-        """When a quarter hour begins, as a local time with its distance from UTC. `quarters + 1` is the day's end."""
+        """When a quarter hour begins, as a local time with its distance from UTC. `quarters + 1` is the day's end.
+
+        `OverflowError` in year 0 and on the last days of 9999, which Python's `datetime` hasn't: see `stamp`.
+        """
         instant = self.start + QUARTER * (quarter - 1)
         zone = timezone(timedelta(seconds=self.clock.ahead_at(instant)))
         return datetime(1970, 1, 1, tzinfo=timezone.utc).astimezone(zone) + timedelta(seconds=instant)
 
     def text(self, quarter: int) -> str:
         """When a quarter hour begins, as `HH:MM` of the local clock."""
+        return self.stamp(quarter)[11:16]
+
+    def stamp(self, quarter: int) -> str:
+        """When a quarter hour begins, as `YYYY-MM-DDTHH:MM+HH:MM`: `begin` as a text, in any year of the calendar."""
         instant = self.start + QUARTER * (quarter - 1)
-        minutes = (instant + self.clock.ahead_at(instant)) % _DAY // 60
-        return f"{minutes // 60:02d}:{minutes % 60:02d}"
+        ahead = self.clock.ahead_at(instant)
+        day, second = divmod(instant + ahead, _DAY)
+        return f"{date_text(day)}T{_hours(second)}{'-' if ahead < 0 else '+'}{_hours(abs(ahead), abs(ahead) % 60 > 0)}"
+
+
+def date_text(day: int) -> str:
+    """The date of a day number, as `YYYY-MM-DD`."""
+    year = year_of(day)
+    rest, month = day - day_number(year, 1, 1), 1
+    while rest >= month_days(year, month):
+        rest -= month_days(year, month)
+        month += 1
+    return f"{year:04d}-{month:02d}-{rest + 1:02d}"
+
+
+def _hours(seconds: int, exact: bool = False) -> str:
+    text = f"{seconds // 3600:02d}:{seconds % 3600 // 60:02d}"
+    return text + (f":{seconds % 60:02d}" if exact else "")

@@ -139,7 +139,7 @@ class Day:
         }
 
     def _time(self, quarter: int) -> str:
-        return self.clock.begin(quarter).isoformat(timespec="minutes")
+        return self.clock.stamp(quarter)
 
     def _bids(self) -> Table:
         bids = {bid.id: bid for bid in self.folder.bids}

@@ -30,7 +30,7 @@ from mari.errors import (
     Problem,
 )
 from mari.folder import Folder, problems, read_pages
-from mari.publication import Activation, Flow, Publication, RunBlock, ZonePrice, read_joint, read_split
+from mari.publication import Activation, Flow, Item, Publication, RunBlock, ZonePrice, read_joint, read_split
 from mari.units import MOST_NODES, MOST_QUARTERS, MOST_RAISE, MOST_WORKERS
 
 StrPath = str | PathLike[str]
@@ -72,13 +72,17 @@ class JointQuarter:
 
 @dataclass
 class Joint:
-    """Several quarter hours cleared as one market. Where it isn't published, `nodes` says how many were made."""
+    """Several quarter hours cleared as one market. Where it isn't published, `nodes` says how many were made.
+
+    `tree` is the certificate of all quarter hours together.
+    """
 
     first: int
     last: int
     nodes: int | None = None
     welfare: Decimal = Decimal(0)
     quarters: list[JointQuarter] = field(default_factory=list)
+    tree: list[Item] = field(default_factory=list)
 
     @property
     def published(self) -> bool:
@@ -152,7 +156,7 @@ class Program:
     def split(
         self, folder: StrPath | Folder, *, nodes: int | None = None, workers: int | None = None
     ) -> list[RunBlock]:
-        """The runs of a day, each cleared by its islands: blocks without money, since no ledger is printed."""
+        """The runs of a day, each cleared by its islands (`RunBlock.islands`): without money, as no ledger is printed."""
         with _at(folder) as path:
             ended = self._call(path, "split", _word(path), *_options(nodes, workers), good=(0, 1))
         return read_split(ended.stdout.decode("ascii").splitlines(keepends=True))
@@ -165,9 +169,9 @@ class Program:
         with _at(folder) as path:
             words = (_word(path), str(first), str(last), *_options(nodes, workers))
             ended = self._call(path, "blocks", *words, good=(0, 1), quarters=(first, last))
-        head, welfare, quarters = read_joint(ended.stdout.decode("ascii").splitlines(keepends=True))
+        nodes_made, welfare, quarters, tree = read_joint(ended.stdout.decode("ascii").splitlines(keepends=True))
         parts = [JointQuarter(part.quarter, part.zones, part.borders, part.bids, part.demands) for part in quarters]
-        return Joint(first, last, head, welfare, parts)
+        return Joint(first, last, nodes_made, welfare, parts, tree)
 
     def value(self, folder: StrPath, mw: int) -> list[Worth]:
         """What `mw` MW more, 1 to 1,000, on each limit of a border would bring each published run."""

@@ -12,11 +12,10 @@ from dataclasses import dataclass, field
 from decimal import Decimal
 from os import PathLike
 from pathlib import Path
-from typing import NamedTuple, TypeVar
+from typing import NamedTuple, TextIO, TypeVar
 
-from mari.errors import MariMissing, MariText
+from mari.errors import MariMissing, MariText, MariUnreadable
 from mari.units import euros
-
 
 Row = TypeVar("Row")
 
@@ -63,12 +62,63 @@ class ProviderMoney(NamedTuple):
     amount: Decimal
 
 
+@dataclass(frozen=True)
+class Item:
+    """An item of a certificate: a `branch`, or a leaf (`bound`, `cut` or `conflict`) with the numbers that it states.
+
+    `lines` has what stands in its lines after their first words. Numbers are read when they are asked for, since a
+    great tree has millions. Zones count from 1.
+    """
+
+    kind: str
+    lines: tuple[str, ...] = ()
+
+    @property
+    def zones(self) -> list[int]:
+        """The zones of a cut, or those of a conflict, in the order of its path."""
+        if self.kind == "cut":
+            return [int(word) for word in self.lines[0].split()[1:]]
+        return [int(word) for word in self.lines[0].split()] if self.kind == "conflict" else []
+
+    @property
+    def side(self) -> str:
+        """Of a cut: `in` where its zones lack energy, and `out` where they have too much."""
+        return self.lines[0].partition(" ")[0] if self.kind == "cut" else ""
+
+    @property
+    def prices(self) -> list[Decimal]:
+        """A price for each zone: the potentials of a bound, or the prices of a conflict's activation."""
+        place = {"bound": 0, "conflict": 1}.get(self.kind)
+        return [] if place is None else [Decimal(word) for word in self.lines[place].split()]
+
+    @property
+    def flows(self) -> list[int]:
+        """Of a conflict: the flow over each border."""
+        return [int(word) for word in self.lines[2].split()] if self.kind == "conflict" else []
+
+    @property
+    def mws(self) -> list[int]:
+        """Of a conflict: the MW of each bid and then of each demand."""
+        return [int(word) for word in self.lines[3].split()] if self.kind == "conflict" else []
+
+
+@dataclass
+class Island:
+    """An island of a run that `split` cleared: its number from 1, its own welfare, its zones and its certificate."""
+
+    number: int
+    welfare: Decimal
+    zones: list[str]
+    tree: list[Item]
+
+
 @dataclass
 class RunBlock:
     """What a run found. Where it isn't published, `nodes` says how many were made, and all else is empty.
 
-    `demands` has the MW that are met of each demand of the run, in the order of demands.csv. `tree` has the kinds of
-    the certificate's items in preorder: `branch`, `bound`, `cut` and `conflict`; the feed has their numbers.
+    `demands` has the MW that are met of each demand of the run, in the order of demands.csv, and `tree` the items of
+    the certificate in preorder. `islands` is of `split` alone, where `tree` is empty and there is no money; in a run
+    that isn't published `island` is then the one that is the cause.
     """
 
     run: int
@@ -80,9 +130,11 @@ class RunBlock:
     borders: list[Flow] = field(default_factory=list)
     bids: list[Activation] = field(default_factory=list)
     demands: list[int] = field(default_factory=list)
-    tree: list[str] = field(default_factory=list)
+    tree: list[Item] = field(default_factory=list)
     operators: list[OperatorMoney] = field(default_factory=list)
     providers: list[ProviderMoney] = field(default_factory=list)
+    islands: list[Island] = field(default_factory=list)
+    island: int | None = None
 
     @property
     def published(self) -> bool:
@@ -114,9 +166,7 @@ class Publication:
         place = Path(path)
         if place.is_dir():
             place = place / "publication.txt"
-        if not place.exists():
-            raise MariMissing(place.name)
-        with place.open(encoding="ascii", errors="replace", newline="\n") as lines:
+        with open_text(place) as lines:
             return cls.of_lines(lines)
 
     @classmethod
@@ -127,10 +177,9 @@ class Publication:
     @classmethod
     def of_lines(cls, lines: Iterable[str]) -> Publication:
         """The publication of lines with their ends."""
-        reader = _Reader(lines)
-        publication = reader.head()
-        publication.blocks.extend(reader.blocks())
-        reader.totals(publication)
+        *blocks, publication = iter_parts(lines)
+        assert isinstance(publication, Publication)
+        publication.blocks += (block for block in blocks if isinstance(block, RunBlock))
         return publication
 
     def block(self, run: int) -> RunBlock:
@@ -148,15 +197,40 @@ class Publication:
         return sum((block.welfare for block in self.blocks), Decimal(0))
 
 
-def iter_blocks(lines: Iterable[str]) -> Iterator[RunBlock]:
-    """The blocks of a printed day, one at a time, so that a day of any length takes the memory of one block."""
+def open_text(path: Path) -> TextIO:
+    """Opens a printed text for reading; bytes that are no ASCII become marks that no form has."""
+    try:
+        return path.open(encoding="ascii", errors="replace", newline="\n")
+    except (FileNotFoundError, NotADirectoryError):
+        raise MariMissing(path.name) from None
+    except OSError:
+        raise MariUnreadable(path.name) from None
+
+
+def iter_parts(lines: Iterable[str]) -> Iterator[Publication | RunBlock]:
+    """The parts of a printed day, one at a time, so that a day of any length takes the memory of one block.
+
+    First a publication without blocks and totals, then each block, and at last the publication once more, with the
+    totals, where the text is whole.
+    """
     reader = _Reader(lines)
-    reader.head()
-    yield from reader.blocks()
+    publication = reader.head()
+    yield publication
+    published = unpublished = 0
+    for block in reader.blocks():
+        published, unpublished = published + block.published, unpublished + (not block.published)
+        yield block
+    reader.totals(publication, published, unpublished)
+    yield publication
+
+
+def iter_blocks(lines: Iterable[str]) -> Iterator[RunBlock]:
+    """The blocks of a printed day, one at a time."""
+    return (part for part in iter_parts(lines) if isinstance(part, RunBlock))
 
 
 def read_split(lines: Iterable[str]) -> list[RunBlock]:
-    """The runs of the text of `split`: blocks whose trees are those of their islands, one after the other."""
+    """The runs of the text of `split`."""
     reader = _Reader(lines)
     reader.one("split", 5)
     blocks = []
@@ -165,36 +239,34 @@ def read_split(lines: Iterable[str]) -> list[RunBlock]:
         reader.step()
         block = RunBlock(reader.whole(words[1]), reader.whole(words[2]), words[3])
         if words[4] == "unpublished":
-            block.nodes = reader.whole(words[6])
+            block.island, block.nodes = reader.whole(words[5]), reader.whole(words[6])
         else:
-            block.welfare = euros(reader.whole(reader.one("welfare", 2)[1]))
+            block.welfare = reader.welfare()
             reader.market(block)
             while reader.is_at("island"):
-                reader.step()
-                reader.step()
-                block.tree += reader.tree()
+                block.islands.append(reader.island())
             reader.one("end", 2)
         blocks.append(block)
     reader.one("done", 3)
     return blocks
 
 
-def read_joint(lines: Iterable[str]) -> tuple[int | None, Decimal, list[RunBlock]]:
-    """The text of `blocks`: the nodes where it isn't published, the welfare, and what each quarter hour has."""
+def read_joint(lines: Iterable[str]) -> tuple[int | None, Decimal, list[RunBlock], list[Item]]:
+    """The text of `blocks`: the nodes where it isn't published, the welfare, each quarter hour, and the certificate."""
     reader = _Reader(lines)
     words = reader.words
     reader.step()
     if words[3] == "unpublished":
-        return reader.whole(words[4]), Decimal(0), []
-    welfare = euros(reader.whole(reader.one("welfare", 2)[1]))
+        return reader.whole(words[4]), Decimal(0), [], []
+    welfare = reader.welfare()
     quarters = []
     while reader.is_at("quarter"):
         quarter = RunBlock(0, reader.whole(reader.one("quarter", 2)[1]), "scheduled")
         reader.market(quarter)
         quarters.append(quarter)
-    reader.tree()
+    tree = reader.tree()
     reader.one("end", 1)
-    return None, welfare, quarters
+    return None, welfare, quarters, tree
 
 
 _PRICE = re.compile(r"-?(?:0|[1-9][0-9]*)\.[0-9]{2}")
@@ -210,8 +282,23 @@ _LENGTHS = {
     "total-operator": 5,
     "total-provider": 3,
 }
-_TREE = ("branch", "bound", "cut", "conflict")
-_OF_CONFLICT = ("at", "flows", "mws")
+_PRICES = rf"{_PRICE.pattern}(?: {_PRICE.pattern})*"
+_WHOLES = rf"{_WHOLE.pattern}(?: {_WHOLE.pattern})*"
+_TREE = {
+    "branch": (),
+    "bound": (("bound", re.compile(_PRICES)),),
+    "cut": (("cut", re.compile(f"(?:in|out) {_WHOLES}")),),
+    "conflict": (
+        ("conflict", re.compile(_WHOLES)),
+        ("at", re.compile(_PRICES)),
+        ("flows", re.compile(f"(?:{_WHOLES})?")),
+        ("mws", re.compile(f"(?:{_WHOLES})?")),
+    ),
+}
+"""The lines of each kind of item, and what may follow their first words."""
+
+
+_BRANCH = Item("branch")
 
 
 class _Reader:
@@ -294,12 +381,15 @@ class _Reader:
                 raise self.fault("isn't the heading of a run")
 
     def body(self, block: RunBlock) -> None:
-        block.welfare = euros(self.whole(self.one("welfare", 2)[1]))
+        block.welfare = self.welfare()
         self.market(block)
         block.tree = self.tree()
         block.operators, block.providers = self.ledger("")
         if self.whole(self.one("end", 2)[1]) != block.run:
             raise self.fault("comes after the end of another run")
+
+    def welfare(self) -> Decimal:
+        return euros(self.whole(self.one("welfare", 2)[1]))
 
     def market(self, block: RunBlock) -> None:
         block.zones = self.many("zone", self.zone)
@@ -318,31 +408,42 @@ class _Reader:
         payment, rent, net = map(self.money, words[2:])
         return OperatorMoney(words[1], payment, rent, net)
 
-    def tree(self) -> list[str]:
+    def tree(self) -> list[Item]:
         count = self.whole(self.one("tree", 2)[1])
-        kinds: list[str] = []
-        for _ in range(count):
-            kind = self.words[0] if self.words else ""
-            if kind not in _TREE:
-                raise self.fault("should be an item of the certificate")
-            kinds.append(kind)
+        return [self.item() for _ in range(count)]
+
+    def item(self) -> Item:
+        kind = self.words[0] if self.words else ""
+        if kind not in _TREE:
+            raise self.fault("should be an item of the certificate")
+        if kind == "branch":
+            self.one("branch", 1)
+            return _BRANCH
+        lines = []
+        for word, form in _TREE[kind]:
+            rest = " ".join(self.words[1:])
+            if not self.is_at(word) or not form.fullmatch(rest):
+                raise self.fault(f"should be the line {word}")
+            lines.append(rest)
             self.step()
-            for word in _OF_CONFLICT if kind == "conflict" else ():
-                if not self.is_at(word):
-                    raise self.fault(f"should be the line {word}")
-                self.step()
-        return kinds
+        return Item(kind, tuple(lines))
+
+    def island(self) -> Island:
+        words = self.one("island", 3)
+        number, welfare = self.whole(words[1]), euros(self.whole(words[2]))
+        zones = self.words[1:]
+        self.one("zones", len(self.words))
+        return Island(number, welfare, zones, self.tree())
 
     def ledger(self, prefix: str) -> tuple[list[OperatorMoney], list[ProviderMoney]]:
         operators = self.many(f"{prefix}operator", self.operator)
         providers = self.many(f"{prefix}provider", lambda words: ProviderMoney(words[1], self.money(words[2])))
         return operators, providers
 
-    def totals(self, publication: Publication) -> None:
+    def totals(self, publication: Publication, published: int, unpublished: int) -> None:
         publication.operators, publication.providers = self.ledger("total-")
         words = self.one("done", 3)
-        counts = [len(publication.blocks) - len(publication.unpublished), len(publication.unpublished)]
-        if [self.whole(word) for word in words[1:]] != counts:
+        if [self.whole(word) for word in words[1:]] != [published, unpublished]:
             raise MariText(self.number - 1, "counts other runs than there are")
         if self.words:
             raise self.fault("comes after the end")

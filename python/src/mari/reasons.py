@@ -115,7 +115,7 @@ class _RunReasons:
         self.mw = dict(block.bids)
         self.prices = {row.zone: row.price for row in block.zones}
         self.scheduled = {row.zone: row.price for row in scheduled.zones} if scheduled else {}
-        self.tree = block.tree
+        self.tree = [item.kind for item in block.tree]
         self.gates = [name for name, _ in block.bids if name in offers.gated]
         self.leaves: dict[str, str] | None = None
         self.leaves_made = False

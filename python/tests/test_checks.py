@@ -1,12 +1,28 @@
 """The package refuses what the program refuses: the same file, line and check, and it names the field."""
 
+import itertools
 import os
 import random
 import tempfile
 import unittest
+from decimal import Decimal
 from pathlib import Path
 
-from mari import Folder, MariError, MariFileError, MariMissing, MariRefused, problems
+from mari import (
+    Bid,
+    Block,
+    Border,
+    Demand,
+    Folder,
+    Link,
+    MariError,
+    MariFileError,
+    MariMissing,
+    MariRefused,
+    Run,
+    Zone,
+    problems,
+)
 from mari.checks import CHECKS
 
 from tests.days import damaged, random_folder
@@ -103,6 +119,46 @@ OF_BLOCKS = [
     ("k,a\n", "Linked", "bid"),
     ("k,b\n", "Linked", "bid"),
     ("k,c\n", "Quarter", "bid"),
+]
+
+
+def more_zones(folder, most, more):
+    folder.zones = [Zone(f"Z{at}", "T") for at in range(most // 2 + more - 1)] + folder.zones
+
+
+def more_borders(folder, most, more):
+    folder.zones += [Zone(f"Z{at}", "T") for at in range(23)]
+    pairs = itertools.combinations([zone.zone for zone in folder.zones], 2)
+    folder.borders = [Border(*pair, 1, 1) for pair in itertools.islice(pairs, most // 2 + more)]
+
+
+def more_bids(folder, most, more):
+    """Beside them a bid that needs one of quarter 1, and a block with it: they aren't available."""
+    bids = [Bid(f"b{at}", "P", "A", 2 + at % 2, "up", Decimal(20), 0, 9) for at in range(most + more)]
+    folder.bids += [*bids, Bid("needy", "P", "A", 2, "up", Decimal(20), 0, 9)]
+    folder.bids.append(Bid("mate", "P", "A", 3, "up", Decimal(20), 0, 9))
+    folder.links = [Link("needs", "needy", "early")]
+    folder.blocks = [Block("k", "needy"), Block("k", "mate")]
+
+
+def more_gates(folder, most, more):
+    """A block of two bids has one gate."""
+    bids = [Bid(f"b{at}", "P", "A", 2 + at % 2, "up", Decimal(20), 0, 9) for at in range(2)]
+    bids += [Bid(f"g{at}", "P", "A", 2 + at % 2, "up", Decimal(20), 5, 9) for at in range(most + more - 1)]
+    folder.bids += bids
+    folder.blocks = [Block("k", "b0"), Block("k", "b1")]
+
+
+def more_demands(folder, most, more):
+    folder.demands = [Demand(2 + at % 2, "A", 1) for at in range(most + more)] + [Demand(1, "A", 1)]
+
+
+SIZES = [
+    ("zones", 64, more_zones),
+    ("borders", 256, more_borders),
+    ("bids", 4096, more_bids),
+    ("gates", 512, more_gates),
+    ("demands", 512, more_demands),
 ]
 
 
@@ -222,6 +278,34 @@ class TestAgainstProgram(unittest.TestCase):
                 with self.assertRaises(MariRefused) as caught:
                     PROGRAM.blocks(scratch, 1, 1)
                 self.assertEqual((caught.exception.check, caught.exception.field), (check, field))
+
+    def test_links_across_quarters(self):
+        """The program names line 1 of the file; the package adds the line that fails the check."""
+        folder = Folder.of_pages(BASE)
+        folder.runs.append(Run(2, 2, "scheduled", Decimal(40)))
+        folder.blocks = []
+        with self.assertRaises(MariRefused) as caught:
+            PROGRAM.blocks(folder, 1, 2)
+        error = caught.exception
+        self.assertEqual((error.check, error.line, error.at), ("AcrossQuarters", 1, 4))
+        self.assertEqual((error.field, error.value), ("second", "a"))
+
+    def test_the_size_of_a_joint_market(self):
+        """Quarters 2 and 3 with as much as one market may have are taken, and with one more are refused."""
+        for what, most, grow in SIZES:
+            for more in (0, 1):
+                folder = Folder("2025-03-12", "UTC0", [Zone("A", "T")], blocks=[])
+                folder.runs = [Run(at, at, "scheduled", Decimal(40)) for at in (1, 2, 3)]
+                folder.bids = [Bid("early", "P", "A", 1, "up", Decimal(20), 0, 9)]
+                grow(folder, most, more)
+                with self.subTest(what=what, more=more):
+                    if not more:
+                        PROGRAM.blocks(folder, 2, 3, nodes=1)
+                        continue
+                    with self.assertRaises(MariRefused) as caught:
+                        PROGRAM.blocks(folder, 2, 3, nodes=1)
+                    self.assertEqual(caught.exception.check, "TooLarge")
+                    self.assertIn(f"{what}, and {most} are the most", caught.exception.reason)
 
     def test_random_folders_are_accepted(self):
         chance = random.Random(7)

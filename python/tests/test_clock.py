@@ -93,6 +93,12 @@ class TestClock(unittest.TestCase):
                 wanted = (start + timedelta(minutes=15 * (quarter - 1))).astimezone(zone)
                 self.assertEqual(day.begin(quarter).isoformat(), wanted.isoformat())
                 self.assertEqual(day.text(quarter), wanted.strftime("%H:%M"))
+                self.assertEqual(day.stamp(quarter), wanted.isoformat(timespec="minutes"))
+
+    def test_stamps_of_years_that_python_has_not(self):
+        first = DayClock.of("0000-02-29", RULE)
+        self.assertEqual((first.stamp(1), first.stamp(97)), ("0000-02-29T00:00+01:00", "0000-03-01T00:00+01:00"))
+        self.assertEqual(DayClock.of("2025-03-12", "LMT0:17:30").stamp(1), "2025-03-12T00:00-00:17:30")
 
     def test_days_and_years(self):
         for number in range(-800_000, 3_000_000, 9_973):

@@ -168,6 +168,14 @@ class TestFrames(unittest.TestCase):
         self.assertEqual(len(prices), 8)
         self.assertEqual(str(prices["time"].dt.tz), "UTC")
 
+    @needs_program
+    def test_a_day_of_year_0(self):
+        folder = Folder.read(EXAMPLES / "two-zones")
+        folder.date = "0000-01-01"
+        prices = mari.clear(folder).frames()["prices"]
+        self.assertEqual(list(prices["local"]), ["0000-01-01T00:00+01:00"] * 2)
+        self.assertTrue(prices["time"].isna().all())
+
 
 if __name__ == "__main__":
     unittest.main()

@@ -7,7 +7,7 @@ import unittest
 from decimal import Decimal
 from pathlib import Path
 
-from mari import Day, MariText, Publication, iter_blocks
+from mari import Day, Item, MariText, Publication, iter_blocks
 from mari.units import cents, energy_money, euros, price_of, quarter_cents
 
 from tests.days import random_folder
@@ -15,6 +15,16 @@ from tests.program import PROGRAM, needs_program
 
 EXAMPLES = Path(__file__).resolve().parents[2] / "examples"
 TEXT = (EXAMPLES / "two-zones" / "publication.txt").read_text()
+
+
+def feed_item(item):
+    """An item of a certificate as the feed has it."""
+    prices = [cents(price) for price in item.prices]
+    if item.kind == "cut":
+        return {"cut": item.zones, "side": item.side}
+    if item.kind == "conflict":
+        return {"at": prices, "conflict": item.zones, "flows": item.flows, "mws": item.mws}
+    return {"bound": prices} if item.kind == "bound" else item.kind
 
 
 class TestPublication(unittest.TestCase):
@@ -26,7 +36,7 @@ class TestPublication(unittest.TestCase):
         self.assertEqual(block.zones[1], ("B", Decimal("60.00"), Decimal("60.00"), Decimal("60.00"), 2))
         self.assertEqual(block.borders, [("A", "B", 50, Decimal("500.0000"))])
         self.assertEqual(block.bids, [("a1", 50), ("b1", 30)])
-        self.assertEqual((block.demands, block.tree), ([80], ["bound"]))
+        self.assertEqual((block.demands, block.tree), ([80], [Item("bound", ("20.00 60.00",))]))
         self.assertEqual(block.providers, day.providers)
         self.assertEqual(list(iter_blocks(TEXT.splitlines(keepends=True))), day.blocks)
 
@@ -37,8 +47,9 @@ class TestPublication(unittest.TestCase):
 
     def test_faults(self):
         lines = TEXT.splitlines(keepends=True)
-        damage = {6: "border A B 50 500.00000\n", 12: "operator TA -250.0000 250.0000 -0500.0000\n"}
-        damage |= {4: "zone A 20.00 20.00 20\n", 7: "bid a1 050\n", 11: "bount 20.00 60.00\n", 16: "end 2\n"}
+        damage = {6: "border A B 50 500.0001\n", 12: "operator TA -250.0000 250.0000 -0500.0000\n"}
+        damage |= {4: "zone A 20.00 20.00 20\n", 7: "bid a1 050\n", 16: "end 2\n"}
+        damage |= {11: "bound 20.00  60.00\n", 5: "zone B -0.00 -0.00 -0.00 2\n", 10: "tree 2\n"}
         for line, changed in damage.items():
             with self.subTest(line=line):
                 text = "".join([*lines[: line - 1], changed, *lines[line:]])
@@ -68,8 +79,7 @@ class TestPublication(unittest.TestCase):
                 bids = [{"id": row.bid, "mw": row.mw} for row in block.bids]
                 self.assertEqual(bids, wanted["bids"])
                 self.assertEqual(block.demands, wanted["demands"])
-                for kind, item in zip(block.tree, wanted["tree"], strict=True):
-                    self.assertTrue(kind == item if kind == "branch" else kind in item)
+                self.assertEqual([feed_item(item) for item in block.tree], wanted["tree"])
                 flows = [(row.from_zone, row.to_zone, row.mw, quarter_cents(row.rent)) for row in block.borders]
                 keys = ("from", "to", "flow", "rent")
                 self.assertEqual(flows, [tuple(row[key] for key in keys) for row in wanted["borders"]])

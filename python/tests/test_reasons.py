@@ -167,9 +167,14 @@ class TestProgram(unittest.TestCase):
         joint = program.blocks(EXAMPLES / "thermal-plant", 1, 4)
         self.assertTrue(joint.published)
         self.assertEqual([quarter.quarter for quarter in joint.quarters], [1, 2, 3, 4])
+        self.assertEqual({item.kind for item in joint.tree} - {"branch", "bound", "cut", "conflict"}, set())
         [block] = program.split(EXAMPLES / "two-islands")
         whole = program.clear(EXAMPLES / "two-islands", save=False).block(1)
         self.assertEqual((block.welfare, block.bids), (whole.welfare, whole.bids))
+        self.assertEqual([island.zones for island in block.islands], [["A"], ["B"]])
+        self.assertEqual(sum(island.welfare for island in block.islands), block.welfare)
+        [given_up] = program.split(EXAMPLES / "paradox-bid", nodes=2)
+        self.assertEqual((given_up.published, given_up.island), (False, 1))
 
     def test_refused_blocks(self):
         folder = Folder.read(EXAMPLES / "thermal-plant")
@@ -184,7 +189,8 @@ class TestProgram(unittest.TestCase):
         folder = Folder.read(EXAMPLES / "thermal-plant")
         with self.assertRaises(mari.MariRefused) as caught:
             Program().blocks(folder, 1, 5)
-        self.assertEqual((caught.exception.check, caught.exception.field), ("NoScheduled", ""))
+        error = caught.exception
+        self.assertEqual((error.check, error.field, error.value), ("NoScheduled", "quarter", "5"))
         self.assertIn("has no scheduled run", str(caught.exception))
 
 

@@ -68,20 +68,6 @@ CHECKS: dict[str, dict[str, int]] = {
 }
 """The numbers of each file's own checks; those of every file are 1 BadHeader, 2 BadRow and 3 NotUtf8."""
 
-LATER = {
-    ("borders.csv", 17): ("the folder states limits for each run already", "there is nothing to migrate"),
-    ("runs.csv", 16): ("a quarter hour of the blocks has no scheduled run", "add it, or choose other quarter hours"),
-    ("links.csv", 18): (
-        "a needs, bars or technical line has both bids in the quarter hours of the blocks",
-        "take the line out, or choose the quarter hours so that one of the two is outside",
-    ),
-    ("blocks.csv", 17): (
-        "the quarter hours have together more than 64 zones, 256 borders, 4,096 bids, 512 gates or 512 demands",
-        "take fewer quarter hours at a time",
-    ),
-}
-"""Reasons and hints of the checks that `migrate` and `blocks` alone make, for the whole file; they aren't made here."""
-
 _EVERY = {"BadHeader": 1, "BadRow": 2, "NotUtf8": 3}
 
 

@@ -10,7 +10,8 @@ class Problem:
     """A check that a market file fails.
 
     `line` counts records, the header being 1. `field` is the name of the column, or empty where no single field is bad;
-    `value` is what stands there. `hint` says what to write, where that can be told.
+    `value` is what stands there. `hint` says what to write, where that can be told. Where a check names line 1 for the
+    whole file, `at` is the line that fails it, if one does.
     """
 
     file: str
@@ -21,10 +22,11 @@ class Problem:
     value: str = ""
     reason: str = ""
     hint: str = ""
+    at: int = 0
 
     def __str__(self) -> str:
         """One line: where, what is bad, and what to write."""
-        place = f"{self.file} line {self.line}" + (f", field {self.field}" if self.field else "")
+        place = f"{self.file} line {self.at or self.line}" + (f", field {self.field}" if self.field else "")
         said = f"{shown(self.value)} {self.reason}" if self.field else self.reason
         hint = f": {self.hint}" if self.hint else ""
         return f"{place}: {said or self.check}{hint} [{self.number} {self.check}]"
@@ -39,7 +41,7 @@ class MariError(Exception):
 class MariRefused(MariError):
     """A file isn't as it should be: `file`, `line`, `number` and `check` are those of the program's refusal.
 
-    `field`, `value`, `reason` and `hint` are found by this package. They are empty where it can't tell.
+    `field`, `value`, `reason`, `hint` and `at` are found by this package. They are empty where it can't tell.
     """
 
     exit_code = 3
@@ -50,7 +52,7 @@ class MariRefused(MariError):
         self.problem = problem
         self.file, self.line, self.number, self.check = problem.file, problem.line, problem.number, problem.check
         self.field, self.value = problem.field, problem.value
-        self.reason, self.hint = problem.reason, problem.hint
+        self.reason, self.hint, self.at = problem.reason, problem.hint, problem.at
 
 
 class MariFileError(MariError):

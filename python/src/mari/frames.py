@@ -91,7 +91,10 @@ def _field(file: str, line: int, column: str, value: Any) -> object:
 
 
 def frame_of(table: Table) -> pd.DataFrame:
-    """A table as a frame: decimals as floats; `time` as times of UTC, and `local` as they are printed."""
+    """A table as a frame: decimals as floats; `time` as times of UTC, and `local` as they are printed.
+
+    `time` is NaT in years that pandas hasn't.
+    """
     frame = pd.DataFrame(table.rows, columns=list(table.columns))
     for column in frame.columns:
         values = frame[column]
@@ -99,5 +102,5 @@ def frame_of(table: Table) -> pd.DataFrame:
             frame[column] = frame[column].astype(float)
     if "time" in frame.columns:
         frame.insert(list(frame.columns).index("time") + 1, "local", frame["time"])
-        frame["time"] = pd.to_datetime(frame["time"], utc=True)
+        frame["time"] = pd.to_datetime(frame["time"], utc=True, errors="coerce")
     return frame

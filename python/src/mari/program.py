@@ -15,7 +15,6 @@ from os import PathLike
 from pathlib import Path
 from typing import Any, NamedTuple
 
-from mari.checks import LATER, BlockReader, read_rows
 from mari.errors import (
     MariEnded,
     MariError,
@@ -30,6 +29,7 @@ from mari.errors import (
     Problem,
 )
 from mari.folder import Folder, problems, read_pages
+from mari.joint import joint_problems
 from mari.publication import Activation, Flow, Item, Publication, RunBlock, ZonePrice, read_joint, read_split
 from mari.units import MOST_NODES, MOST_QUARTERS, MOST_RAISE, MOST_WORKERS
 
@@ -238,18 +238,17 @@ def refused(
             found = next(iter(problems(folder)), None) or _in_blocks(folder, quarters)
     if found and (found.file, found.line, found.number) == (file, line, number):
         return MariRefused(found)
-    reason, hint = LATER.get((file, number), ("", ""))
-    return MariRefused(Problem(file, line, number, check, reason=reason, hint=hint))
+    known = {"AlreadyTwo": "the folder states limits for each run already: there is nothing to migrate"}
+    return MariRefused(Problem(file, line, number, check, reason=known.get(check, "")))
 
 
 def _in_blocks(folder: StrPath, quarters: tuple[int, int] | None) -> Problem | None:
-    """The first problem of blocks.csv in an accepted folder."""
+    """The first problem of an accepted folder's quarter hours as one market."""
     if quarters is None:
         return None
     pages = read_pages(folder)
-    books = Folder.of_pages({name: page for name, page in pages.items() if name != "blocks.csv"})
-    reader = BlockReader(books.bids, books.links, *quarters)
-    return next((bad.problem for bad in read_rows(pages["blocks.csv"], reader, lambda row: None)), None)
+    page = pages.pop("blocks.csv")
+    return next(joint_problems(Folder.of_pages(pages), page, *quarters), None)
 
 
 def _options(nodes: int | None, workers: int | None) -> list[str]:

@@ -269,9 +269,9 @@ def read_joint(lines: Iterable[str]) -> tuple[int | None, Decimal, list[RunBlock
     return None, welfare, quarters, tree
 
 
-_PRICE = re.compile(r"-?(?:0|[1-9][0-9]*)\.[0-9]{2}")
-_MONEY = re.compile(r"-?(?:0|[1-9][0-9]*)\.[0-9]{4}")
-_WHOLE = re.compile(r"-?(?:0|[1-9][0-9]*)")
+_PRICE = re.compile(r"(?!-0\.00)-?(?:0|[1-9][0-9]*)\.[0-9]{2}")
+_MONEY = re.compile(r"(?!-0\.0000)-?(?:0|[1-9][0-9]*)\.[0-9]{2}(?:00|25|50|75)")
+_WHOLE = re.compile(r"(?:0|-?[1-9][0-9]*)")
 _LENGTHS = {
     "zone": 6,
     "border": 5,

@@ -1,8 +1,6 @@
 """`python -m mari`, lint, and frames where pandas is there."""
 
-import contextlib
 import csv
-import io
 import tempfile
 import unittest
 from decimal import Decimal
@@ -10,10 +8,9 @@ from pathlib import Path
 
 import mari
 from mari import Bid, Border, Demand, Folder, Limit, Link, Run, Zone
-from mari.__main__ import main
 from mari.lint import findings
 
-from tests.program import needs_program
+from tests.program import needs_program, said
 
 try:
     import pandas as pd
@@ -23,17 +20,10 @@ except ImportError:
 EXAMPLES = Path(__file__).resolve().parents[2] / "examples"
 
 
-def said(*words):
-    out, err = io.StringIO(), io.StringIO()
-    with contextlib.redirect_stdout(out), contextlib.redirect_stderr(err):
-        code = main(words)
-    return code, out.getvalue(), err.getvalue()
-
-
 @needs_program
 class TestUnserved(unittest.TestCase):
     def test_what_counts(self):
-        """An elastic demand above its price isn't unserved; inelastic ones of either sign are."""
+        """An elastic demand above its price isn't unserved; those at any price are, of either sign."""
         folder = Folder("2025-03-12", "UTC0", [Zone("A", "T"), Zone("B", "T")])
         folder.bids = [Bid("u", "P", "A", 1, "up", Decimal(50), 0, 10)]
         folder.bids.append(Bid("d", "P", "B", 1, "down", Decimal(20), 0, 5))
@@ -43,6 +33,8 @@ class TestUnserved(unittest.TestCase):
         day = mari.clear(folder)
         found = [(row.asked, row.met, row.unserved) for row in day.demands()]
         self.assertEqual(found, [(12, 10, 2), (8, 0, 0), (-9, 5, 4), (-4, 0, 0)])
+        folder.demands[0] = folder.demands[0]._replace(price=Decimal(99_999))
+        self.assertEqual([row.unserved for row in mari.clear(folder).demands()], [2, 0, 4, 0])
         self.assertEqual(len(day.unserved()), 2)
         self.assertIn("UNSERVED: 6 MW of 2 inelastic demands (sum over runs):", day.summary())
 

@@ -27,6 +27,7 @@ from mari.errors import (
 )
 from mari.folder import Folder, StrPath, problems
 from mari.lint import Finding, lint
+from mari.order import ordered
 from mari.program import Checked, Joint, Program, Worth, find_program
 from mari.publication import (
     Activation,
@@ -99,6 +100,7 @@ __all__ = [
     "iter_blocks",
     "iter_parts",
     "lint",
+    "ordered",
     "problems",
     "reasons",
 ]

@@ -1,4 +1,4 @@
-"""`python -m mari`: explains, lints and prints cleared days."""
+"""`python -m mari`: explains, lints, orders and prints days."""
 
 from __future__ import annotations
 
@@ -12,6 +12,7 @@ from mari.day import Day
 from mari.errors import MariError
 from mari.folder import Folder
 from mari.lint import lint
+from mari.order import ordered
 from mari.program import Program
 from mari.reasons import Reason, State
 
@@ -32,6 +33,9 @@ def parser() -> argparse.ArgumentParser:
     tables = commands.add_parser("csv", help="the day as CSV tables, with local times")
     tables.add_argument("folder")
     tables.add_argument("out", help="the folder for the tables")
+    order = commands.add_parser("order", help="the folder with its bids in an order that needs smaller search trees")
+    order.add_argument("folder")
+    order.add_argument("new", help="the folder that is written")
     for name in ("explain", "summary", "csv"):
         text = "the budget of each run's search, where the folder is cleared"
         commands.choices[name].add_argument("--nodes", type=int, help=text)
@@ -47,6 +51,8 @@ def main(words: Sequence[str] | None = None) -> int:
     try:
         if options.command == "lint":
             return _lint(options.folder)
+        if options.command == "order":
+            return _order(Path(options.folder), Path(options.new))
         day = _day(options.folder, options.nodes)
         if options.command == "explain":
             return _explain(day, options.bid, options.all)
@@ -79,6 +85,19 @@ def _lint(folder: str) -> int:
     for one in found:
         print(one)
     return 1 if found else 0
+
+
+def _order(old: Path, new: Path) -> int:
+    if (new / "publication.txt").exists() or (new.exists() and new.samefile(old)):
+        print(f"mari: {new} is the folder itself or has a publication.txt: name a new folder", file=sys.stderr)
+        return 2
+    folder = Folder.read(old)
+    made = ordered(folder)
+    made.write(new)
+    moved = sum(one != other for one, other in zip(folder.bids, made.bids))
+    print(f"{new}: {moved} of {len(folder.bids)} bids have another place in bids.csv")
+    print("Among equal optima the order of bids.csv decides which is published: other bids may run than before.")
+    return 0
 
 
 def _explain(day: Day, wanted: str | None, everything: bool) -> int:

@@ -16,7 +16,7 @@ from mari.errors import MariOtherFolder
 from mari.folder import Folder
 from mari.publication import Publication, RunBlock
 from mari.reasons import Reason, reasons
-from mari.rows import Run
+from mari.rows import Demand, Run
 from mari.units import CAP
 
 if TYPE_CHECKING:
@@ -80,10 +80,10 @@ class Day:
         return self.folder.clock()
 
     @cached_property
-    def _demands(self) -> dict[int, list[tuple[str, int, Decimal | None]]]:
-        of_run: dict[int, list[tuple[str, int, Decimal | None]]] = {}
+    def _demands(self) -> dict[int, list[Demand]]:
+        of_run: dict[int, list[Demand]] = {}
         for demand in self.folder.demands:
-            of_run.setdefault(demand.run, []).append((demand.zone, demand.mw, demand.price))
+            of_run.setdefault(demand.run, []).append(demand)
         return of_run
 
     def reasons(self) -> Iterator[Reason]:
@@ -95,9 +95,11 @@ class Day:
         rows = []
         for run, block in self._published():
             time = self.clock.text(run.quarter)
-            for (zone, asked, limit), met in zip(self._demands.get(run.run, ()), block.demands):
-                unserved = abs(asked) - met if limit is None else 0
-                rows.append(Served(run.run, run.quarter, time, zone, asked, limit, met, block.price(zone), unserved))
+            prices = {row.zone: row.price for row in block.zones}
+            for demand, met in zip(self._demands.get(run.run, ()), block.demands):
+                unserved = abs(demand.mw) - met if demand.at_any_price else 0
+                key = (run.run, run.quarter, time, demand.zone, demand.mw, demand.price)
+                rows.append(Served(*key, met, prices[demand.zone], unserved))
         return rows
 
     def unserved(self) -> list[Served]:

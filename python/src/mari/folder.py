@@ -5,7 +5,7 @@ from __future__ import annotations
 import csv
 import io
 from collections.abc import Iterable, Iterator, Mapping
-from dataclasses import dataclass, field
+from dataclasses import dataclass, field, replace
 from os import PathLike
 from pathlib import Path
 from typing import TYPE_CHECKING, Any
@@ -113,6 +113,10 @@ class Folder:
         for name, page in pages.items():
             (folder / name).write_bytes(page)
         return folder
+
+    def changed(self, **parts: Any) -> Folder:
+        """A copy with other parts, such as `folder.changed(links=[])`; the rows that stay are shared."""
+        return replace(self, **parts)
 
     def clock(self) -> DayClock:
         """The day's clock: how many quarter hours it has, and when each begins."""

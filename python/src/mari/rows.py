@@ -8,6 +8,8 @@ from __future__ import annotations
 from decimal import Decimal
 from typing import NamedTuple
 
+from mari.units import CAP
+
 
 class Zone(NamedTuple):
     """A bidding zone and its operator (TSO)."""
@@ -75,6 +77,11 @@ class Demand(NamedTuple):
     zone: str
     mw: int
     price: Decimal | None = None
+
+    @property
+    def at_any_price(self) -> bool:
+        """Whether it is inelastic: without a price, or with the worst one that there is."""
+        return self.price is None or self.price == (CAP if self.mw > 0 else -CAP)
 
 
 class Limit(NamedTuple):

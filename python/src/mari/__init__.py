@@ -40,7 +40,7 @@ from mari.publication import (
     iter_blocks,
     iter_parts,
 )
-from mari.reasons import Reason, State, reasons
+from mari.reasons import Reason, Reasons, State, reasons
 from mari.rows import Bid, Block, Border, Demand, Limit, Link, Run, Zone
 
 __version__ = "0.1.0"
@@ -87,6 +87,7 @@ __all__ = [
     "Program",
     "Publication",
     "Reason",
+    "Reasons",
     "Run",
     "RunBlock",
     "Served",

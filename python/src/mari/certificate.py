@@ -7,8 +7,10 @@ its group.
 
 from __future__ import annotations
 
-from collections.abc import Sequence
+from collections.abc import Iterator, Sequence
 from typing import NamedTuple
+
+from mari.publication import Item
 
 
 class Gate(NamedTuple):
@@ -18,23 +20,40 @@ class Gate(NamedTuple):
     parent: int | None = None
 
 
-def leaves(tree: Sequence[str], gates: Sequence[Gate]) -> dict[str, str] | None:
-    """The kind of each leaf by its prefix, a text of 0 (closed) and 1 (open); None where the tree has other gates."""
-    found: dict[str, str] = {}
+class Leaves:
+    """The leaves of a certificate by their prefixes, each a text of 0 (closed) and 1 (open)."""
+
+    def __init__(self, by_prefix: dict[str, Item]) -> None:
+        """See `leaves`."""
+        self.by_prefix = by_prefix
+
+    def of(self, word: str) -> Item | None:
+        """The leaf whose prefix begins a gate word."""
+        starts = (word[:size] for size in range(len(word) + 1))
+        return next((self.by_prefix[start] for start in starts if start in self.by_prefix), None)
+
+    def with_open(self, place: int) -> Iterator[Item]:
+        """The leaves in which the gate at a place is open or undecided."""
+        return (item for prefix, item in self.by_prefix.items() if len(prefix) <= place or prefix[place] == "1")
+
+
+def leaves(tree: Sequence[Item], gates: Sequence[Gate]) -> Leaves | None:
+    """The leaves of a tree over these gates; None where it has other gates."""
+    found: dict[str, Item] = {}
     waiting = [""]
-    for kind in tree:
+    for item in tree:
         if not waiting:
             return None
         prefix = waiting.pop()
-        if kind != "branch":
-            found[prefix] = kind
+        if item.kind != "branch":
+            found[prefix] = item
             continue
         if len(prefix) >= len(gates):
             return None
         if may_open(prefix, gates):
             waiting.append(prefix + "1")
         waiting.append(prefix + "0")
-    return None if waiting else found
+    return None if waiting else Leaves(found)
 
 
 def may_open(prefix: str, gates: Sequence[Gate]) -> bool:
@@ -45,8 +64,3 @@ def may_open(prefix: str, gates: Sequence[Gate]) -> bool:
     return gate.group is None or all(
         state == "0" or other.group != gate.group for state, other in zip(prefix, gates)
     )
-
-
-def leaf_of(word: str, by_prefix: dict[str, str]) -> str | None:
-    """The kind of the leaf whose prefix begins a gate word."""
-    return next((by_prefix[word[:size]] for size in range(len(word) + 1) if word[:size] in by_prefix), None)

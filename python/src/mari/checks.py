@@ -9,6 +9,7 @@ from __future__ import annotations
 from collections import Counter
 from collections.abc import Callable, Iterator
 from decimal import Decimal
+from sys import intern
 from typing import NoReturn
 
 from mari import hints
@@ -84,29 +85,26 @@ def has_header(page: bytes, header: str) -> bool:
     return next(records(decoded(page)[0]), None) == header.split(",")
 
 
-def rows_of(file: str, page: bytes, header: str) -> tuple[list[tuple[int, list[str]]], list[MariRefused]]:
-    """The records of a page with their lines, and what is wrong with each by itself."""
+def rows_of(file: str, page: bytes, header: str) -> tuple[Iterator[tuple[int, list[str]]], list[MariRefused]]:
+    """The records of a page with their lines, and what is wrong with each by itself; those with a fault are left out."""
     text, all_utf8 = decoded(page)
     columns = header.split(",")
-    every = records(text)
-    if next(every, None) != columns:
+    if next(records(text), None) != columns:
         hint = hints.for_header(page, header)
-        return [], [refusal(file, 1, "BadHeader", reason=f"the first record isn't {header}", hint=hint)]
-    good: list[tuple[int, list[str]]] = []
-    bad: list[MariRefused] = []
+        return iter(()), [refusal(file, 1, "BadHeader", reason=f"the first record isn't {header}", hint=hint)]
+    bad: dict[int, MariRefused] = {}
     width = len(columns)
-    for line, fields in enumerate(every, start=2):
+    for line, fields in enumerate(records(text), start=1):
         if len(fields) != width:
             reason = f"the record has {len(fields)} fields, and the header {width}"
-            bad.append(refusal(file, line, "BadRow", reason=reason, hint=hints.for_row(file, fields, width)))
+            bad[line] = refusal(file, line, "BadRow", reason=reason, hint=hints.for_row(file, fields, width))
         elif not (all_utf8 or is_utf8(fields)):
             place = next(place for place, field in enumerate(fields) if not is_utf8([field]))
             value = fields[place].encode("utf-8", "surrogateescape").decode("latin-1")
             hint = "save the file as UTF-8"
-            bad.append(refusal(file, line, "NotUtf8", columns[place], value, "isn't UTF-8 (read as Latin-1)", hint))
-        else:
-            good.append((line, fields))
-    return good, bad
+            bad[line] = refusal(file, line, "NotUtf8", columns[place], value, "isn't UTF-8 (read as Latin-1)", hint)
+    good = ((line, fields) for line, fields in enumerate(records(text), start=1) if line > 1 and line not in bad)
+    return good, list(bad.values())
 
 
 class Reader:
@@ -148,7 +146,7 @@ class Reader:
         """The word in a field."""
         if fields[place] not in words:
             self.fail(check, place, fields, "isn't a word of this column", hints.for_word(fields[place], words))
-        return fields[place]
+        return words[words.index(fields[place])]
 
     def within(
         self, check: str, place: int, fields: list[str], value: int | Decimal, least: int | Decimal, most: int | Decimal
@@ -250,7 +248,7 @@ class BidReader(Reader):
 
     def take(self, fields: list[str]) -> Bid:
         """The bid of a record."""
-        name, provider = self.name("BadField", 0, fields), self.name("BadField", 1, fields)
+        name, provider = self.name("BadField", 0, fields), intern(self.name("BadField", 1, fields))
         quarter = self.whole("BadField", 3, fields)
         direction = self.word("BadField", 4, fields, ("up", "down"))
         price = self.price("BadField", 5, fields)
@@ -271,7 +269,7 @@ class BidReader(Reader):
             self.fail("TooMany", 3, fields, f"has {MOST_BIDS} bids already", f"keep to {MOST_BIDS}")
         self.counts[quarter] += 1
         self.lines[name] = self.line
-        return Bid(name, provider, fields[2], quarter, direction, price, least, greatest, kind)
+        return Bid(name, provider, intern(fields[2]), quarter, direction, price, least, greatest, kind)
 
 
 class LinkReader(Reader):
@@ -474,10 +472,11 @@ def read_day(page: bytes) -> tuple[DayClock, str]:
     rows, bad = rows_of("day.csv", page, HEADERS["day.csv"])
     if bad:
         raise bad[0]
-    if len(rows) != 1:
-        reason, hint = f"there are {len(rows)} records after the header", "write exactly one"
-        raise refusal("day.csv", 3 if rows else 1, "NotOneRecord", reason=reason, hint=hint)
-    date, rule = rows[0][1]
+    every = [fields for _, fields in rows]
+    if len(every) != 1:
+        reason, hint = f"there are {len(every)} records after the header", "write exactly one"
+        raise refusal("day.csv", 3 if every else 1, "NotOneRecord", reason=reason, hint=hint)
+    date, rule = every[0]
     try:
         return DayClock.of(date, rule), rule
     except ClockError as error:

@@ -149,7 +149,7 @@ class MariText(MariError):
 
     def __init__(self, line: int, reason: str) -> None:
         """Where, and what is wrong."""
-        super().__init__(f"publication line {line}: {reason}")
+        super().__init__(f"publication.txt line {line}: {reason}")
         self.line, self.reason = line, reason
 
 

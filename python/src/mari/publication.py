@@ -15,7 +15,7 @@ from pathlib import Path
 from typing import NamedTuple, TextIO, TypeVar
 
 from mari.errors import MariMissing, MariText, MariUnreadable
-from mari.units import euros
+from mari.units import euros, is_name
 
 Row = TypeVar("Row")
 
@@ -348,6 +348,8 @@ class _Reader:
         while self.is_at(word):
             if len(self.words) != _LENGTHS[word]:
                 raise self.fault(f"a line of {word} has {_LENGTHS[word]} words")
+            if word != "demand" and not (is_name(self.words[1]) and (word != "border" or is_name(self.words[2]))):
+                raise self.fault(f"names a {word} by what is no name")
             rows.append(read(self.words))
             self.step()
         return rows

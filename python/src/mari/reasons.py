@@ -2,16 +2,17 @@
 
 from __future__ import annotations
 
+from collections import Counter
 from collections.abc import Iterator
 from dataclasses import dataclass
 from decimal import Decimal
 from enum import Enum
 
 from mari.availability import Offers, Taken, Withheld
-from mari.certificate import Gate, leaf_of, leaves
+from mari.certificate import Gate, Leaves, leaves
 from mari.errors import MariOtherFolder
 from mari.folder import Folder
-from mari.publication import Publication, RunBlock
+from mari.publication import Item, Publication, RunBlock
 from mari.rows import Bid, Run
 from mari.units import energy_money
 
@@ -57,12 +58,8 @@ class Reason:
         return f"{run}: {self.bid} {self.state.value}: {self.text}"
 
 
-_SHOWN = {
-    "bound": "with it running and the other gates as published, no activation has more welfare",
-    "cut": "with it running and the other gates as published, the energy of some zones has no way over the borders",
-    "conflict": "with it running and the other gates as published, the best activation has no consistent prices: "
-    "somebody would run at a loss or be left out",
-}
+_SHOWN = {"bound": "no greater welfare", "conflict": "no consistent prices", "cut": "no balance"}
+"""What each kind of leaf shows."""
 
 
 def reasons(folder: Folder, publication: Publication) -> Iterator[Reason]:
@@ -72,24 +69,37 @@ def reasons(folder: Folder, publication: Publication) -> Iterator[Reason]:
     """
     if [block.run for block in publication.blocks] != [run.run for run in folder.runs]:
         raise MariOtherFolder("the publication has other runs than runs.csv")
-    offers = Offers(folder)
-    taken = Taken(offers)
-    scheduled: dict[int, RunBlock] = {}
+    found = Reasons(folder)
     for run, block in zip(folder.runs, publication.blocks):
-        if (run.quarter, run.kind) != (block.quarter, block.kind):
-            raise MariOtherFolder(f"run {run.run} has another quarter hour or kind than in runs.csv")
-        if not block.published:
-            yield from _of_unpublished(offers, taken, run, block)
-            continue
-        yield from _RunReasons(offers, taken, run, block, scheduled.get(run.quarter)).all()
-        taken.add(run, block.bids)
-        if run.kind == "scheduled":
-            scheduled[run.quarter] = block
+        yield from found.take(run, block)
     with_run = {run.quarter for run in folder.runs}
     for bid in folder.bids:
         if bid.quarter not in with_run:
             text = "its quarter hour has no run in runs.csv"
             yield Reason(0, bid.quarter, bid.id, State.NO_RUN, text, left=bid.greatest)
+
+
+class Reasons:
+    """Takes the blocks of a day one after the other, and gives the reasons of each."""
+
+    def __init__(self, folder: Folder) -> None:
+        """Before the first run."""
+        self.offers = Offers(folder)
+        self.taken = Taken(self.offers)
+        self.scheduled: tuple[int, dict[str, Decimal]] = (0, {})
+
+    def take(self, run: Run, block: RunBlock) -> list[Reason]:
+        """The reasons of a run over the blocks so far: one for each bid of its quarter hour, as in bids.csv."""
+        if (run.quarter, run.kind) != (block.quarter, block.kind):
+            raise MariOtherFolder(f"run {run.run} has another quarter hour or kind than in runs.csv")
+        if not block.published:
+            return [*_of_unpublished(self.offers, self.taken, run, block)]
+        quarter, prices = self.scheduled
+        found = [*_RunReasons(self.offers, self.taken, run, block, prices if quarter == run.quarter else {}).all()]
+        self.taken.add(run, block.bids)
+        if run.kind == "scheduled":
+            self.scheduled = (run.quarter, {row.zone: row.price for row in block.zones})
+        return found
 
 
 def _of_unpublished(offers: Offers, taken: Taken, run: Run, block: RunBlock) -> Iterator[Reason]:
@@ -110,14 +120,16 @@ def _withheld(run: Run, bid: Bid, why: Withheld, taken: Taken) -> Reason:
 class _RunReasons:
     """The reasons of one published run."""
 
-    def __init__(self, offers: Offers, taken: Taken, run: Run, block: RunBlock, scheduled: RunBlock | None) -> None:
-        self.offers, self.taken, self.run = offers, taken, run
+    def __init__(
+        self, offers: Offers, taken: Taken, run: Run, block: RunBlock, scheduled: dict[str, Decimal]
+    ) -> None:
+        self.offers, self.taken, self.run, self.scheduled = offers, taken, run, scheduled
         self.mw = dict(block.bids)
         self.prices = {row.zone: row.price for row in block.zones}
-        self.scheduled = {row.zone: row.price for row in scheduled.zones} if scheduled else {}
-        self.tree = [item.kind for item in block.tree]
+        self.zones = [row.zone for row in block.zones]
+        self.tree = block.tree
         self.gates = [name for name, _ in block.bids if name in offers.gated]
-        self.leaves: dict[str, str] | None = None
+        self.leaves: Leaves | None = None
         self.leaves_made = False
 
     def all(self) -> Iterator[Reason]:
@@ -146,7 +158,8 @@ class _RunReasons:
         elif margin > 0:
             state = State.REJECTED
             rule, by, why = self._excluded(bid)
-            text = f"the price {price} of {bid.zone} pays {margin} more than it asks, but {why}"
+            gain = f"{margin} euro per MWh, {energy_money(margin, left)} euro in all"
+            text = f"at the price {price} of {bid.zone} it would gain {gain}, but {why}"
         else:
             state = State.AT_THE_PRICE
             text = f"it asks just the price {price} of {bid.zone}, and wasn't needed"
@@ -159,8 +172,8 @@ class _RunReasons:
             paid = choose(price, self.scheduled[bid.zone])
         pay = energy_money(paid, mw) * bid.sign
         of = f"{mw} MW" if mw == left else f"{mw} of {left} MW"
-        verb = "gets" if bid.direction == "up" else "pays"
-        text = f"{of} at {paid}, so {self.offers.bids[bid.id].provider} {verb} {abs(pay)} euro"
+        verb = "gets" if pay >= 0 else "pays"
+        text = f"{of} at {paid}, so {bid.provider} {verb} {abs(pay)} euro"
         if paid != price:
             text += f" (the price of the scheduled run, {paid}, in place of {price})"
         return Reason(self.run.run, bid.quarter, bid.id, State.ACTIVATED, text, mw, left, price, margin, pay)
@@ -171,21 +184,41 @@ class _RunReasons:
         members = self.offers.members[group] if group is not None else []
         rivals = tuple(other for other in members if other != bid.id and self.mw.get(other, 0))
         if rivals:
-            return "group", rivals, f"{', '.join(rivals)} of its group {group} runs"
+            return "group", rivals, f"of its group {group} at most one bid runs, and {', '.join(rivals)} does"
         parent = self.offers.parent_of.get(bid.id)
         if parent is not None and not self.taken.is_activated(parent) and not self.mw.get(parent, 0):
-            return "parent", (parent,), f"its parent {parent} doesn't run"
+            return "parent", (parent,), f"it runs only where its parent {parent} does, which isn't activated"
         least = self.offers.least(bid)
-        leaf = self._leaf(bid)
-        shown = f": {_SHOWN[leaf]} (the certificate's {leaf})" if leaf else ""
-        return "indivisible", (), f"it runs {least} MW at least or not at all{shown}"
+        return "indivisible", (), f"it runs {least} MW at least or not at all. {self._shown(bid)}".rstrip()
 
-    def _leaf(self, bid: Bid) -> str | None:
-        """The certificate's leaf for the published gates with this one open too; None where it can't be told."""
+    def _shown(self, bid: Bid) -> str:
+        """What the certificate shows of this bid: beside the published gates, and in all other choices of gates."""
         if not self.leaves_made:
             self.leaves, self.leaves_made = leaves(self.tree, self._gates()), True
         word = "".join("1" if self.mw[name] or name == bid.id else "0" for name in self.gates)
-        return leaf_of(word, self.leaves) if self.leaves is not None else None
+        leaf = self.leaves.of(word) if self.leaves is not None else None
+        if self.leaves is None or leaf is None:
+            return ""
+        counts = Counter(_SHOWN[one.kind] for one in self.leaves.with_open(self.gates.index(bid.id)) if one is not leaf)
+        text = f"With it, and every other gated bid as it is, there {self._leaf_text(leaf)} (the certificate's {leaf.kind})."
+        if not counts:
+            return text
+        said = ", ".join(f"{shown} ({count})" for shown, count in counts.most_common())
+        return f"{text} The certificate rules out every other choice with it: its leaves show {said}."
+
+    def _leaf_text(self, leaf: Item) -> str:
+        shown = f"is {_SHOWN[leaf.kind]}" if leaf.kind != "conflict" else f"are {_SHOWN[leaf.kind]}"
+        zones = [self.zones[number - 1] for number in leaf.zones]
+        if leaf.kind == "bound":
+            return shown
+        if leaf.kind == "cut":
+            what = "take in what they would lack" if leaf.side == "in" else "send out what they would have too much"
+            return f"{shown}: {', '.join(zones)} couldn't {what}"
+        if len(zones) == 1:
+            return f"{shown}: in {zones[0]} one order needs a higher price than another allows"
+        way = f" by {', '.join(zones[1:-1])}" if zones[1:-1] else ""
+        orders = f"orders need a higher one in {zones[0]} than others allow in {zones[-1]}"
+        return f"{shown}: the price can't fall from {zones[0]}{way} to {zones[-1]}, but {orders}"
 
     def _gates(self) -> list[Gate]:
         place = {name: at for at, name in enumerate(self.gates)}

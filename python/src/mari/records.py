@@ -12,6 +12,7 @@ from collections.abc import Iterator
 
 _FIELD = re.compile(r'(?:"([^"]*(?:""[^"]*)*)("?))?([^,\r\n]*)([,\r\n]|\Z)')
 _ENDS = re.compile(r"[\r\n]*")
+_LINE = re.compile(r"[^\n]+")
 _SIMPLE = re.compile(r'["\r]')
 
 
@@ -27,9 +28,8 @@ def decoded(page: bytes) -> tuple[str, bool]:
 def records(text: str) -> Iterator[list[str]]:
     """The fields of each record, the header first."""
     if not _SIMPLE.search(text):
-        for line in text.split("\n"):
-            if line:
-                yield line.split(",")
+        for line in _LINE.finditer(text):
+            yield line[0].split(",")
         return
     place, end = 0, len(text)
     while True:

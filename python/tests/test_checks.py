@@ -28,6 +28,7 @@ from mari.checks import CHECKS
 from tests.days import damaged, random_folder
 from tests.program import PROGRAM, needs_program
 
+LATER_FILES = {"limits.csv", "blocks.csv", "positions.csv"}
 OF_NO_FIELD = {"BadHeader", "BadRow", "NoZone", "NotOneRecord", "TooManyGates"}
 COUNT = int(os.environ.get("MARI_DAMAGED", "300"))
 
@@ -225,7 +226,7 @@ class TestAgainstProgram(unittest.TestCase):
                 seen.add((wanted[1], wanted[4]))
         own = {(file, name) for file, names in CHECKS.items() for name in names}
         later = {("borders.csv", "AlreadyTwo"), ("links.csv", "AcrossQuarters"), ("runs.csv", "NoScheduled")}
-        left = {one for one in own - seen - later if one[0] not in ("day.csv", "limits.csv", "blocks.csv")}
+        left = {one for one in own - seen - later if one[0] not in ("day.csv", *LATER_FILES)}
         self.assertEqual(left, {("zones.csv", "NoZone"), ("borders.csv", "TooManyBorders")})
 
     def refused_so(self, pages, file, field):
@@ -408,6 +409,21 @@ class TestProblems(unittest.TestCase):
         ):
             with self.subTest(hint=hint):
                 self.assertIn(hint, str(self.refused(**changed)))
+
+    def test_positions(self):
+        """positions.csv is this package's: each zone of zones.csv has one."""
+        pages = self.pages(positions=b"zone,x,y\nA,-4.5,52\nB,3,48.25\n")
+        folder = Folder.of_pages(pages)
+        self.assertEqual(folder.positions, [("A", -4.5, 52.0), ("B", 3.0, 48.25)])
+        self.assertEqual(Folder.of_pages(folder.pages()), folder)
+        for page, check, value in (
+            ("A,1;5,2\nB,1,1\n", "BadField", "1;5"),
+            ("A,1,2\nC,1,1\n", "UnknownZone", "C"),
+            ("A,1,2\nA,1,1\n", "Repeated", "A"),
+            ("A,1,2\n", "NoPosition", "B"),
+        ):
+            error = self.refused(positions=f"zone,x,y\n{page}".encode())
+            self.assertEqual((error.file, error.check, error.value), ("positions.csv", check, value))
 
     def test_all_problems_of_a_file(self):
         with tempfile.TemporaryDirectory() as scratch:

@@ -41,7 +41,7 @@ from mari.publication import (
     iter_parts,
 )
 from mari.reasons import Reason, Reasons, State, reasons
-from mari.rows import Bid, Block, Border, Demand, Limit, Link, Run, Zone
+from mari.rows import Bid, Block, Border, Demand, Limit, Link, Position, Run, Zone
 
 __version__ = "0.1.0"
 
@@ -83,6 +83,7 @@ __all__ = [
     "MariText",
     "MariTooLong",
     "MariUnreadable",
+    "Position",
     "Problem",
     "Program",
     "Publication",

@@ -16,7 +16,7 @@ from mari import hints
 from mari.clock import ClockError, DayClock
 from mari.errors import MariRefused, Problem
 from mari.records import decoded, is_utf8, records
-from mari.rows import BARE_BORDERS, HEADERS, Bid, Block, Border, Demand, Limit, Link, Run, Zone
+from mari.rows import BARE_BORDERS, HEADERS, Bid, Block, Border, Demand, Limit, Link, Position, Run, Zone
 from mari.units import (
     CAP,
     MOST_BID_MW,
@@ -28,6 +28,7 @@ from mari.units import (
     MOST_RUNS,
     MOST_ZONES,
     is_name,
+    read_decimal,
     read_price,
     read_whole,
 )
@@ -66,8 +67,12 @@ CHECKS: dict[str, dict[str, int]] = {
     "demands.csv": {"BadField": 11, "UnknownRun": 12, "UnknownZone": 13, "Range": 14, "TooMany": 15},
     "limits.csv": {"BadField": 11, "UnknownRun": 12, "UnknownBorder": 13, "Repeated": 14, "Range": 15},
     "blocks.csv": {"BadField": 11, "UnknownBid": 12, "Quarter": 13, "Repeated": 14, "Linked": 15, "TooLarge": 17},
+    "positions.csv": {"BadField": 11, "UnknownZone": 12, "Repeated": 13, "NoPosition": 14},
 }
-"""The numbers of each file's own checks; those of every file are 1 BadHeader, 2 BadRow and 3 NotUtf8."""
+"""The numbers of each file's own checks; those of every file are 1 BadHeader, 2 BadRow and 3 NotUtf8.
+
+positions.csv is of this package alone: the program doesn't read it.
+"""
 
 _EVERY = {"BadHeader": 1, "BadRow": 2, "NotUtf8": 3}
 
@@ -465,6 +470,37 @@ class BlockReader(Reader):
             self.fail("Linked", 1, fields, "is in a group, or is a child or a parent")
         self.lines[bid] = self.line
         return Block(block, bid)
+
+
+class PositionReader(Reader):
+    """positions.csv."""
+
+    file = "positions.csv"
+
+    def __init__(self, zones: list[Zone]) -> None:
+        """No positions yet."""
+        super().__init__()
+        self.zones = dict.fromkeys((row.zone for row in zones), 0)
+
+    def take(self, fields: list[str]) -> Position:
+        """The position of a zone."""
+        numbers = [read_decimal(field) for field in fields[1:]]
+        for place, number in enumerate(numbers, start=1):
+            if number is None:
+                self.fail("BadField", place, fields, "isn't a decimal number", "write a number such as -4.25")
+        if fields[0] not in self.zones:
+            hint = hints.for_known(fields[0], self.zones, "the zone to zones.csv")
+            self.fail("UnknownZone", 0, fields, "isn't a zone of zones.csv", hint)
+        if self.zones[fields[0]]:
+            self.fail("Repeated", 0, fields, f"is the zone of line {self.zones[fields[0]]} too")
+        self.zones[fields[0]] = self.line
+        return Position(fields[0], numbers[0] or 0.0, numbers[1] or 0.0)
+
+    def end(self) -> None:
+        """Each zone has a position."""
+        for zone, line in self.zones.items():
+            if not line:
+                raise refusal(self.file, 1, "NoPosition", "zone", zone, "has no position", "add its line")
 
 
 def read_day(page: bytes) -> tuple[DayClock, str]:

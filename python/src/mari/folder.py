@@ -17,6 +17,7 @@ from mari.checks import (
     DemandReader,
     LimitReader,
     LinkReader,
+    PositionReader,
     Reader,
     RunReader,
     ZoneReader,
@@ -26,7 +27,7 @@ from mari.checks import (
 )
 from mari.clock import DayClock
 from mari.errors import MariMissing, MariRefused, MariTooLong, MariUnreadable, Problem
-from mari.rows import BARE_BORDERS, FILES, HEADERS, Bid, Block, Border, Demand, Limit, Link, Run, Zone
+from mari.rows import BARE_BORDERS, FILES, HEADERS, Bid, Block, Border, Demand, Limit, Link, Position, Run, Zone
 from mari.units import MOST_FILE_BYTES, price_text
 
 if TYPE_CHECKING:
@@ -43,7 +44,8 @@ class Folder:
     """The market files of one day as typed rows.
 
     `date` is `YYYY-MM-DD` and `rule` the POSIX rule of the day's clock. Where `limits` isn't None, it states the limits
-    of borders for each run, and those of `borders` are None. `blocks` is None where there is no blocks.csv.
+    of borders for each run, and those of `borders` are None. `blocks` and `positions` are None where there is no
+    blocks.csv or positions.csv.
     """
 
     date: str
@@ -56,13 +58,14 @@ class Folder:
     demands: list[Demand] = field(default_factory=list)
     limits: list[Limit] | None = None
     blocks: list[Block] | None = None
+    positions: list[Position] | None = None
 
     @classmethod
     def read(cls, path: StrPath) -> Folder:
         """The folder at a path.
 
         Raises `MariMissing`, `MariTooLong`, `MariUnreadable` or `MariRefused` where the program would, and for the same
-        file, line and check. A blocks.csv that is there is read too, for any quarter hours.
+        file, line and check. A blocks.csv that is there is read too, for any quarter hours, and a positions.csv.
         """
         return cls.of_pages(read_pages(path))
 
@@ -72,11 +75,8 @@ class Folder:
         folder = cls("")
         for refused in _read_into(folder, pages):
             raise refused
-        if "blocks.csv" in pages:
-            folder.blocks = []
-            reader = BlockReader(folder.bids, folder.links)
-            for refused in read_rows(pages["blocks.csv"], reader, folder.blocks.append):  # type: ignore[arg-type]
-                raise refused
+        for refused in _read_more(folder, pages):
+            raise refused
         return folder
 
     def pages(self) -> dict[str, bytes]:
@@ -94,6 +94,8 @@ class Folder:
             pages["limits.csv"] = _page("limits.csv", self.limits)
         if self.blocks is not None:
             pages["blocks.csv"] = _page("blocks.csv", self.blocks)
+        if self.positions is not None:
+            pages["positions.csv"] = _page("positions.csv", self.positions)
         return pages
 
     def check(self) -> None:
@@ -149,8 +151,9 @@ def read_pages(path: StrPath) -> dict[str, bytes]:
     pages = {name: _fetch(folder, name) for name in FILES}
     if has_header(pages["borders.csv"], BARE_BORDERS):
         pages["limits.csv"] = _fetch(folder, "limits.csv")
-    if (folder / "blocks.csv").exists():
-        pages["blocks.csv"] = _fetch(folder, "blocks.csv")
+    for name in ("blocks.csv", "positions.csv"):
+        if (folder / name).exists():
+            pages[name] = _fetch(folder, name)
     return pages
 
 
@@ -163,9 +166,15 @@ def problems(path: StrPath) -> list[Problem]:
 
 
 def examine(path: StrPath) -> tuple[Folder, list[Problem]]:
-    """The market files of a folder, without blocks.csv, and their problems, with which the rows aren't whole."""
+    """A folder and the problems of its market files, with which the rows aren't whole."""
     folder = Folder("")
     return folder, [refused.problem for refused in _read_into(folder, read_pages(path))]
+
+
+def more_problems(path: StrPath) -> list[Problem]:
+    """What is wrong with blocks.csv, for any quarter hours, or else with positions.csv, in an accepted folder."""
+    folder, pages = Folder(""), read_pages(path)
+    return [refused.problem for read in (_read_into, _read_more) for refused in read(folder, pages)]
 
 
 def _fetch(folder: Path, name: str) -> bytes:
@@ -214,6 +223,18 @@ def _read_into(folder: Folder, pages: Mapping[str, bytes]) -> Iterator[MariRefus
             yield refused
         if refused_some:
             return
+
+
+def _read_more(folder: Folder, pages: Mapping[str, bytes]) -> Iterator[MariRefused]:
+    """Fills a folder from the pages that no command but `blocks` reads, and yields their refusals."""
+    if "blocks.csv" in pages:
+        folder.blocks = []
+        blocks: Any = folder.blocks.append
+        yield from read_rows(pages["blocks.csv"], BlockReader(folder.bids, folder.links), blocks)
+    if "positions.csv" in pages:
+        folder.positions = []
+        positions: Any = folder.positions.append
+        yield from read_rows(pages["positions.csv"], PositionReader(folder.zones), positions)
 
 
 def _demand_fields(demand: Demand) -> tuple[object, ...]:

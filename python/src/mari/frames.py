@@ -3,7 +3,9 @@
 from __future__ import annotations
 
 from collections.abc import Mapping
+from contextlib import suppress
 from decimal import Decimal
+from math import isfinite
 from typing import TYPE_CHECKING, Any
 
 from mari.checks import refusal
@@ -20,6 +22,7 @@ except ImportError as error:
     raise ImportError("frames need pandas: pip install mari[pandas]") from error
 
 _PRICES = ("price", "reference")
+_DECIMALS = ("x", "y")
 _WHOLE = ("quarter", "least", "greatest", "run", "mw", "limit", "back")
 
 
@@ -79,6 +82,12 @@ def _field(file: str, line: int, column: str, value: Any) -> object:
         except (ValueError, ArithmeticError, TypeError):
             reason = "isn't a price in whole cents"
             raise refusal(file, line, check, column, str(value), reason, "round it") from None
+    if column in _DECIMALS:
+        with suppress(ValueError, TypeError):
+            number = float(value)
+            if isfinite(number):
+                return number
+        raise refusal(file, line, check, column, str(value), "isn't a number")
     if column in _WHOLE:
         try:
             whole = int(value)

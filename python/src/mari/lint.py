@@ -11,7 +11,7 @@ from statistics import median
 from typing import NamedTuple
 
 from mari.availability import Offers
-from mari.folder import Folder, examine
+from mari.folder import Folder, examine, more_problems
 from mari.rows import FILES, Bid
 
 
@@ -31,6 +31,7 @@ def lint(path: str | PathLike[str]) -> list[Finding]:
     """What stands out in a folder. Where it is refused, all problems of the refused file come in place of the rest."""
     found = [*_forms(Path(path))]
     folder, bad = examine(path)
+    bad = bad or more_problems(path)
     if bad:
         return found + [Finding(one.file, one.line, "refused: " + str(one).partition(": ")[2]) for one in bad]
     return found + [*findings(folder)]

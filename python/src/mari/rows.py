@@ -101,6 +101,14 @@ class Block(NamedTuple):
     bid: str
 
 
+class Position(NamedTuple):
+    """Where a zone stands on a map: `x` to the east and `y` to the north. Read by the page of a day alone."""
+
+    zone: str
+    x: float
+    y: float
+
+
 ROWS: dict[str, type[tuple[object, ...]]] = {
     "zones.csv": Zone,
     "borders.csv": Border,
@@ -110,6 +118,7 @@ ROWS: dict[str, type[tuple[object, ...]]] = {
     "demands.csv": Demand,
     "limits.csv": Limit,
     "blocks.csv": Block,
+    "positions.csv": Position,
 }
 
 HEADERS: dict[str, str] = {
@@ -122,6 +131,7 @@ HEADERS: dict[str, str] = {
     "demands.csv": "run,zone,mw,price",
     "limits.csv": "run,from,to,limit,back",
     "blocks.csv": "block,bid",
+    "positions.csv": "zone,x,y",
 }
 
 BARE_BORDERS = "from,to"

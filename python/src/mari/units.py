@@ -39,6 +39,7 @@ MOST_FILE_BYTES = 268_435_456
 _NAME = re.compile(r"[A-Za-z0-9_-]{1,16}")
 _WHOLE = re.compile(r"(-?)0*([0-9]+)")
 _PRICE = re.compile(r"-?[0-9]+(?:\.[0-9]{1,2})?")
+_DECIMAL = re.compile(r"-?[0-9]{1,15}(?:\.[0-9]{1,15})?")
 _BEYOND = 10**18
 
 
@@ -61,6 +62,11 @@ def read_whole(text: str) -> int | None:
 def read_price(text: str) -> Decimal | None:
     """The price that a text writes, in euro per MWh: a minus or none, digits, at most two decimals."""
     return Decimal(text) if _PRICE.fullmatch(text) else None
+
+
+def read_decimal(text: str) -> float | None:
+    """The number that a text writes: a minus or none, digits, and decimals or none."""
+    return float(text) if _DECIMAL.fullmatch(text) else None
 
 
 def price_of(value: Decimal | int | float | str) -> Decimal:

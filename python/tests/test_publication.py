@@ -17,6 +17,10 @@ EXAMPLES = Path(__file__).resolve().parents[2] / "examples"
 TEXT = (EXAMPLES / "two-zones" / "publication.txt").read_text()
 
 
+FOUND_AT = {10: 12}
+"""Where a fault is found that isn't found in its own line: the tree of line 10 lacks its second item in line 12."""
+
+
 def feed_item(item):
     """An item of a certificate as the feed has it."""
     prices = [cents(price) for price in item.prices]
@@ -53,7 +57,9 @@ class TestPublication(unittest.TestCase):
         for line, changed in damage.items():
             with self.subTest(line=line):
                 text = "".join([*lines[: line - 1], changed, *lines[line:]])
-                self.assertRaises(MariText, Publication.of_text, text)
+                with self.assertRaises(MariText) as caught:
+                    Publication.of_text(text)
+                self.assertEqual(caught.exception.line, FOUND_AT.get(line, line))
         for text in ("", TEXT[:-1], "".join(lines[:-1]), TEXT + "done 1 0\n", TEXT.replace("done 1 0", "done 2 0")):
             self.assertRaises(MariText, Publication.of_text, text)
 

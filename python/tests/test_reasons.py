@@ -109,6 +109,14 @@ class TestReasons(Agreement):
         self.assertEqual((row.unserved, row.asked), (10, 50))
         self.assertTrue(any(line.startswith("UNSERVED: 10 MW") for line in day.summary()))
 
+    def test_a_publication_that_is_not_consistent(self):
+        """Reasons are given of a text that `check` would find invalid too."""
+        day = Day.read(EXAMPLES / "two-zones")
+        day.publication.blocks[0].bids = [mari.Activation("a1", 0), mari.Activation("b1", 0)]
+        zones = day.publication.blocks[0].zones
+        day.publication.blocks[0].zones = [row._replace(price=Decimal(99)) for row in zones]
+        self.assertEqual([why.rule for why in day.reasons()], ["none", "none"])
+
     def test_links_of_a_day(self):
         day = mari.clear(Folder.read(EXAMPLES / "linked-day"))
         rules = {(why.bid, why.rule, why.by) for why in day.reasons() if why.state is State.WITHHELD}

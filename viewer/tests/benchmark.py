@@ -20,8 +20,8 @@ from great_day import make
 def measure_show(folder, page):
     """Prints what `show` takes, and writes the page."""
     start = time.monotonic()
-    with open(os.path.join(folder, "feed.jsonl"), "rb") as feed, open(page, "wb") as text:
-        subprocess.run([sys.executable, os.path.join(VIEWER, "show"), folder], stdin=feed, stdout=text, check=True)
+    with open(page, "wb") as text:
+        subprocess.run([sys.executable, os.path.join(VIEWER, "show"), folder], stdout=text, check=True)
     memory = resource.getrusage(resource.RUSAGE_CHILDREN).ru_maxrss // 1024
     print(f"show: {time.monotonic() - start:.1f} s, {memory} MB; the page has {os.path.getsize(page) / 1e6:.1f} MB")
 

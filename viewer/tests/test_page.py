@@ -1,18 +1,18 @@
 """What a person sees of a page in chromium, opened from a file."""
-import json
 import os
 import re
 import subprocess
+import time
 import unittest
 
 from browser import Browser
-from days import Days, TOP, change, changed, PROGRAM
-from hostile_day import NAMES, rename_market, renamed_lines
+from days import Days, TOP, change, PROGRAM
+from hostile_day import NAMES, renamed
 from pictures import take_pictures
 
-from making.day_parts import Day
-from making.market_files import MarketFiles
+from making.day_parts import DayParts
 from making.page import D3, Page
+from mari import Day
 
 from selenium.webdriver.common.keys import Keys
 
@@ -31,7 +31,7 @@ class PageTest(unittest.TestCase):
 
     def cells(self, selector):
         return [[cell.text for cell in row.find_elements("css selector", "td")]
-                for row in self.browser.all(f"{selector} tbody tr")]
+                for row in self.browser.all(f"{selector} tbody tr:not(.below)")]
 
     def figures(self):
         words = self.browser.text("#figures").split("\n")
@@ -54,8 +54,9 @@ class Reading(PageTest):
         self.assertEqual(prices, ["20.00", "60.00"])
         self.key(Keys.ARROW_DOWN)
         self.assertEqual(self.figures()["Price in B"], "60.00 EUR/MWh")
-        self.assertEqual(self.cells("#merit-order")[0][:7],
-                         ["b1", "P2", "up", "60.00", "100", "30", "450.0000"])
+        self.assertEqual(self.cells("#merit-order")[0][:8],
+                         ["b1", "P2", "activated in part", "up", "60.00", "100", "30", "450.0000"])
+        self.assertEqual(self.browser.text("#merit-order tr.below"), "30 of 100 MW at 60.00, so P2 gets 450.0000 euro")
         self.assertIn("Demand 80 MW, served 80 MW = up 30 \u2212 down 0 + net import 50 MW",
                       self.browser.text("#merit-order .balance"))
 
@@ -68,10 +69,13 @@ class Reading(PageTest):
 
     def test_unpublished_runs(self):
         self.show("fair", "#run=2&zone=AT")
-        self.assertEqual(self.browser.text("#count"), "14 published, 2 unpublished")
+        self.assertEqual(self.browser.text("#count"), "14 published, 2 unpublished, 1 with demand unserved")
         self.assertEqual(self.figures()["Run"], "unpublished after 59 nodes")
         self.assertIn("Run 2 is unpublished", self.browser.text("#certificate"))
         self.assertEqual(len(self.browser.all("rect.unpublished")), 2)
+        states = [row[2] for row in self.cells("#merit-order")]
+        self.assertIn("run not published", states)
+        self.assertGreater(len(self.browser.all("#merit-order path.block")), 0)
 
     def test_a_rejected_bid_leads_to_its_zone(self):
         self.show("fair", "#run=14&zone=PT")
@@ -81,24 +85,26 @@ class Reading(PageTest):
         bid.click()
         self.assertIn(f"Price in {zone}", self.figures())
 
-    def test_bids_are_paid_what_the_ledger_says(self):
+    def test_unserved_demand(self):
+        """10 of 50 MW at any price aren't met, though an indivisible bid of 20 MW stands by."""
+        self.show("paradox-bid")
+        self.assertEqual(self.figures()["Unserved at the cap"], "10 MW, inelastic")
+        self.assertEqual(len(self.browser.all("#figures .alarm")), 1)
+        self.assertEqual(self.browser.text("#count"), "1 published, 1 with demand unserved")
+        self.assertEqual(len(self.browser.all("#day-chart .lack")), 1)
+        self.show("two-zones")
+        self.assertEqual(self.figures()["Unserved at the cap"], "0 MW, inelastic")
+        self.assertEqual(len(self.browser.all("#figures .alarm")), 0)
+
+    def test_the_trees_fit_the_gated_bids(self):
         self.show("fair")
         wrong = self.browser.driver.execute_async_script("""
           const done = arguments[arguments.length - 1];
           (async () => {
-            const day = parts_module.summary();
             const wrong = [];
-            for (const { run } of day.runs) {
-              const view = await run_module.runView(day, run);
-              if (!view.run) continue;
-              const paid = new Map();
-              for (const bid of view.bids) {
-                paid.set(bid.provider, (paid.get(bid.provider) || 0n) + bid.amount);
-              }
-              view.run.providers.name.forEach((name, at) => {
-                if (paid.get(name) !== BigInt(view.run.providers.amount[at])) wrong.push([run, name]);
-              });
-              if (!view.nodes) wrong.push([run, "tree"]);
+            for (const { run } of parts_module.summary().runs) {
+              const view = await run_module.runView(parts_module.summary(), run);
+              if (view.run && !view.nodes) wrong.push(run);
             }
             return wrong;
           })().then(done, (fault) => done(String(fault)));""")
@@ -128,36 +134,131 @@ class Causes(PageTest):
         change(folder, "demands.csv", "1,B,80,", f"1,B,{demand},")
         with open(os.path.join(folder, "publication.txt"), "wb") as publication:
             subprocess.run([PROGRAM, "clear", folder], stdout=publication, check=True)
-        feed = subprocess.run([PROGRAM, "feed", folder], stdout=subprocess.PIPE, check=True).stdout
-        self.browser.open(self.days.page(folder, feed)[0])
-        return next(line.text for line in self.browser.all("#rejected li") if line.text.startswith("b2 "))
+        self.browser.open(self.days.page(folder)[0])
+        said = next(line.text for line in self.browser.all("#rejected li") if line.text.startswith("b2 "))
+        [why] = [why.text for why in Day.read(folder).reasons() if why.bid == "b2"]
+        self.assertTrue(said.endswith(why), (said, why))
+        return said
 
     def test_no_consistent_prices(self):
         self.assertEqual(
             self.reason({"b2": "45.00,30,30"}, [], 60),
-            "b2 of P3 offers 30 MW or nothing, up, at 45.00 EUR/MWh. At B\u2019s price of 60.00 EUR/MWh it would gain "
-            "15.00 EUR/MWh, 112.5000 EUR over the quarter hour. With it, and every other gated bid as it is, there are "
-            "no consistent prices: the price can\u2019t fall from B to A, but orders need a higher one in B than "
-            "others allow in A.")
+            "b2 of P3, up at 45.00: at the price 60.00 of B it would gain 15.00 euro per MWh, 112.5000 euro in all, but "
+            "it runs 30 MW at least or not at all. With it, and every other gated bid as it is, there are no consistent "
+            "prices: the price can't fall from B to A, but orders need a higher one in B than others allow in A (the "
+            "certificate's conflict).")
 
     def test_no_greater_welfare(self):
         bids = {"b2": "59.00,30,30", "b3": "70.00,5,5"}
-        self.assertTrue(self.reason(bids, [], 60).endswith(
-            "With it there is no greater welfare: a bound of the certificate shows it."))
+        self.assertIn("there is no greater welfare (the certificate's bound).", self.reason(bids, [], 60))
 
     def test_no_balance(self):
-        self.assertTrue(self.reason({"b2": "45.00,200,200"}, [], 60).endswith(
-            "With it there is no balance: A, B couldn\u2019t send out what they would have too much."))
+        self.assertIn("there is no balance: A, B couldn't send out what they would have too much",
+                      self.reason({"b2": "45.00,200,200"}, [], 60))
 
     def test_its_group(self):
         bids = {"b3": "45.00,0,100", "b2": "46.00,0,100"}
         self.assertTrue(self.reason(bids, ["group,g,b3", "group,g,b2"], 170).endswith(
-            "Of its group g at most one bid runs, and b3 does."))
+            "but of its group g at most one bid runs, and b3 does"))
 
     def test_its_parent(self):
         bids = {"b3": "500.00,0,10", "b2": "45.00,0,100"}
         self.assertTrue(self.reason(bids, ["child,b2,b3"], 80).endswith(
-            "It runs only where its parent b3 does, which isn\u2019t activated."))
+            "but it runs only where its parent b3 does, which isn't activated"))
+
+
+class Finding(PageTest):
+    def look(self, text):
+        """The rows that are found for a text."""
+        box = self.browser.one("#find input")
+        box.clear()
+        box.send_keys(text + Keys.ENTER)
+        self.browser.settled("#found .reading", "looking")
+        return self.cells("#found")
+
+    def test_a_bid_that_was_withheld(self):
+        self.show("linked-day")
+        self.assertEqual([row[:3] for row in self.look("w")], [["w", "P", "3"]])
+        self.assertEqual(self.browser.text("#found tr.below"),
+                         "y was activated in a direct run, which bars it (technical)")
+        self.browser.one("#found tbody tr").click()
+        self.browser.drawn(3)
+
+    def test_a_provider(self):
+        self.show("linked-day")
+        rows = self.look("Q")
+        self.assertEqual([row[0] for row in rows], ["u"])
+        self.assertIn("Q: 1 rows, paid 175.0000 EUR", self.browser.text("#found .reading"))
+
+    def test_a_part_of_a_name_and_none(self):
+        self.show("eight-zones")
+        self.assertGreater(len(self.look("u")), 1)
+        self.assertEqual(self.look("nobody"), [])
+        self.assertIn("no bid or provider is called nobody", self.browser.text("#found .reading"))
+
+
+class Saving(PageTest):
+    def test_csv_of_the_prices_and_of_a_table(self):
+        folder = self.days.empty()
+        self.show("two-zones")
+        self.browser.command("Browser.setDownloadBehavior", behavior="allow", downloadPath=folder)
+        self.browser.one("#day-chart .csv").click()
+        self.assertEqual(self.saved(folder, "prices.csv"), "run,quarter,time,kind,zone,price\n"
+                         "1,1,00:00,scheduled,A,20.00\n1,1,00:00,scheduled,B,60.00\n")
+        self.browser.one("#ledger .operators .csv").click()
+        self.assertEqual(self.saved(folder, "operators.csv"), "Operator,Pays EUR,Part of rents EUR,Net EUR\n"
+                         "TA,-250.0000,250.0000,-500.0000\nTB,750.0000,250.0000,500.0000\n")
+
+    def saved(self, folder, name):
+        path = os.path.join(folder, name)
+        for _ in range(500):
+            if os.path.exists(path) and os.path.getsize(path):
+                break
+            time.sleep(0.02)
+        with open(path, encoding="utf-8", newline="") as file:
+            return file.read()
+
+
+class Drawing(PageTest):
+    def width(self, selector):
+        return self.browser.run("return document.querySelector(arguments[0]).getBBox().width", selector)
+
+    def test_runs_of_one_quarter_hour_are_as_wide_as_it(self):
+        """One quarter hour with a scheduled and a direct run: both fill the picture, and the direct one stands on top."""
+        self.show("direct-run")
+        lines = [self.width(f"#day-chart .chosen path.{kind}") for kind in ("scheduled", "direct")]
+        bars = [self.width(f"#day-chart .bars.up.{kind}") for kind in ("scheduled", "direct")]
+        frame = self.browser.run("return document.querySelector('#day-chart svg').viewBox.baseVal.width") - 94
+        for wide in (*lines, *bars):
+            self.assertAlmostEqual(wide, frame, delta=2)
+        top, bottom = [self.browser.run("const box = document.querySelector(arguments[0]).getBBox();"
+                                        "return [box.y, box.y + box.height]", f"#day-chart .bars.up.{kind}")
+                       for kind in ("direct", "scheduled")]
+        self.assertAlmostEqual(top[1], bottom[0], delta=0.2)
+
+    def test_positions_of_zones(self):
+        """North is up and east to the right."""
+        folder = self.days.day("eight-zones")
+        spots = {"NO": (10, 60), "SE": (16, 61), "DK": (10, 56), "DE": (10, 51), "PL": (19, 52), "CZ": (15, 50),
+                 "AT": (14, 47.5), "CH": (8, 47)}
+        with open(os.path.join(folder, "positions.csv"), "w", encoding="ascii") as page:
+            page.write("".join(["zone,x,y\n", *(f"{zone},{x},{y}\n" for zone, (x, y) in spots.items())]))
+        self.browser.open(self.days.page(folder)[0])
+        drawn = {zone.text.split("\n")[0]: zone.location for zone in self.browser.all(".zones g")}
+        self.assertEqual(sorted(drawn, key=lambda zone: -drawn[zone]["y"]), sorted(spots, key=lambda zone: spots[zone][1]))
+        self.assertEqual(max(drawn, key=lambda zone: drawn[zone]["x"]), "PL")
+
+    def test_a_narrow_page(self):
+        """Nothing reaches beyond it but what scrolls within its own box."""
+        self.browser.command("Emulation.setDeviceMetricsOverride", width=500, height=800, deviceScaleFactor=1,
+                             mobile=False)
+        self.addCleanup(self.browser.command, "Emulation.setDeviceMetricsOverride", width=1280, height=800,
+                        deviceScaleFactor=1, mobile=False)
+        self.show("fair", "#run=14&zone=PT")
+        self.assertEqual(self.browser.run("""
+          return [...document.querySelectorAll("section, dl, .rows, svg, h2, .legend, .pair > div")].filter((part) =>
+            part.getBoundingClientRect().right > 500).map((part) => part.className || part.id)"""), [])
+        self.assertEqual(self.browser.run("return document.documentElement.scrollWidth"), 500)
 
 
 class Picking(PageTest):
@@ -182,7 +283,7 @@ class Picking(PageTest):
                 + "#day-chart .bars.money.direct"))[0].ownerSVGElement.getBoundingClientRect();
               const slots = strokes_module.slotsOf(parts_module.summary().runs);
               const slot = slots[arguments[0] - 1];
-              const left = 74, right = at.width - 14;
+              const left = 74, right = at.width - 20;
               return [at.left + left + (slot.start + slot.end) / 2 / 12 * (right - left),
                 at.top + 60];""", number)
             for kind in ("mousePressed", "mouseReleased"):
@@ -224,16 +325,16 @@ class Picking(PageTest):
 
 class Harm(PageTest):
     def show_hostile(self):
-        """Opens the page of a day with hostile names, which is made past the check of the feed."""
-        folder, feed = self.days.day("two-zones")
-        rename_market(folder)
+        """Opens the page of a day with hostile names, which is made past the check of files and text."""
+        folder = self.days.day("two-zones")
+        found = Day.read(folder)
         path = os.path.join(folder, "day.html")
         with open(D3, encoding="utf-8") as d3, open(path, "w", encoding="utf-8", newline="\n") as text:
-            page, day = Page(text.write, d3.read()), Day(MarketFiles(folder))
+            page, day = Page(text.write, d3.read()), DayParts(renamed(found.folder))
             page.start()
-            for kind, value in zip(("head", "published", "totals"), renamed_lines(feed)):
-                for part in day.take(kind, value):
-                    page.part(*part)
+            for part in (found.publication, *found.publication.blocks, found.publication):
+                for name, value in day.take(renamed(part)):
+                    page.part(name, value)
             page.end(day.summary())
         self.browser.open(path)
 
@@ -251,35 +352,36 @@ class Harm(PageTest):
         self.assertEqual(self.browser.run("return new URLSearchParams(location.hash.slice(1)).get('zone')"), NAMES["B"])
         self.assertEqual(self.cells("#merit-order")[0][0], "constructor")
 
-    def test_a_hostile_feed_is_refused(self):
-        folder, feed = self.days.day("two-zones")
-        rename_market(folder)
-        hostile = "".join(json.dumps(line) + "\n" for line in renamed_lines(feed)).encode()
-        path, code, _ = self.days.page(folder, hostile)
+    def test_a_hostile_publication_is_refused(self):
+        folder = self.days.day("two-zones")
+        change(folder, "publication.txt", "bid a1 50", f"bid {NAMES['B'].replace(' ', '')} 50")
+        path, code, _ = self.days.page(folder)
         self.browser.open(path, wait=False)
         self.assertEqual(code, 3)
-        self.assertEqual(self.browser.text("#fault"), "The day is damaged. feed, line 2: its bids isn't one of a feed.")
+        self.assertEqual(self.browser.text("#fault"),
+                         "The day is damaged. publication.txt line 7: names a bid by what is no name.")
         self.assertIsNone(self.browser.run("return window.hit || null"))
 
     def test_damage_is_said_and_the_rest_shown(self):
-        folder, feed = self.days.day("fair")
-        path, code, _ = self.days.page(folder, changed(feed, b'"run":6', b'"run":"<b>6"'))
+        folder = self.days.day("fair")
+        change(folder, "publication.txt", "\nend 6\n", "\nend <b>6\n")
+        path, code, _ = self.days.page(folder)
         self.browser.open(path)
         self.assertEqual(code, 3)
-        self.assertEqual(self.browser.text("#fault"), "The day is damaged. feed, line 7: its run isn't one of a feed. "
-                         "The 5 of 16 runs before it are shown.")
+        self.assertRegex(self.browser.text("#fault"), r"The day is damaged\. publication\.txt line [0-9]+: '<b>6' isn't a "
+                         r"whole number\. The 5 of 16 runs before it are shown\.")
         self.assertEqual(self.browser.text("#of"), "of 5")
 
     def test_a_page_without_a_day(self):
-        folder, feed = self.days.day("fair")
+        folder = self.days.day("fair")
         os.remove(os.path.join(folder, "zones.csv"))
-        path, _, _ = self.days.page(folder, feed)
+        path, _, _ = self.days.page(folder)
         self.browser.open(path, wait=False)
-        self.assertEqual(self.browser.text("#fault"), "The day is damaged. zones.csv: the folder hasn't this file.")
+        self.assertIn("The day is damaged. zones.csv is missing", self.browser.text("#fault"))
         self.assertFalse(self.browser.one("main").is_displayed())
 
     def test_a_page_that_was_cut(self):
-        path, _, _ = self.days.page(*self.days.day("fair"))
+        path, _, _ = self.days.page(self.days.day("fair"))
         with open(path, encoding="utf-8", newline="") as page:
             text = page.read()
         with open(path, "w", encoding="utf-8", newline="") as page:

@@ -50,6 +50,7 @@ class Offers:
                 self.parent_of[link.first] = link.second
             else:
                 getattr(self, link.kind)[link.first].append(link.second)
+        self.held = {*self.group_of, *self.parent_of, *self.needs, *self.bars, *self.technical}
         linked = {*self.group_of, *self.parent_of, *self.parent_of.values()}
         self.gated = {bid.id for bid in folder.bids if bid.least > 0 or bid.id in linked}
 
@@ -89,7 +90,10 @@ class Taken:
         """Why a bid of the run's quarter hour isn't offered to it, or None where it is."""
         if run.kind == "direct" and bid.kind != "both":
             return Withheld("kind", (), "it is for scheduled runs alone, and this run is direct")
-        return self._used(bid) or self._by_group(bid) or self._by_links(bid) or self._by_parent(run, bid)
+        used = self._used(bid) if bid.id in self.mw else None
+        if used or bid.id not in self.offers.held:
+            return used
+        return self._by_group(bid) or self._by_links(bid) or self._by_parent(run, bid)
 
     def _used(self, bid: Bid) -> Withheld | None:
         mw = self.mw.get(bid.id, 0)

@@ -124,12 +124,14 @@ class Folder:
         """The day's clock: how many quarter hours it has, and when each begins."""
         return DayClock.of(self.date, self.rule)
 
-    def limits_of(self, run: int) -> list[tuple[int, int]]:
-        """The limits of each border in a run, there and back in MW, as the files state them."""
+    def limits_by_run(self) -> dict[int, list[tuple[int, int]]]:
+        """Of each run the limits of each border, there and back in MW, as the files state them."""
         if self.limits is None:
-            return [(border.limit or 0, border.back or 0) for border in self.borders]
-        stated = {(row.from_zone, row.to_zone): (row.limit, row.back) for row in self.limits if row.run == run}
-        return [stated.get((border.from_zone, border.to_zone), (0, 0)) for border in self.borders]
+            every = [(border.limit or 0, border.back or 0) for border in self.borders]
+            return {run.run: every for run in self.runs}
+        stated = {(row.run, row.from_zone, row.to_zone): (row.limit, row.back) for row in self.limits}
+        borders = [(border.from_zone, border.to_zone) for border in self.borders]
+        return {run.run: [stated.get((run.run, *pair), (0, 0)) for pair in borders] for run in self.runs}
 
     @classmethod
     def from_frames(cls, date: str, frames: Mapping[str, pd.DataFrame], rule: str = CENTRAL_EUROPE) -> Folder:

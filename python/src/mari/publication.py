@@ -14,7 +14,7 @@ from os import PathLike
 from pathlib import Path
 from typing import NamedTuple, TextIO, TypeVar
 
-from mari.errors import MariMissing, MariText, MariUnreadable
+from mari.errors import MariMissing, MariText, MariUnreadable, shown
 from mari.units import euros, is_name
 
 Row = TypeVar("Row")
@@ -163,10 +163,7 @@ class Publication:
     @classmethod
     def read(cls, path: str | PathLike[str]) -> Publication:
         """The publication of a file, or of a folder's publication.txt."""
-        place = Path(path)
-        if place.is_dir():
-            place = place / "publication.txt"
-        with open_text(place) as lines:
+        with open_text(path) as lines:
             return cls.of_lines(lines)
 
     @classmethod
@@ -197,8 +194,11 @@ class Publication:
         return sum((block.welfare for block in self.blocks), Decimal(0))
 
 
-def open_text(path: Path) -> TextIO:
-    """Opens a printed text for reading; bytes that are no ASCII become marks that no form has."""
+def open_text(folder: str | PathLike[str]) -> TextIO:
+    """Opens a file, or a folder's publication.txt, for reading; bytes that are no ASCII become marks of no form."""
+    path = Path(folder)
+    if path.is_dir():
+        path = path / "publication.txt"
     try:
         return path.open(encoding="ascii", errors="replace", newline="\n")
     except (FileNotFoundError, NotADirectoryError):
@@ -302,11 +302,11 @@ _BRANCH = Item("branch")
 
 
 class _Reader:
-    """Reads a text line by line; `number` is that of the line in hand."""
+    """Reads a text line by line; `number` is that of the line in hand, and `read` that of the line whose words are read."""
 
     def __init__(self, lines: Iterable[str]) -> None:
         self.lines = iter(lines)
-        self.number = 0
+        self.number = self.read = 0
         self.words: list[str] = []
         self.step()
 
@@ -322,6 +322,7 @@ class _Reader:
             self.words = line[:-1].split(" ")
 
     def fault(self, reason: str) -> MariText:
+        """Of the line in hand."""
         return MariText(self.number, reason)
 
     def is_at(self, word: str) -> bool:
@@ -329,23 +330,24 @@ class _Reader:
 
     def whole(self, text: str) -> int:
         if not _WHOLE.fullmatch(text):
-            raise self.fault(f"{text!r} isn't a whole number")
+            raise MariText(self.read, f"{shown(text)} isn't a whole number")
         return int(text)
 
     def price(self, text: str) -> Decimal:
         if not _PRICE.fullmatch(text):
-            raise self.fault(f"{text!r} isn't a price")
+            raise MariText(self.read, f"{shown(text)} isn't a price")
         return Decimal(text)
 
     def money(self, text: str) -> Decimal:
         if not _MONEY.fullmatch(text):
-            raise self.fault(f"{text!r} isn't money")
+            raise MariText(self.read, f"{shown(text)} isn't money")
         return Decimal(text)
 
     def many(self, word: str, read: Callable[[list[str]], Row]) -> list[Row]:
         """What is read of each line of a kind, as many as follow."""
         rows = []
         while self.is_at(word):
+            self.read = self.number
             if len(self.words) != _LENGTHS[word]:
                 raise self.fault(f"a line of {word} has {_LENGTHS[word]} words")
             if word != "demand" and not (is_name(self.words[1]) and (word != "border" or is_name(self.words[2]))):
@@ -358,19 +360,19 @@ class _Reader:
         """The words of a line that must come now."""
         if not self.is_at(word) or len(self.words) != length:
             raise self.fault(f"should be the line {word}" if self.words else "is missing: the text ends too early")
-        words = self.words
+        words, self.read = self.words, self.number
         self.step()
         return words
 
     def head(self) -> Publication:
         words = self.one("mari", 5)
         if words[1] != "1":
-            raise self.fault(f"form {words[1]} isn't known")
+            raise MariText(self.read, f"form {shown(words[1])} isn't known")
         return Publication(words[2], self.whole(words[3]), self.whole(words[4]))
 
     def blocks(self) -> Iterator[RunBlock]:
         while self.is_at("run"):
-            words = self.words
+            words, self.read = self.words, self.number
             if len(words) == 6 and words[4] == "unpublished":
                 yield RunBlock(self.whole(words[1]), self.whole(words[2]), words[3], self.whole(words[5]))
                 self.step()
@@ -388,7 +390,7 @@ class _Reader:
         block.tree = self.tree()
         block.operators, block.providers = self.ledger("")
         if self.whole(self.one("end", 2)[1]) != block.run:
-            raise self.fault("comes after the end of another run")
+            raise MariText(self.read, f"should be end {block.run}")
 
     def welfare(self) -> Decimal:
         return euros(self.whole(self.one("welfare", 2)[1]))
@@ -446,6 +448,6 @@ class _Reader:
         publication.operators, publication.providers = self.ledger("total-")
         words = self.one("done", 3)
         if [self.whole(word) for word in words[1:]] != [published, unpublished]:
-            raise MariText(self.number - 1, "counts other runs than there are")
+            raise MariText(self.read, "counts other runs than there are")
         if self.words:
             raise self.fault("comes after the end")

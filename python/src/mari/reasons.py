@@ -58,6 +58,7 @@ class Reason:
         return f"{run}: {self.bid} {self.state.value}: {self.text}"
 
 
+NO_RUN = "its quarter hour has no run in runs.csv"
 _SHOWN = {"bound": "no greater welfare", "conflict": "no consistent prices", "cut": "no balance"}
 """What each kind of leaf shows."""
 
@@ -75,8 +76,7 @@ def reasons(folder: Folder, publication: Publication) -> Iterator[Reason]:
     with_run = {run.quarter for run in folder.runs}
     for bid in folder.bids:
         if bid.quarter not in with_run:
-            text = "its quarter hour has no run in runs.csv"
-            yield Reason(0, bid.quarter, bid.id, State.NO_RUN, text, left=bid.greatest)
+            yield Reason(0, bid.quarter, bid.id, State.NO_RUN, NO_RUN, left=bid.greatest)
 
 
 class Reasons:
@@ -147,7 +147,7 @@ class _RunReasons:
 
     def _offered(self, bid: Bid) -> Reason:
         mw, left, price = self.mw[bid.id], self.taken.left(bid), self.prices[bid.zone]
-        margin = (price - bid.price) * bid.sign
+        margin = price - bid.price if bid.direction == "up" else bid.price - price
         if mw:
             return self._activated(bid, mw, left, price, margin)
         rule, by = "", tuple[str, ...]()
@@ -188,6 +188,8 @@ class _RunReasons:
         parent = self.offers.parent_of.get(bid.id)
         if parent is not None and not self.taken.is_activated(parent) and not self.mw.get(parent, 0):
             return "parent", (parent,), f"it runs only where its parent {parent} does, which isn't activated"
+        if bid.id not in self.offers.gated:
+            return "none", (), "nothing in the files keeps it out: check the publication"
         least = self.offers.least(bid)
         return "indivisible", (), f"it runs {least} MW at least or not at all. {self._shown(bid)}".rstrip()
 

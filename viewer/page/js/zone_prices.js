@@ -7,18 +7,22 @@ function rowHeight(zones) {
   return Math.max(2, Math.min(9, Math.floor(84 / zones)));
 }
 
-// A picture of one dot for each place across and each zone down.
+// A picture of one dot for each place across and two for each zone down: a scheduled run fills its quarter, and direct
+// runs after it the lower dots alone.
 function painted(slots, x, width, zones, colour) {
   const canvas = document.createElement("canvas");
-  [canvas.width, canvas.height] = [Math.max(1, Math.round(width)), zones];
+  [canvas.width, canvas.height] = [Math.max(1, Math.round(width)), 2 * zones];
   const pen = canvas.getContext("2d");
   const start = x.range()[0];
-  for (const { run, start: from, end: to } of slots) {
+  const scheduled = new Set(slots.filter(({ run }) => run.kind === "scheduled").map(({ run }) => run.quarter));
+  for (const { run, start: begins, end: ends } of slots) {
+    const below = run.kind === "direct" && scheduled.has(run.quarter);
+    const [from, to] = run.kind === "scheduled" ? [run.quarter - 1, run.quarter] : [begins, ends];
     const left = Math.round(Math.max(0, x(from) - start));
     const wide = Math.max(1, Math.round(Math.min(width, x(to) - start)) - left);
     run.price.forEach((cents, zone) => {
       pen.fillStyle = colour(cents);
-      pen.fillRect(left, zone, wide, 1);
+      pen.fillRect(left, 2 * zone + (below ? 1 : 0), wide, below ? 1 : 2);
     });
   }
   return canvas.toDataURL();

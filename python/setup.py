@@ -8,19 +8,22 @@ import platform
 import shutil
 from pathlib import Path
 
-from setuptools import setup
+from setuptools import Distribution, setup
 from setuptools.command.build_py import build_py
+from setuptools.command.sdist import sdist
 
 try:
     from setuptools.command.bdist_wheel import bdist_wheel
 except ImportError:
     from wheel.bdist_wheel import bdist_wheel
 
-RELEASE = Path(__file__).resolve().parent.parent / "release"
+HERE = Path(__file__).resolve().parent
+RELEASE = next((place for place in (HERE / "release", HERE.parent / "release") if place.is_dir()), HERE)
+"""The shipped program and its manifest: in a source distribution, or in the repository."""
 
 
 def shipped():
-    """Whether release/mari is there, for this kind of machine, and the program that the manifest names."""
+    """Whether the program is there, for this kind of machine, and the one that the manifest names."""
     program, manifest = RELEASE / "mari", RELEASE / "manifest"
     if not (program.is_file() and manifest.is_file()) or (platform.system(), platform.machine()) != ("Linux", "x86_64"):
         return False
@@ -41,17 +44,36 @@ class BuildWithProgram(build_py):
             place.chmod(0o755)
 
 
+class SourcesWithProgram(sdist):
+    """Takes the program and its manifest along, since a wheel is also made of the source distribution."""
+
+    def make_release_tree(self, base_dir, files):
+        """Makes the tree as always, and then copies."""
+        super().make_release_tree(base_dir, files)
+        if shipped():
+            place = Path(base_dir) / "release"
+            place.mkdir()
+            for name in ("mari", "manifest"):
+                shutil.copy(RELEASE / name, place / name)
+
+
+class OfMachine(Distribution):
+    """A wheel with a program is of one machine."""
+
+    def has_ext_modules(self):
+        """As one with a compiled module would be."""
+        return shipped() or super().has_ext_modules()
+
+
 class WheelOfMachine(bdist_wheel):
     """Names the machine and the C library that the program needs."""
-
-    def finalize_options(self):
-        """A wheel with a program is of one machine."""
-        super().finalize_options()
-        self.root_is_pure = not shipped()
 
     def get_tag(self):
         """Any Python 3, and Linux on x86-64 with glibc 2.34."""
         return ("py3", "none", "manylinux_2_34_x86_64") if shipped() else super().get_tag()
 
 
-setup(cmdclass={"build_py": BuildWithProgram, "bdist_wheel": WheelOfMachine})
+setup(
+    distclass=OfMachine,
+    cmdclass={"build_py": BuildWithProgram, "sdist": SourcesWithProgram, "bdist_wheel": WheelOfMachine},
+)

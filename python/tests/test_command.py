@@ -36,7 +36,7 @@ class TestUnserved(unittest.TestCase):
         folder.demands[0] = folder.demands[0]._replace(price=Decimal(99_999))
         self.assertEqual([row.unserved for row in mari.clear(folder).demands()], [2, 0, 4, 0])
         self.assertEqual(len(day.unserved()), 2)
-        self.assertIn("UNSERVED: 6 MW of 2 inelastic demands (sum over runs):", day.summary())
+        self.assertIn("UNSERVED at the cap: 6 MW of 2 inelastic demands (sum over runs):", day.summary())
 
 
 @needs_program
@@ -50,7 +50,7 @@ class TestCommand(unittest.TestCase):
     def test_summary(self):
         code, out, _ = said("summary", self.at("paradox-bid"))
         self.assertEqual(code, 1)
-        self.assertIn("UNSERVED: 10 MW of 1 inelastic demands", out)
+        self.assertIn("UNSERVED at the cap: 10 MW of 1 inelastic demands", out)
         self.assertEqual(said("summary", self.at("two-zones"))[0], 0)
 
     def test_explain(self):

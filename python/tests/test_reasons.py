@@ -107,7 +107,7 @@ class TestReasons(Agreement):
         self.assertIn("conflict", why.text)
         [row] = day.unserved()
         self.assertEqual((row.unserved, row.asked), (10, 50))
-        self.assertTrue(any(line.startswith("UNSERVED: 10 MW") for line in day.summary()))
+        self.assertTrue(any(line.startswith("UNSERVED at the cap: 10 MW") for line in day.summary()))
 
     def test_a_publication_that_is_not_consistent(self):
         """Reasons are given of a text that `check` would find invalid too."""

@@ -107,9 +107,9 @@ class DayParts:
         """The bids of quarter hours without a run, and why they aren't offered."""
         with_run = {run.quarter for run in self.folder.runs}
         bids = [bid for bid in self.folder.bids if bid.quarter not in with_run]
-        made = columns(bids, name=lambda bid: bid.id, provider=lambda bid: bid.provider, quarter=lambda bid: bid.quarter,
-                       zone=lambda bid: self.zone_at[bid.zone], up=lambda bid: int(bid.direction == "up"),
-                       price=lambda bid: cents(bid.price))
+        made = columns(bids, name=lambda bid: bid.id, provider=lambda bid: bid.provider,
+                       quarter=lambda bid: bid.quarter, zone=lambda bid: self.zone_at[bid.zone],
+                       up=lambda bid: int(bid.direction == "up"), price=lambda bid: cents(bid.price))
         return {**made, "why": NO_RUN}
 
     def _compare(self, block, demands):
@@ -137,7 +137,7 @@ class DayParts:
         return {**made, "links": {place: words for place, words in links.items() if words}}
 
     def _bids_part(self, reasons):
-        """The bids that the run is offered: their places in the quarter hour, what they run, what was left, their pay."""
+        """The bids that the run is offered: their places in the quarter hour, MW, what was left of them, their pay."""
         offered = [place for place, why in enumerate(reasons) if why.state is not State.WITHHELD]
         return {"place": offered, "mw": [reasons[place].mw for place in offered],
                 "left": [reasons[place].left for place in offered],

@@ -63,7 +63,8 @@ class Sound(FileTest):
 
     def test_money_is_text(self):
         _, found = self.made("fair")
-        rents = [rent for name, part in found.items() if name.startswith("run-") for rent in part["borders"].get("rent", [])]
+        runs = [part for name, part in found.items() if name.startswith("run-")]
+        rents = [rent for part in runs for rent in part["borders"].get("rent", [])]
         self.assertEqual({type(rent) for rent in rents}, {str})
 
     def test_the_words_are_those_of_explain(self):

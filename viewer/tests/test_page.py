@@ -143,9 +143,9 @@ class Causes(PageTest):
     def test_no_consistent_prices(self):
         self.assertEqual(
             self.reason({"b2": "45.00,30,30"}, [], 60),
-            "b2 of P3, up at 45.00: at the price 60.00 of B it would gain 15.00 euro per MWh, 112.5000 euro in all, but "
-            "it runs 30 MW at least or not at all. With it, and every other gated bid as it is, there are no consistent "
-            "prices: the price can't fall from B to A, but orders need a higher one in B than others allow in A (the "
+            "b2 of P3, up at 45.00: at the price 60.00 of B it would gain 15.00 euro per MWh, 112.5000 euro in all, "
+            "but it runs 30 MW at least or not at all. With it, and every other gated bid as it is, there are no "
+            "consistent prices: the price can't fall from B to A, but orders need a higher one in B than others allow in A (the "
             "certificate's conflict).")
 
     def test_no_greater_welfare(self):
@@ -224,7 +224,7 @@ class Drawing(PageTest):
         return self.browser.run("return document.querySelector(arguments[0]).getBBox().width", selector)
 
     def test_runs_of_one_quarter_hour_are_as_wide_as_it(self):
-        """One quarter hour with a scheduled and a direct run: both fill the picture, and the direct one stands on top."""
+        """A quarter hour with a scheduled and a direct run: both fill the picture, and the direct one stands on top."""
         self.show("direct-run")
         lines = [self.width(f"#day-chart .chosen path.{kind}") for kind in ("scheduled", "direct")]
         bars = [self.width(f"#day-chart .bars.up.{kind}") for kind in ("scheduled", "direct")]
@@ -245,7 +245,8 @@ class Drawing(PageTest):
             page.write("".join(["zone,x,y\n", *(f"{zone},{x},{y}\n" for zone, (x, y) in spots.items())]))
         self.browser.open(self.days.page(folder)[0])
         drawn = {zone.text.split("\n")[0]: zone.location for zone in self.browser.all(".zones g")}
-        self.assertEqual(sorted(drawn, key=lambda zone: -drawn[zone]["y"]), sorted(spots, key=lambda zone: spots[zone][1]))
+        self.assertEqual(sorted(drawn, key=lambda zone: -drawn[zone]["y"]),
+                         sorted(spots, key=lambda zone: spots[zone][1]))
         self.assertEqual(max(drawn, key=lambda zone: drawn[zone]["x"]), "PL")
 
     def test_a_narrow_page(self):
@@ -368,8 +369,8 @@ class Harm(PageTest):
         path, code, _ = self.days.page(folder)
         self.browser.open(path)
         self.assertEqual(code, 3)
-        self.assertRegex(self.browser.text("#fault"), r"The day is damaged\. publication\.txt line [0-9]+: '<b>6' isn't a "
-                         r"whole number\. The 5 of 16 runs before it are shown\.")
+        self.assertRegex(self.browser.text("#fault"), r"The day is damaged\. publication\.txt line [0-9]+: '<b>6' isn't "
+                         r"a whole number\. The 5 of 16 runs before it are shown\.")
         self.assertEqual(self.browser.text("#of"), "of 5")
 
     def test_a_page_without_a_day(self):

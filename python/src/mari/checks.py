@@ -91,7 +91,7 @@ def has_header(page: bytes, header: str) -> bool:
 
 
 def rows_of(file: str, page: bytes, header: str) -> tuple[Iterator[tuple[int, list[str]]], list[MariRefused]]:
-    """The records of a page with their lines, and what is wrong with each by itself; those with a fault are left out."""
+    """The records of a page with their lines, and what is wrong with each by itself; faulty ones are left out."""
     text, all_utf8 = decoded(page)
     columns = header.split(",")
     if next(records(text), None) != columns:

@@ -175,12 +175,13 @@ class Day:
     def summary(self) -> list[str]:
         """The day in a few lines, the demand that isn't served first."""
         unserved, unpublished = self.unserved(), self.publication.unpublished
-        lines = [f"{self.folder.date}: {len(self.folder.runs)} runs, {len(unpublished)} of them not published"]
+        runs = len(self.folder.runs)
+        lines = [f"{self.folder.date}: {runs - len(unpublished)} of {runs} runs published"]
         if unpublished:
             lines.append(f"NOT PUBLISHED: runs {_some(unpublished)}: clear with more nodes")
         if unserved:
             total = sum(row.unserved for row in unserved)
-            lines.append(f"UNSERVED: {total} MW of {len(unserved)} inelastic demands (sum over runs):")
+            lines.append(f"UNSERVED at the cap: {total} MW of {len(unserved)} inelastic demands (sum over runs):")
             lines += [
                 f"  run {row.run}, {row.time}, zone {row.zone}: {row.unserved} of {abs(row.asked)} MW, at {row.price}"
                 for row in unserved

@@ -13,9 +13,9 @@ from mari.units import MOST_BIDS, MOST_BORDERS, MOST_DEMANDS, MOST_GATES, MOST_Z
 
 
 def joint_problems(folder: Folder, page: bytes, first: int, last: int) -> Iterator[Problem]:
-    """What is wrong with the quarter hours from `first` to `last` and a page of blocks.csv, the program's refusal first.
+    """What is wrong with quarter hours and a page of blocks.csv, the program's refusal first.
 
-    Of a file with problems no later check is made.
+    Where a check finds something, no later one is made.
     """
     blocks: list[Block] = []
     reader = BlockReader(folder.bids, folder.links, first, last)
@@ -45,9 +45,10 @@ def _across(folder: Folder, first: int, last: int) -> Iterator[Problem]:
     quarter_of = {bid.id: bid.quarter for bid in folder.bids if first <= bid.quarter <= last}
     for line, link in enumerate(folder.links, start=2):
         if link.kind in ("needs", "bars", "technical") and {link.first, link.second} <= quarter_of.keys():
-            reason = f"is of quarter {quarter_of[link.second]} and {link.first} of {quarter_of[link.first]}, both within"
+            both = f"is of quarter {quarter_of[link.second]} and {link.first} of {quarter_of[link.first]}"
+            reason = f"{both}, within {first} to {last}"
             hint = "take the line out, or choose the quarter hours so that one of the two is outside"
-            yield _problem("links.csv", "AcrossQuarters", "second", link.second, f"{reason} {first} to {last}", hint, line)
+            yield _problem("links.csv", "AcrossQuarters", "second", link.second, reason, hint, line)
 
 
 def _too_large(folder: Folder, blocks: list[Block], runs: list[Run]) -> Iterator[Problem]:

@@ -156,7 +156,7 @@ class Program:
     def split(
         self, folder: StrPath | Folder, *, nodes: int | None = None, workers: int | None = None
     ) -> list[RunBlock]:
-        """The runs of a day, each cleared by its islands (`RunBlock.islands`): without money, as no ledger is printed."""
+        """The runs of a day, each cleared by its islands (`RunBlock.islands`): without money, as none is printed."""
         with _at(folder) as path:
             ended = self._call(path, "split", _word(path), *_options(nodes, workers), good=(0, 1))
         return read_split(ended.stdout.decode("ascii").splitlines(keepends=True))

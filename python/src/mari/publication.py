@@ -302,7 +302,7 @@ _BRANCH = Item("branch")
 
 
 class _Reader:
-    """Reads a text line by line; `number` is that of the line in hand, and `read` that of the line whose words are read."""
+    """Reads a text by lines; `number` is that of the line in hand, and `read` that of the line whose words are read."""
 
     def __init__(self, lines: Iterable[str]) -> None:
         self.lines = iter(lines)

@@ -202,7 +202,8 @@ class _RunReasons:
         if self.leaves is None or leaf is None:
             return ""
         counts = Counter(_SHOWN[one.kind] for one in self.leaves.with_open(self.gates.index(bid.id)) if one is not leaf)
-        text = f"With it, and every other gated bid as it is, there {self._leaf_text(leaf)} (the certificate's {leaf.kind})."
+        shown = f"{self._leaf_text(leaf)} (the certificate's {leaf.kind})"
+        text = f"With it, and every other gated bid as it is, there {shown}."
         if not counts:
             return text
         said = ", ".join(f"{shown} ({count})" for shown, count in counts.most_common())

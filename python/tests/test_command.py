@@ -71,6 +71,7 @@ class TestCommand(unittest.TestCase):
         self.assertEqual(code, 1)
         self.assertIn("NOT PUBLISHED: runs 1", out)
         self.assertIn("run not published", said("explain", folder)[1])
+        self.assertIn("1 of 1 runs published", said("summary", folder, "--nodes", "3")[1])
         runs = Path(folder, "runs.csv")
         runs.write_text(runs.read_text().replace("scheduled", "direct"))
         code, _, err = said("summary", folder)
@@ -147,6 +148,11 @@ class TestFrames(unittest.TestCase):
         folder = Folder.from_frames("2025-03-12", frames)
         folder.check()
         self.assertEqual([demand.price for demand in folder.demands], [None, Decimal("12.50")])
+        frames["zones"] = pd.DataFrame({"zone": ["A", None], "operator": "T"})
+        with self.assertRaises(mari.MariRefused) as empty:
+            Folder.from_frames("2025-03-12", frames)
+        self.assertEqual((empty.exception.file, empty.exception.line, empty.exception.field), ("zones.csv", 3, "zone"))
+        del frames["zones"]
         frames["demands"].loc[1, "mw"] = 5.5
         with self.assertRaises(mari.MariRefused) as caught:
             Folder.from_frames("2025-03-12", frames)

@@ -10,7 +10,7 @@ from pathlib import Path
 
 import mari
 import mari.availability
-from mari import Day, Folder, MariOtherFolder, Program, State
+from mari import Bid, Day, Folder, Link, MariOtherFolder, Program, Run, State, Zone
 
 from tests.days import random_folder
 from tests.program import PROGRAM, needs_program
@@ -122,6 +122,18 @@ class TestReasons(Agreement):
         rules = {(why.bid, why.rule, why.by) for why in day.reasons() if why.state is State.WITHHELD}
         self.assertIn(("w", "technical", ("y",)), rules)
         self.assertIn(("z", "bars", ("y",)), rules)
+
+    def test_a_long_chain_of_parents(self):
+        """512 bids, each the child of the one before; the first is for scheduled runs alone, and the run is direct."""
+        kinds = ["scheduled"] + ["both"] * 511
+        bids = [Bid(f"b{at}", "P", "A", 1, "up", Decimal(20), 0, 9, kind) for at, kind in enumerate(kinds)]
+        links = [Link("child", f"b{at}", f"b{at - 1}") for at in range(1, 512)]
+        run = Run(1, 1, "direct", Decimal(20))
+        day = mari.clear(Folder("2025-03-12", "UTC0", [Zone("A", "T")], bids=bids, links=links, runs=[run]))
+        found = [*day.reasons()]
+        self.assertEqual([why.rule for why in found], ["kind"] + ["parent"] * 511)
+        text = "it is for scheduled runs alone, and this run is direct"
+        self.assertEqual(found[511].text, f"its parent b510 isn't offered, since b0 above it isn't: {text}")
 
     def test_another_folder(self):
         day = mari.clear(Folder.read(EXAMPLES / "two-zones"))

@@ -49,19 +49,9 @@ def main(words: Sequence[str] | None = None) -> int:
     """
     options = parser().parse_args(words)
     try:
-        if options.command == "lint":
-            return _lint(options.folder)
-        if options.command == "order":
-            return _order(Path(options.folder), Path(options.new))
-        day = _day(options.folder, options.nodes)
-        if options.command == "explain":
-            return _explain(day, options.bid, options.all)
-        if options.command == "csv":
-            for path in day.to_csv(options.out):
-                print(path)
-            return 0
-        print("\n".join(day.summary()))
-        return 1 if day.unserved() or day.publication.unpublished else 0
+        code = _run(options)
+        sys.stdout.flush()
+        return code
     except MariError as error:
         print(f"mari: {error}", file=sys.stderr)
         return error.exit_code or 3
@@ -70,12 +60,33 @@ def main(words: Sequence[str] | None = None) -> int:
         return 5
 
 
+def _run(options: argparse.Namespace) -> int:
+    if options.command == "lint":
+        return _lint(options.folder)
+    if options.command == "order":
+        return _order(Path(options.folder), Path(options.new))
+    day = _day(options.folder, options.nodes)
+    if options.command == "explain":
+        return _explain(day, options.bid, options.all)
+    if options.command == "csv":
+        for path in day.to_csv(options.out):
+            print(path)
+        return 0
+    print("\n".join(day.summary()))
+    return 1 if day.unserved() or day.publication.unpublished else 0
+
+
 def _day(folder: str, nodes: int | None) -> Day:
-    """The day of a folder, which is cleared where it has no publication.txt. One that is there is checked."""
+    """The day of a folder, which is cleared where it has no publication.txt, or has one of another budget.
+
+    One that is there is checked.
+    """
     program = Program()
     if (Path(folder) / "publication.txt").exists():
         program.check(folder)
-        return Day.read(folder)
+        day = Day.read(folder)
+        if nodes in (None, day.publication.budget):
+            return day
     writable = os.access(folder, os.W_OK)
     return Day(Folder.read(folder), program.clear(folder, nodes=nodes, save=writable))
 

@@ -88,12 +88,16 @@ class Taken:
 
     def withheld(self, run: Run, bid: Bid) -> Withheld | None:
         """Why a bid of the run's quarter hour isn't offered to it, or None where it is."""
+        return self._by_itself(run, bid) or self._by_parent(run, bid)
+
+    def _by_itself(self, run: Run, bid: Bid) -> Withheld | None:
+        """Why it isn't, but for its parents."""
         if run.kind == "direct" and bid.kind != "both":
             return Withheld("kind", (), "it is for scheduled runs alone, and this run is direct")
         used = self._used(bid) if bid.id in self.mw else None
         if used or bid.id not in self.offers.held:
             return used
-        return self._by_group(bid) or self._by_links(bid) or self._by_parent(run, bid)
+        return self._by_group(bid) or self._by_links(bid)
 
     def _used(self, bid: Bid) -> Withheld | None:
         mw = self.mw.get(bid.id, 0)
@@ -126,11 +130,17 @@ class Taken:
         return None
 
     def _by_parent(self, run: Run, bid: Bid) -> Withheld | None:
+        """Where a parent isn't offered, or one above it, and none between ran before."""
+        above: list[str] = []
         parent = self.offers.parent_of.get(bid.id)
-        if parent is None or self.is_activated(parent):
-            return None
-        why = self.withheld(run, self.offers.bids[parent])
-        return why and Withheld("parent", (parent,), f"its parent {parent} isn't offered: {why.text}")
+        while parent is not None and not self.is_activated(parent):
+            above.append(parent)
+            why = self._by_itself(run, self.offers.bids[parent])
+            if why:
+                since = f", since {parent} above it isn't" if len(above) > 1 else ""
+                return Withheld("parent", (above[0],), f"its parent {above[0]} isn't offered{since}: {why.text}")
+            parent = self.offers.parent_of.get(parent)
+        return None
 
     def _activated(self, bids: tuple[str, ...]) -> str:
         return ", ".join(f"run {self.run_of[bid]} activated {bid}" for bid in bids)

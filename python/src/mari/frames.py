@@ -73,9 +73,11 @@ def _fields(file: str, line: int, columns: list[str], fields: tuple[Any, ...]) -
 
 
 def _field(file: str, line: int, column: str, value: Any) -> object:
-    check = {"borders.csv": "Range"}.get(file, "BadField")
+    check = {"borders.csv": "Range", "links.csv": "UnknownBid"}.get(file, "BadField")
+    if pd.isna(value) and not (file == "demands.csv" and column == "price"):
+        raise refusal(file, line, check, column, "", "is empty in the frame")
     if column in _PRICES:
-        if file == "demands.csv" and (value is None or value == "" or value != value):
+        if file == "demands.csv" and (pd.isna(value) or value == ""):
             return None
         try:
             return price_of(value)

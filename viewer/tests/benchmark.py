@@ -3,7 +3,7 @@
 
 BIDS are those of a quarter hour. It prints how long `show` takes and with what memory, how large the page is, and how
 long chromium takes to draw it, to draw other runs, and with what memory. It is run by hand, on a machine that does
-nothing else. What it is to keep: 20 s for `show`, and 2 s and 250 MB for the browser.
+nothing else. README.md has what was measured.
 """
 import os
 import resource

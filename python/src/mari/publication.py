@@ -271,6 +271,7 @@ def read_joint(lines: Iterable[str]) -> tuple[int | None, Decimal, list[RunBlock
 
 _PRICE = re.compile(r"(?!-0\.00)-?(?:0|[1-9][0-9]*)\.[0-9]{2}")
 _MONEY = re.compile(r"(?!-0\.0000)-?(?:0|[1-9][0-9]*)\.[0-9]{2}(?:00|25|50|75)")
+_MW = re.compile(r"(?:0|[1-9][0-9]{0,4})")
 _WHOLE = re.compile(r"(?:0|-?[1-9][0-9]*)")
 _LENGTHS = {
     "zone": 6,
@@ -331,6 +332,11 @@ class _Reader:
     def whole(self, text: str) -> int:
         if not _WHOLE.fullmatch(text):
             raise MariText(self.read, f"{shown(text)} isn't a whole number")
+        return int(text)
+
+    def mw(self, text: str) -> int:
+        if not _MW.fullmatch(text):
+            raise MariText(self.read, f"{shown(text)} isn't what may run, in MW")
         return int(text)
 
     def price(self, text: str) -> Decimal:
@@ -398,8 +404,11 @@ class _Reader:
     def market(self, block: RunBlock) -> None:
         block.zones = self.many("zone", self.zone)
         block.borders = self.many("border", self.border)
-        block.bids = self.many("bid", lambda words: Activation(words[1], self.whole(words[2])))
-        block.demands = self.many("demand", lambda words: self.whole(words[2]))
+        block.bids = self.many("bid", lambda words: Activation(words[1], self.mw(words[2])))
+        places = self.many("demand", lambda words: (words[1], self.mw(words[2])))
+        if [place for place, _ in places] != [str(place) for place in range(1, len(places) + 1)]:
+            raise MariText(self.read, "the demands aren't numbered 1, 2, 3 and so on")
+        block.demands = [mw for _, mw in places]
 
     def zone(self, words: list[str]) -> ZonePrice:
         price, least, greatest = map(self.price, words[2:5])

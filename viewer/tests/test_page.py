@@ -190,6 +190,15 @@ class Finding(PageTest):
         self.assertEqual([row[0] for row in rows], ["u"])
         self.assertIn("Q: 1 rows, paid 175.0000 EUR", self.browser.text("#found .reading"))
 
+    def test_a_bid_without_a_run(self):
+        folder = self.days.market("two-zones")
+        change(folder, "bids.csv", "b1,P2,B,1", "c1,P2,B,7,up,60.00,0,100,both\nb1,P2,B,1")
+        with open(os.path.join(folder, "publication.txt"), "wb") as publication:
+            subprocess.run([PROGRAM, "clear", folder], stdout=publication, check=True)
+        self.browser.open(self.days.page(folder)[0])
+        self.assertEqual([row[:6] for row in self.look("c1")], [["c1", "P2", "", "01:30", "B", "no run"]])
+        self.assertEqual(self.browser.text("#found tr.below"), "its quarter hour has no run in runs.csv")
+
     def test_a_part_of_a_name_and_none(self):
         self.show("eight-zones")
         self.assertGreater(len(self.look("u")), 1)

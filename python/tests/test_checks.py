@@ -24,6 +24,7 @@ from mari import (
     problems,
 )
 from mari.checks import CHECKS
+from mari.joint import joint_problems
 
 from tests.days import damaged, random_folder
 from tests.program import PROGRAM, needs_program
@@ -302,11 +303,20 @@ class TestAgainstProgram(unittest.TestCase):
                 with self.subTest(what=what, more=more):
                     if not more:
                         PROGRAM.blocks(folder, 2, 3, nodes=1)
+                        page = folder.pages()["blocks.csv"]
+                        self.assertEqual([*joint_problems(folder, page, 2, 3)], [])
                         continue
                     with self.assertRaises(MariRefused) as caught:
                         PROGRAM.blocks(folder, 2, 3, nodes=1)
                     self.assertEqual(caught.exception.check, "TooLarge")
                     self.assertIn(f"{what}, and {most} are the most", caught.exception.reason)
+
+    def test_limits_of_runs(self):
+        """A border without a line in a run carries nothing in it."""
+        pages = {**BASE, "borders.csv": b"from,to\nA,B\n", "runs.csv": BASE["runs.csv"] + b"2,1,direct,40\n"}
+        pages["limits.csv"] = b"run,from,to,limit,back\n1,A,B,7,8\n"
+        self.assertEqual(Folder.of_pages(pages).limits_by_run(), {1: [(7, 8)], 2: [(0, 0)]})
+        self.assertEqual(Folder.of_pages(BASE).limits_by_run(), {1: [(50, 50)]})
 
     def test_random_folders_are_accepted(self):
         chance = random.Random(7)

@@ -43,6 +43,16 @@ class TestOrder(unittest.TestCase):
             self.assertTrue(old.published and new.published)
             self.assertEqual(old.welfare, new.welfare)
 
+    def test_the_order(self):
+        """At the relaxed price 20.00 `half` runs 10 of its 20 MW, and two of a group run: they come before the rest."""
+        offers = {"near": ("25", 5), "far": ("90", 5), "half": ("20", 20), "one": ("5", 4), "two": ("6", 4)}
+        folder = Folder("2025-03-12", "UTC0", [Zone("A", "T")], runs=[Run(1, 1, "scheduled", Decimal(50))])
+        for name, (price, mw) in offers.items():
+            folder.bids.append(Bid(name, "P", "A", 1, "up", Decimal(price), mw, mw))
+        folder.links = [Link("group", "g", "one"), Link("group", "g", "two")]
+        folder.demands = [Demand(1, "A", 18)]
+        self.assertEqual([bid.id for bid in ordered(folder, PROGRAM).bids], ["one", "two", "half", "far", "near"])
+
     def test_trees_are_smaller(self):
         chance, sizes = random.Random(4), [0, 0]
         for _ in range(6):

@@ -8,6 +8,7 @@ from decimal import Decimal
 from pathlib import Path
 
 from mari import Day, Item, MariText, Publication, iter_blocks
+from mari.publication import read_split
 from mari.units import cents, energy_money, euros, price_of, quarter_cents
 
 from tests.days import random_folder
@@ -43,6 +44,11 @@ class TestPublication(unittest.TestCase):
         self.assertEqual((block.demands, block.tree), ([80], [Item("bound", ("20.00 60.00",))]))
         self.assertEqual(block.providers, day.providers)
         self.assertEqual(list(iter_blocks(TEXT.splitlines(keepends=True))), day.blocks)
+
+    def test_an_island_that_was_given_up(self):
+        lines = ["split 1 2025-03-12 96 10\n", "run 1 2 direct unpublished 3 7\n", "done 0 1\n"]
+        [block] = read_split(lines)
+        self.assertEqual((block.quarter, block.kind, block.island, block.nodes), (2, "direct", 3, 7))
 
     def test_unserved_and_times(self):
         [row] = Day.read(EXAMPLES / "two-zones").demands()

@@ -193,8 +193,6 @@ class TestProgram(unittest.TestCase):
         self.assertEqual((block.welfare, block.bids), (whole.welfare, whole.bids))
         self.assertEqual([island.zones for island in block.islands], [["A"], ["B"]])
         self.assertEqual(sum(island.welfare for island in block.islands), block.welfare)
-        [given_up] = program.split(EXAMPLES / "paradox-bid", nodes=2)
-        self.assertEqual((given_up.published, given_up.island), (False, 1))
 
     def test_refused_blocks(self):
         folder = Folder.read(EXAMPLES / "thermal-plant")

@@ -54,6 +54,16 @@ class Sound(FileTest):
         limits = [found[f"run-{run}"]["borders"]["limit"] for run in (1, 2)]
         self.assertNotEqual(*limits)
 
+    def test_a_direct_run_has_the_room_that_flows_left(self):
+        """The scheduled run fills 50 MW to B; then none is left there, and 100 MW back. The next quarter begins anew."""
+        folder = self.days.market("two-zones")
+        change(folder, "runs.csv", "1,1,scheduled,40.00", "1,1,scheduled,40.00\n2,1,direct,40.00\n3,2,scheduled,40.00")
+        change(folder, "demands.csv", "1,B,80,", "1,B,80,\n2,B,5,")
+        Program(PROGRAM).clear(folder)
+        _, found = made(folder)
+        room = [[found[f"run-{run}"]["borders"][way] for way in ("limit", "back")] for run in (1, 2, 3)]
+        self.assertEqual(room, [[[50], [50]], [[0], [100]], [[50], [50]]])
+
     def test_rejected_in_the_money(self):
         summary, found = self.made("paradox-bid")
         self.assertEqual(summary["runs"][0]["rejected"], 1)

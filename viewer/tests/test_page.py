@@ -245,6 +245,12 @@ class Drawing(PageTest):
                        for kind in ("direct", "scheduled")]
         self.assertAlmostEqual(top[1], bottom[0], delta=0.2)
 
+    def test_a_price_at_the_cap_does_not_set_the_axis(self):
+        """The direct run's price is the cap, and the scheduled one's 50.00: the axis is of usual prices."""
+        self.show("direct-run")
+        self.assertIn("in 1 runs beyond the axis, as far as 99,999.00", self.browser.text("#day-chart svg"))
+        self.assertIn("from violet 40.00 to yellow 60.00", self.browser.text("#day-chart svg"))
+
     def test_positions_of_zones(self):
         """North is up and east to the right."""
         folder = self.days.day("eight-zones")

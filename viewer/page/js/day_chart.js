@@ -1,7 +1,7 @@
 // The day: prices, MW, rent and welfare over the quarters, on one axis; a click picks a run.
 
 import { price, whole, rough, euros, sum } from "./numbers.js";
-import { usualRange, widened } from "./colour.js";
+import { usualPrices, usualRange, widened } from "./colour.js";
 import { shortText, unservedText } from "./sentences.js";
 import { readingOf, sizeTo, spotOf } from "./frame.js";
 import { ZonePrices } from "./zone_prices.js";
@@ -38,7 +38,7 @@ export class DayChart {
     const last = this.slots.length ? Math.ceil(this.slots[this.slots.length - 1].end) : 1;
     this.whole = [first, Math.max(last, first + 1)];
     this.window = this.whole;
-    this.range = widened(usualRange(this.published.flatMap((slot) => slot.run.price)));
+    this.range = widened(usualPrices(this.published.flatMap((slot) => slot.run.price)));
     this.zonePrices = new ZonePrices(day, this.range);
     LANES[1].high = this.zonePrices.high;
     this.frame();
@@ -177,8 +177,8 @@ export class DayChart {
     const runs = this.published.map((slot) => slot.run);
     if (lane.name === "rent" || lane.name === "welfare") {
       const all = sum(runs.map((run) => BigInt(run[lane.name])));
-      const range = usualRange(runs.map((run) => Number(run[lane.name]) / 400), 100);
-      const beyond = runs.filter((run) => Number(run[lane.name]) / 400 > range[1]).length;
+      const { stacks, range } = this.moneyOf(lane.name);
+      const beyond = stacks.filter((stack) => stack.to > range[1]).length;
       return `${lane.unit}, the day ${euros(all)}${beyond ? `, ${beyond} runs beyond the axis` : ""}`;
     }
     if (lane.name === "price") return lane.unit + this.beyondText();
@@ -269,12 +269,16 @@ export class DayChart {
     }
   }
 
+  // The bars of all published runs for rent or welfare, in EUR, and the usual range of their ends.
+  moneyOf(key) {
+    const stacks = stacked(this.published.map(({ run }) => ({ run })), (run) => Number(run[key]) / 400);
+    return { stacks, range: usualRange(stacks.map((stack) => stack.to), 100) };
+  }
+
   drawMoney(lane, key) {
-    const value = (run) => Number(run[key]) / 400;
-    const every = stacked(this.published.map(({ run }) => ({ run })), value);
-    const [least, most] = usualRange(every.map((stack) => stack.to), 100);
+    const [least, most] = this.moneyOf(key).range;
     const y = this.scale(lane, [Math.min(0, least), Math.max(most, 1)], 2, rough);
-    const stacks = stacked(this.strokes(), value);
+    const stacks = stacked(this.strokes(), (run) => Number(run[key]) / 400);
     for (const kind of ["scheduled", "direct"]) {
       this.lanes.append("path").attr("class", `bars money ${kind}`)
         .attr("d", bars(stacks.filter((stack) => stack.run.kind === kind), y));

@@ -1,7 +1,7 @@
 // The network of a run: zones coloured by price, borders as arrows, and the table of borders.
 
 import { price, whole, euros, percent } from "./numbers.js";
-import { inkOn, priceColour, usualRange, widened } from "./colour.js";
+import { inkOn, priceColour, usualPrices, widened } from "./colour.js";
 import { Table } from "./table.js";
 import { readingOf, sizeTo } from "./frame.js";
 import { UNPUBLISHED } from "./sentences.js";
@@ -130,7 +130,7 @@ export class Network {
 
   // Colours by the prices of this run: the day's chart shows how they change.
   paint(run) {
-    const [low, high] = widened(usualRange(run ? run.zones.price : [0]));
+    const [low, high] = widened(usualPrices(run ? run.zones.price : [0]));
     this.colour = priceColour([low, high]);
     this.lowText.text(`${price(low)} `);
     this.highText.text(` ${price(high)} EUR/MWh`);

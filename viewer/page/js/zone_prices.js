@@ -8,16 +8,23 @@ function rowHeight(zones) {
 }
 
 // A picture of one dot for each place across and two for each zone down: a scheduled run fills its quarter, and direct
-// runs after it the lower dots alone.
+// runs after it share the lower dots.
 function painted(slots, x, width, zones, colour) {
   const canvas = document.createElement("canvas");
   [canvas.width, canvas.height] = [Math.max(1, Math.round(width)), 2 * zones];
   const pen = canvas.getContext("2d");
   const start = x.range()[0];
-  const scheduled = new Set(slots.filter(({ run }) => run.kind === "scheduled").map(({ run }) => run.quarter));
-  for (const { run, start: begins, end: ends } of slots) {
-    const below = run.kind === "direct" && scheduled.has(run.quarter);
-    const [from, to] = run.kind === "scheduled" ? [run.quarter - 1, run.quarter] : [begins, ends];
+  const of = (kind) => slots.filter(({ run }) => run.kind === kind).map(({ run }) => run.quarter);
+  const scheduled = new Set(of("scheduled"));
+  const direct = d3.nest().key((quarter) => quarter).rollup((all) => all.length).map(of("direct"));
+  const seen = new Map();
+  for (const { run } of slots) {
+    const { quarter } = run;
+    const below = run.kind === "direct" && scheduled.has(quarter);
+    const count = run.kind === "direct" ? direct.get(quarter) : 1;
+    const place = run.kind === "direct" ? seen.get(quarter) || 0 : 0;
+    if (run.kind === "direct") seen.set(quarter, place + 1);
+    const [from, to] = [quarter - 1 + place / count, quarter - 1 + (place + 1) / count];
     const left = Math.round(Math.max(0, x(from) - start));
     const wide = Math.max(1, Math.round(Math.min(width, x(to) - start)) - left);
     run.price.forEach((cents, zone) => {

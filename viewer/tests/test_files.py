@@ -136,6 +136,15 @@ class Damage(FileTest):
                 change(folder, "publication.txt", old, new)
                 self.assertIn(said, self.fault(folder))
 
+    def test_a_run_that_is_missing(self):
+        folder = self.days.day("linked-day")
+        with open(os.path.join(folder, "publication.txt"), encoding="ascii") as page:
+            text = page.read()
+        last = text[text.index("run 4 "):text.index("total-operator")]
+        change(folder, "publication.txt", last, "")
+        change(folder, "publication.txt", "done 4 0", "done 3 0")
+        self.assertIn("has the totals, but runs are missing", self.fault(folder))
+
     def test_market_files(self):
         for file, old, new, said in (
                 ("zones.csv", "zone,operator", "zone", "zones.csv line 1: the first record isn't zone,operator"),

@@ -10,7 +10,10 @@ from os import PathLike
 from pathlib import Path
 from typing import TYPE_CHECKING, Any
 
-from mari.checks import (
+from mari.checks import Reader, has_header, read_day, read_rows
+from mari.clock import DayClock
+from mari.errors import MariMissing, MariRefused, MariTooLong, MariUnreadable, Problem
+from mari.readers import (
     BidReader,
     BlockReader,
     BorderReader,
@@ -18,15 +21,9 @@ from mari.checks import (
     LimitReader,
     LinkReader,
     PositionReader,
-    Reader,
     RunReader,
     ZoneReader,
-    has_header,
-    read_day,
-    read_rows,
 )
-from mari.clock import DayClock
-from mari.errors import MariMissing, MariRefused, MariTooLong, MariUnreadable, Problem
 from mari.rows import BARE_BORDERS, FILES, HEADERS, Bid, Block, Border, Demand, Limit, Link, Position, Run, Zone
 from mari.units import MOST_FILE_BYTES, price_text
 

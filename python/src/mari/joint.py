@@ -5,9 +5,10 @@ from __future__ import annotations
 from collections.abc import Iterator
 
 from mari.availability import Offers, Taken
-from mari.checks import CHECKS, BlockReader, read_rows
+from mari.checks import CHECKS, read_rows
 from mari.errors import Problem
 from mari.folder import Folder
+from mari.readers import BlockReader
 from mari.rows import Block, Run
 from mari.units import MOST_BIDS, MOST_BORDERS, MOST_DEMANDS, MOST_GATES, MOST_ZONES
 

@@ -90,6 +90,8 @@ class Finding(PageTest):
                          "y was activated in a direct run, which bars it (technical)")
         self.browser.one("#found tbody tr").click()
         self.browser.drawn(3)
+        self.assertIn("Z, 1 bids, and 1 withheld", self.browser.text("#merit-order h2"))
+        self.assertEqual([row[2] for row in self.cells("#merit-order")], ["activated in part", "withheld"])
 
     def test_a_provider(self):
         self.show("linked-day")
@@ -109,6 +111,7 @@ class Finding(PageTest):
     def test_a_part_of_a_name_and_none(self):
         self.show("eight-zones")
         self.assertGreater(len(self.look("u")), 1)
+        self.assertEqual([row[0] for row in self.look("u2")], ["u2"])
         self.assertEqual(self.look("nobody"), [])
         self.assertIn("no bid or provider is called nobody", self.browser.text("#found .reading"))
 

@@ -36,6 +36,7 @@ class TestProblems(unittest.TestCase):
         for field, value, hint in (
             ("price", "60,00", "write 60.00"),
             ("price", "1,300.00", "write 1300.00"),
+            ("price", "1.300,00", "write 1300.00"),
             ("price", "1.3E+02", "write 130.00"),
             ("price", "\u221260", "write -60"),
             ("price", "60.00 ", "write 60.00"),

@@ -47,6 +47,8 @@ def for_price(value: str) -> str:
         return f"write {plain.replace(',', '.')}, with a decimal point"
     if _THOUSANDS.fullmatch(plain):
         return f"write {re.sub('[^0-9.-]', '', plain)}, without a mark between thousands"
+    if re.fullmatch(r"-?[0-9]{1,3}(?:\.[0-9]{3})+,[0-9]{1,2}", plain):
+        return f"write {plain.replace('.', '').replace(',', '.')}, with a decimal point and no mark between thousands"
     if re.fullmatch(r"-?[0-9]*\.?[0-9]+[eE][+-]?[0-9]{1,3}|-?[0-9]*\.[0-9]{3,}|-?\.[0-9]+", plain):
         return f"write {float(plain):.2f}: at most two decimals and no exponent"
     if re.fullmatch(r"\+[0-9.]+", plain):

@@ -167,6 +167,14 @@ class Drawing(PageTest):
         self.assertIn("in 1 runs beyond the axis, as far as 99,999.00", self.browser.text("#day-chart svg"))
         self.assertIn("from violet 40.00 to yellow 60.00", self.browser.text("#day-chart svg"))
 
+    def test_few_zones_are_named(self):
+        """Eight rows of colours have room for their names; of sixteen the selected one is named."""
+        self.show("eight-zones", "#zone=DE")
+        self.assertEqual([name.text for name in self.browser.all(".zone-names text")],
+                         ["NO", "SE", "DK", "DE", "PL", "CZ", "AT", "CH"])
+        self.show("fair", "#run=1&zone=FR")
+        self.assertEqual([name.text for name in self.browser.all(".zone-names text")], ["FR"])
+
     def test_positions_of_zones(self):
         """North is up and east to the right."""
         folder = self.days.day("eight-zones")

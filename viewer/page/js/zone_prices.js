@@ -3,8 +3,10 @@
 import { price } from "./numbers.js";
 import { priceColour } from "./colour.js";
 
+const NAMED = 11;     // the height of a row that has room for a name
+
 function rowHeight(zones) {
-  return Math.max(2, Math.min(9, Math.floor(84 / zones)));
+  return zones <= 9 ? Math.min(13, Math.floor(110 / zones)) : Math.max(2, Math.min(9, Math.floor(84 / zones)));
 }
 
 // A picture of one dot for each place across and two for each zone down: a scheduled run fills its quarter, and direct
@@ -53,11 +55,13 @@ export class ZonePrices {
 
   // The names that fit, and always the selected zone's.
   select(zone) {
-    const y = this.top + zone * this.row;
-    this.frame.attr("y", y);
+    const top = (at) => this.top + at * this.row;
+    this.frame.attr("y", top(zone));
+    const named = this.row >= NAMED ? d3.range(this.day.zones.length) : [zone];
     this.names.selectAll("text").remove();
-    this.names.append("text").attr("x", this.left - 6).attr("y", y + this.row / 2 + 3.5)
-      .text(this.day.zones[zone]);
+    this.names.selectAll("text").data(named).enter().append("text").attr("x", this.left - 6)
+      .attr("y", (at) => top(at) + this.row / 2 + 3.5).classed("others", (at) => at !== zone)
+      .text((at) => this.day.zones[at]);
   }
 
   // The zone at a height, or null.

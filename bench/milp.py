@@ -17,15 +17,21 @@ inadmissible word are open together, and solves again.
 """
 
 import argparse
-import csv
 import os
 import pathlib
 import re
 import resource
 import subprocess
+import sys
 import tempfile
 import time
 from dataclasses import dataclass, field
+
+sys.path.insert(0, str(pathlib.Path(__file__).resolve().parent.parent / "python/src"))
+
+from mari import Folder  # noqa: E402
+from mari.availability import Offers  # noqa: E402
+from mari.units import cents  # noqa: E402
 
 CAP = 9_999_900
 INFINITE = float("inf")
@@ -57,39 +63,30 @@ class Market:
     gates: list = field(default_factory=list)  # the order of each gate
 
 
-def records(folder, page):
-    with open(pathlib.Path(folder, page), newline="", encoding="utf-8") as file:
-        return list(csv.reader(file))[1:]
-
-
-def cents(text):
-    return round(float(text) * 100)
-
-
-def markets_of(folder):
+def markets_of(path):
     """The market of each run: scheduled ones, one a quarter, without links across quarters."""
-    zones = {name: place for place, (name, _) in enumerate(records(folder, "zones.csv"))}
-    borders = [(zones[a], zones[b], int(limit), int(back)) for a, b, limit, back in records(folder, "borders.csv")]
-    bids, links, demands = records(folder, "bids.csv"), records(folder, "links.csv"), records(folder, "demands.csv")
-    group_of = {second: first for kind, first, second in links if kind == "group"}
-    parent_of = {first: second for kind, first, second in links if kind == "child"}
-    linked = set(group_of) | set(parent_of) | set(parent_of.values())
-    for run, quarter, _, _ in records(folder, "runs.csv"):
-        market, gate_of = Market(int(run), len(zones), borders), {}
-        for name, _, zone, _, direction, price, least, greatest, _ in (bid for bid in bids if bid[3] == quarter):
-            order = Order(zones[zone], 1 if direction == "up" else -1, cents(price), int(greatest))
-            if int(least) > 0 or name in linked:
-                order.gate = gate_of[name] = len(market.gates)
-                order.least = max(1, int(least))
+    folder = Folder.read(path)
+    offers, limits = Offers(folder), folder.limits_by_run()
+    zones = {row.zone: place for place, row in enumerate(folder.zones)}
+    pairs = [(zones[row.from_zone], zones[row.to_zone]) for row in folder.borders]
+    for run in folder.runs:
+        borders = [(*pair, *both) for pair, both in zip(pairs, limits[run.run])]
+        market, gate_of = Market(run.run, len(zones), borders), {}
+        for bid in offers.of_quarter[run.quarter]:
+            order = Order(zones[bid.zone], bid.sign, cents(bid.price), bid.greatest)
+            if bid.id in offers.gated:
+                order.gate = gate_of[bid.id] = len(market.gates)
+                order.least = offers.least(bid)
                 market.gates.append(order)
-                if name in group_of:
-                    market.groups.setdefault(group_of[name], []).append(order.gate)
-                if name in parent_of:
-                    market.parents[order.gate] = gate_of[parent_of[name]]
+                if bid.id in offers.group_of:
+                    market.groups.setdefault(offers.group_of[bid.id], []).append(order.gate)
+                if bid.id in offers.parent_of:
+                    market.parents[order.gate] = gate_of[offers.parent_of[bid.id]]
             market.orders.append(order)
-        for _, zone, mw, price in (demand for demand in demands if demand[0] == run):
-            side = 1 if int(mw) < 0 else -1
-            market.orders.append(Order(zones[zone], side, cents(price) if price else -side * CAP, abs(int(mw))))
+        for demand in (demand for demand in folder.demands if demand.run == run.run):
+            side = 1 if demand.mw < 0 else -1
+            price = -side * CAP if demand.price is None else cents(demand.price)
+            market.orders.append(Order(zones[demand.zone], side, price, abs(demand.mw)))
         yield market
 
 

@@ -2,135 +2,174 @@
 
 Money is text of whole quarter-cents, since the whole numbers of a browser are exact up to 2^53 alone.
 """
-from making import clock
-from making.damage import Damaged, shown
-from making.feed import FEED
-from making.quarter import Quarter
+from mari import MariOtherFolder, Publication, Reasons, State
+from mari.reasons import NO_RUN
+from mari.units import cents, quarter_cents
 
 DETAILED = 400      # of a tree with more items no bounds are shown
-NO_DAY = {"date": "", "quarters": 1, "budget": 0, "times": [], "zones": [], "borders": [], "awaited": 0, "runs": [],
-          "totals": False}
+NO_DAY = {"date": "", "quarters": 1, "budget": 0, "times": [], "zones": [], "borders": [], "positions": None,
+          "states": [state.value for state in State], "awaited": 0, "runs": [], "totals": False}
+PLACE = {state: place for place, state in enumerate(State)}
+LINKS = {"needs": "needs", "bars": "barred by", "technical": "barred by a direct activation of"}
 
 
-def columns(rows, keys, money=()):
-    """A list of each key's values; money is text."""
-    numbers = {key: [row[key] for row in rows] for key in keys}
-    return {**numbers, **{key: [str(row[key]) for row in rows] for key in money}}
+def columns(rows, **read):
+    """A list of each key's values, as they are read of the rows."""
+    return {key: list(map(value, rows)) for key, value in read.items()}
 
 
-def ledger_part(value):
-    return {"operators": columns(value["operators"], ["name"], ("payment", "rent", "net")),
-            "providers": columns(value["providers"], ["name"], ["amount"])}
+def money(value):
+    return str(quarter_cents(value))
+
+
+def ledger_part(part):
+    """The money of a block, or of the totals."""
+    return {"operators": columns(part.operators, name=lambda row: row.operator, net=lambda row: money(row.net),
+                                 payment=lambda row: money(row.payment), rent=lambda row: money(row.rent)),
+            "providers": columns(part.providers, name=lambda row: row.provider, amount=lambda row: money(row.amount))}
 
 
 def letter(item):
     """A tree's item in short: B branch, o bound, x conflict, i and u cuts of what comes in and goes out."""
-    if item == "branch":
-        return "B"
-    if "bound" in item:
-        return "o"
-    return "x" if "conflict" in item else "i" if item["side"] == "in" else "u"
+    return {"branch": "B", "bound": "o", "conflict": "x"}.get(item.kind) or ("i" if item.side == "in" else "u")
+
+
+def ends(prices):
+    return [cents(min(prices)), cents(max(prices))]
 
 
 def tree_part(tree):
     """The items in preorder as letters; by their places the zones of cuts and conflicts, and a bound's ends."""
-    leaves = [(at, item) for at, item in enumerate(tree) if item != "branch"]
-    zones = {at: item.get("cut") or item["conflict"] for at, item in leaves if "bound" not in item}
+    leaves = [(at, item) for at, item in enumerate(tree) if item.kind != "branch"]
+    zones = {at: item.zones for at, item in leaves if item.kind != "bound"}
     few = len(tree) <= DETAILED
-    bounds = {at: [min(item["bound"]), max(item["bound"])] for at, item in leaves if few and "bound" in item}
+    bounds = {at: ends(item.prices) for at, item in leaves if few and item.kind == "bound"}
     return {"items": "".join(map(letter, tree)), "zones": zones, "bounds": bounds}
 
 
-class Day:
-    """Takes the parts of a feed, and gives the parts of the page."""
+class DayParts:
+    """Takes the parts of a publication, one after the other, and gives the parts of the page."""
 
-    def __init__(self, market):
-        self.market, self.head, self.runs, self.quarter = market, None, [], None
-        self.has_totals = False
+    def __init__(self, folder):
+        self.folder, self.reasons, self.clock = folder, Reasons(folder), folder.clock()
+        self.zone_at = {row.zone: place for place, row in enumerate(folder.zones)}
+        self.limits = folder.limits_by_run()
+        self.demands = {run.run: [] for run in folder.runs}
+        for demand in folder.demands:
+            self.demands[demand.run].append(demand)
+        self.head, self.runs, self.quarter, self.has_totals = {}, [], 0, False
 
     def summary(self, fault=None):
-        market, head = self.market, self.head or {}
-        made = {**NO_DAY, **head, "zones": market.zones, "borders": market.borders, "awaited": len(market.runs),
+        """The day in short."""
+        folder, found = self.folder, {row.zone: [row.x, row.y] for row in self.folder.positions or ()}
+        zones = list(self.zone_at)
+        return {**NO_DAY, "date": folder.date, "quarters": self.clock.quarters, **self.head, "zones": zones,
+                "borders": [[self.zone_at[row.from_zone], self.zone_at[row.to_zone]] for row in folder.borders],
+                "positions": [found[zone] for zone in zones] if found else None, "awaited": len(folder.runs),
+                "times": [self.clock.text(quarter) for quarter in range(1, self.clock.quarters + 2)],
                 "runs": self.runs, "totals": self.has_totals, "fault": fault}
-        return {**made, "times": clock.times(made["date"], market.rule, made["quarters"])}
 
-    def take(self, kind, value):
-        """Takes a part of the feed, and yields (name, value) of the parts of the page."""
-        if kind == "head":
-            if value["date"] != self.market.date:
-                raise Damaged(FEED, 1, "is of another date than day.csv")
-            self.head = value
-        elif kind == "totals":
-            if len(self.runs) != len(self.market.runs):
-                raise self._fault("has the totals, but runs are missing")
-            self.has_totals = True
-            yield "totals", ledger_part(value)
+    def take(self, part):
+        """Takes the head, a block or the totals, and yields (name, value) of the parts of the page."""
+        if not isinstance(part, Publication):
+            yield from self._block(part)
+        elif not self.head:
+            if (part.date, part.quarters) != (self.folder.date, self.clock.quarters):
+                raise MariOtherFolder("publication.txt is of another day than day.csv")
+            self.head = {"budget": part.budget}
         else:
-            yield from self._block(value)
-
-    def _fault(self, reason):
-        return Damaged(FEED, len(self.runs) + 2, reason)
+            if len(self.runs) != len(self.folder.runs):
+                raise MariOtherFolder("publication.txt has the totals, but runs are missing")
+            self.has_totals = True
+            yield "totals", ledger_part(part)
+            yield "without-run", self._without_run()
 
     def _block(self, block):
-        run = len(self.runs) + 1
-        if run > len(self.market.runs) or block["run"] != run:
-            raise self._fault(f"is the block of run {block['run']}, which isn't the next one")
-        number, kind, reference = self.market.runs[run - 1]
-        if (block["quarter"], block["kind"]) != (number, kind):
-            raise self._fault("has another quarter hour or kind than runs.csv")
-        if self.quarter is None or self.quarter.number != number:
-            self.quarter = Quarter(self.market, number)
-            yield f"quarter-{number}", self.quarter.part()
-        asked = [mw for _, mw in self.market.demands[run - 1]]
-        short = {"run": run, "quarter": number, "kind": kind, "reference": reference,
-                 "asked": [sum(max(0, mw) for mw in asked), sum(max(0, -mw) for mw in asked)]}
-        if "nodes" in block:
-            self.runs.append({**short, "nodes": block["nodes"]})
-            return
-        part = self._published(run, block)
-        self.runs.append({**short, **self._in_short(block, part)})
-        yield f"run-{run}", part
-
-    def _published(self, run, block):
-        quarter, demands = self.quarter, self.market.demands[run - 1]
+        number = len(self.runs) + 1
+        if number > len(self.folder.runs) or block.run != number:
+            raise MariOtherFolder(f"publication.txt: the block of run {block.run} isn't the next one")
+        run, demands = self.folder.runs[number - 1], self.demands[number]
         self._compare(block, demands)
-        places = self._places(block["bids"])
-        mws, flows = [bid["mw"] for bid in block["bids"]], [border["flow"] for border in block["borders"]]
-        zones = columns(block["zones"], ("price", "least", "greatest", "area"))
-        part = {
-            "zones": zones,
-            "borders": {**columns(block["borders"], ["flow"], ["rent"]), **quarter.borders_left(run)},
-            "bids": {"place": places, "mw": mws, "left": quarter.left(places)},
-            "demands": {"zone": [zone for zone, _ in demands], "asked": [mw for _, mw in demands],
-                        "served": block["demands"]},
-            "rejected": quarter.rejected(places, mws, zones["price"]),
-            "tree": tree_part(block["tree"]), **ledger_part(block)}
-        quarter.take(places, mws, flows)
-        return part
+        bids = self.reasons.offers.of_quarter[run.quarter]
+        reasons = self.reasons.take(run, block)
+        if self.quarter != run.quarter:
+            self.quarter, self.flows = run.quarter, [0] * len(self.folder.borders)
+            yield f"quarter-{run.quarter}", self._quarter_part(bids)
+        part = {"bids": self._bids_part(reasons), "borders": self._limits_part(run),
+                "reasons": columns(reasons, state=lambda why: PLACE[why.state], text=lambda why: why.text),
+                "demands": columns(demands, zone=lambda row: self.zone_at[row.zone], asked=lambda row: row.mw)}
+        if block.published:
+            self._add_found(part, block, demands)
+        self.runs.append(self._in_short(run, block, part, bids, reasons))
+        yield f"run-{number}", part
+
+    def _without_run(self):
+        """The bids of quarter hours without a run, and why they aren't offered."""
+        with_run = {run.quarter for run in self.folder.runs}
+        bids = [bid for bid in self.folder.bids if bid.quarter not in with_run]
+        made = columns(bids, name=lambda bid: bid.id, provider=lambda bid: bid.provider,
+                       quarter=lambda bid: bid.quarter, zone=lambda bid: self.zone_at[bid.zone],
+                       up=lambda bid: int(bid.direction == "up"), price=lambda bid: cents(bid.price))
+        return {**made, "why": NO_RUN}
 
     def _compare(self, block, demands):
         """Whether the block has the market files' zones, borders and number of demands."""
-        zones = self.market.zones
-        if [zone["name"] for zone in block["zones"]] != zones:
-            raise self._fault("has other zones than zones.csv")
-        pairs = [(zones[start], zones[end]) for start, end in self.market.borders]
-        if [(border["from"], border["to"]) for border in block["borders"]] != pairs:
-            raise self._fault("has other borders than borders.csv")
-        if len(block["demands"]) != len(demands):
-            raise self._fault("has another number of demands than demands.csv")
+        if not block.published:
+            return
+        if [row.zone for row in block.zones] != list(self.zone_at):
+            raise MariOtherFolder(f"run {block.run} has other zones than zones.csv")
+        if [row[:2] for row in block.borders] != [row[:2] for row in self.folder.borders]:
+            raise MariOtherFolder(f"run {block.run} has other borders than borders.csv")
+        if len(block.demands) != len(demands):
+            raise MariOtherFolder(f"run {block.run} has another number of demands than demands.csv")
 
-    def _places(self, bids):
-        """Where in the quarter hour's list each bid stands."""
-        try:
-            return [self.quarter.place_of[bid["id"]] for bid in bids]
-        except KeyError as name:
-            reason = f"names a bid {shown(name.args[0])} that bids.csv hasn't in its quarter hour"
-            raise self._fault(reason) from None
+    def _quarter_part(self, bids):
+        """A list of each field, over the bids."""
+        offers, place_of = self.reasons.offers, {bid.id: place for place, bid in enumerate(bids)}
+        links = {place: [f"{words} {other}" for kind, words in LINKS.items()
+                         for other in getattr(offers, kind).get(bid.id, ())] for place, bid in enumerate(bids)}
+        made = columns(bids, name=lambda bid: bid.id, provider=lambda bid: bid.provider,
+                       zone=lambda bid: self.zone_at[bid.zone], up=lambda bid: int(bid.direction == "up"),
+                       price=lambda bid: cents(bid.price), least=lambda bid: bid.least,
+                       greatest=lambda bid: bid.greatest, gated=lambda bid: int(bid.id in offers.gated),
+                       group=lambda bid: offers.group_of.get(bid.id),
+                       parent=lambda bid: place_of.get(offers.parent_of.get(bid.id)))
+        return {**made, "links": {place: words for place, words in links.items() if words}}
 
-    def _in_short(self, block, part):
-        served = list(zip(part["demands"]["asked"], part["demands"]["served"]))
-        return {"price": part["zones"]["price"], "welfare": str(block["welfare"]),
-                "rent": str(sum(border["rent"] for border in block["borders"])),
-                "activated": self.quarter.activated(part["bids"]["place"], part["bids"]["mw"]),
+    def _bids_part(self, reasons):
+        """The bids that the run is offered: their places in the quarter hour, MW, what was left of them, their pay."""
+        offered = [place for place, why in enumerate(reasons) if why.state is not State.WITHHELD]
+        return {"place": offered, "mw": [reasons[place].mw for place in offered],
+                "left": [reasons[place].left for place in offered],
+                "pay": [money(reasons[place].pay) for place in offered]}
+
+    def _limits_part(self, run):
+        """Each border's limits in a run, less the flows of the quarter hour's runs so far."""
+        pairs = list(zip(self.limits[run.run], self.flows))
+        return {"limit": [max(0, limit - flow) for (limit, _), flow in pairs],
+                "back": [max(0, back + flow) for (_, back), flow in pairs]}
+
+    def _add_found(self, part, block, demands):
+        """Adds what a published run found, and keeps its flows."""
+        part["zones"] = columns(block.zones, price=lambda row: cents(row.price), least=lambda row: cents(row.least),
+                                greatest=lambda row: cents(row.greatest), area=lambda row: row.area)
+        part["borders"].update(columns(block.borders, flow=lambda row: row.mw, rent=lambda row: money(row.rent)))
+        part["demands"].update(served=block.demands, unserved=[
+            abs(demand.mw) - met if demand.at_any_price else 0 for demand, met in zip(demands, block.demands)])
+        part.update(tree=tree_part(block.tree), **ledger_part(block))
+        self.flows = [before + row.mw for before, row in zip(self.flows, block.borders)]
+
+    def _in_short(self, run, block, part, bids, reasons):
+        asked = part["demands"]["asked"]
+        short = {"run": run.run, "quarter": run.quarter, "kind": run.kind, "reference": cents(run.reference),
+                 "asked": [sum(max(0, mw) for mw in asked), sum(max(0, -mw) for mw in asked)]}
+        if not block.published:
+            return {**short, "nodes": block.nodes}
+        served = list(zip(asked, block.demands))
+        upward = sum(why.mw for bid, why in zip(bids, reasons) if bid.direction == "up")
+        return {**short, "price": part["zones"]["price"], "welfare": money(block.welfare),
+                "rent": money(sum(row.rent for row in block.borders)),
+                "activated": [upward, sum(why.mw for why in reasons) - upward],
                 "served": [sum(mw for asked, mw in served if asked >= 0), sum(mw for asked, mw in served if asked < 0)],
-                "rejected": len(part["rejected"])}
+                "unserved": sum(part["demands"]["unserved"]),
+                "rejected": sum(why.state is State.REJECTED for why in reasons)}

@@ -3,7 +3,7 @@
 
 BIDS are those of a quarter hour. It prints how long `show` takes and with what memory, how large the page is, and how
 long chromium takes to draw it, to draw other runs, and with what memory. It is run by hand, on a machine that does
-nothing else. What it is to keep: 20 s for `show`, and 2 s and 250 MB for the browser.
+nothing else. README.md has what was measured.
 """
 import os
 import resource
@@ -20,8 +20,8 @@ from great_day import make
 def measure_show(folder, page):
     """Prints what `show` takes, and writes the page."""
     start = time.monotonic()
-    with open(os.path.join(folder, "feed.jsonl"), "rb") as feed, open(page, "wb") as text:
-        subprocess.run([sys.executable, os.path.join(VIEWER, "show"), folder], stdin=feed, stdout=text, check=True)
+    with open(page, "wb") as text:
+        subprocess.run([sys.executable, os.path.join(VIEWER, "show"), folder], stdout=text, check=True)
     memory = resource.getrusage(resource.RUSAGE_CHILDREN).ru_maxrss // 1024
     print(f"show: {time.monotonic() - start:.1f} s, {memory} MB; the page has {os.path.getsize(page) / 1e6:.1f} MB")
 

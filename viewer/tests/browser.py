@@ -56,6 +56,11 @@ class Browser:
         """The text of an element, as soon as it has one."""
         return WebDriverWait(self.driver, PATIENCE, 0.02).until(lambda _: self.text(selector))
 
+    def settled(self, selector, word):
+        """Waits until an element has a text without this word."""
+        WebDriverWait(self.driver, PATIENCE, 0.02).until(
+            lambda _: self.text(selector) and word not in self.text(selector))
+
     def run(self, script, *values):
         return self.driver.execute_script(script, *values)
 

@@ -1,4 +1,4 @@
-"""Days to show: market files of the examples and of an invented day, cleared by the program, each with its feed."""
+"""Days to show: the examples and an invented day, cleared by the program."""
 import importlib.machinery
 import importlib.util
 import os
@@ -13,7 +13,7 @@ TOP = os.path.dirname(VIEWER)
 BUILT = os.path.join(TOP, "crates", "mari_app", "out", "mari_app")
 SHIPPED = os.path.join(TOP, "release", "mari")
 PROGRAM = os.environ.get("MARI") or (BUILT if os.access(BUILT, os.X_OK) else SHIPPED)
-sys.path[:0] = [VIEWER, HERE]
+sys.path[:0] = [VIEWER, HERE, os.path.join(TOP, "python", "src")]
 sys.dont_write_bytecode = True
 
 import fair_day                                          # noqa: E402
@@ -47,27 +47,27 @@ class Days:
         return folder
 
     def day(self, name):
-        """(a new folder, its feed). Of the invented day two runs are too large for so small a budget."""
+        """A new folder with its publication. Of the invented day two runs are too large for so small a budget."""
+        folder = self.market(name)
         if name not in self.cleared:
-            folder = self.market(name)
             options = ["--nodes", "60"] if name == "fair" else []
-            text = subprocess.run([PROGRAM, "clear", folder, *options], stdout=subprocess.PIPE, check=False).stdout
-            with open(os.path.join(folder, "publication.txt"), "wb") as publication:
-                publication.write(text)
-            self.cleared[name] = subprocess.run([PROGRAM, "feed", folder], stdout=subprocess.PIPE, check=True).stdout
-        return self.market(name), self.cleared[name]
+            self.cleared[name] = subprocess.run([PROGRAM, "clear", folder, *options], stdout=subprocess.PIPE,
+                                                check=False).stdout
+        with open(os.path.join(folder, "publication.txt"), "wb") as publication:
+            publication.write(self.cleared[name])
+        return folder
 
     def page_of(self, name):
         """The path of a day's page."""
         if name not in self.pages:
-            self.pages[name], _, _ = self.page(*self.day(name))
+            self.pages[name], _, _ = self.page(self.day(name))
         return self.pages[name]
 
-    def page(self, folder, feed):
+    def page(self, folder):
         """(path of the page, exit code, what was said) of `show`."""
         path = os.path.join(folder, "day.html")
         with open(path, "wb") as page:
-            done = subprocess.run([sys.executable, os.path.join(VIEWER, "show"), folder], input=feed, stdout=page,
+            done = subprocess.run([sys.executable, os.path.join(VIEWER, "show"), folder], stdout=page,
                                   stderr=subprocess.PIPE, check=False)
         return path, done.returncode, done.stderr.decode()
 
@@ -83,9 +83,3 @@ def change(folder, file, old, new):
     assert old in text, (file, old)
     with open(path, "w", encoding="utf-8", newline="") as page:
         page.write(text.replace(old, new))
-
-
-def changed(feed, old, new):
-    """A feed with a text replaced."""
-    assert old in feed, old
-    return feed.replace(old, new)

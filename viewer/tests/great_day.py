@@ -1,13 +1,16 @@
-"""A day as great as days may be: market files and a feed that have the form of a day's.
+"""A day as great as days may be: market files and a publication that have the form of a day's.
 
 Nothing is cleared: prices, flows and quantities are drawn at random, and the trees are any trees over the gated bids.
 """
-import json
 import os
 import random
 
 QUARTERS = 96
 BRANCH = "branch"
+
+
+def price(cents):
+    return f"{cents // 100}.{cents % 100:02d}"
 
 
 def tree_of(draw, gates, most, zones):
@@ -20,7 +23,7 @@ def tree_of(draw, gates, most, zones):
             waiting += [depth + 1, depth + 1]
             left -= 2
         else:
-            items.append({"bound": [draw.randrange(2000, 12000)] * zones})
+            items.append(" ".join(["bound", *[price(draw.randrange(2000, 12000))] * zones]))
     return items
 
 
@@ -92,45 +95,45 @@ class Great:
     def block(self, run):
         draw, quarter = self.draw, self.quarter_of(run)
         prices = self.prices(run)
-        flows = [draw.randrange(-300, 301) for _ in self.borders]
-        demands = [draw.randrange(0, 30) for _ in self.zones[::2]]
-        numbers = {price: at for at, price in reversed(list(enumerate(prices, start=1)))}
-        gates = (self.count + 79) // 80
+        areas = {price: at for at, price in reversed(list(enumerate(prices, start=1)))}
         most = 50_000 if run == 7 else draw.choice([1, 1, 9, 31, 90, 2000])
-        return {
-            "run": run, "quarter": quarter, "kind": self.kind_of(run),
-            "welfare": draw.randrange(10 ** 12), "demands": demands,
-            "bids": [{"id": f"q{quarter}-{at}", "mw": draw.randrange(9) if at % 3 == 0 and at % 80
-                      else 0} for at in range(self.count)],
-            "zones": [{"name": z, "price": p, "least": p, "greatest": p, "area": numbers[p]}
-                      for z, p in zip(self.zones, prices)],
-            "borders": [{"from": self.zones[a], "to": self.zones[b], "flow": f,
-                         "rent": abs((prices[b] - prices[a]) * f)}
-                        for (a, b), f in zip(self.borders, flows)],
-            "tree": tree_of(draw, gates, most, 1),
-            "operators": self.operators(), "providers": self.paid()}
+        tree = tree_of(draw, (self.count + 79) // 80, most, 1)
+        yield f"run {run} {quarter} {self.kind_of(run)} published"
+        yield f"welfare {draw.randrange(10 ** 12)}"
+        for zone, cents in zip(self.zones, prices):
+            yield f"zone {zone} {price(cents)} {price(cents)} {price(cents)} {areas[cents]}"
+        for a, b in self.borders:
+            yield f"border {self.zones[a]} {self.zones[b]} {draw.randrange(-300, 301)} {draw.randrange(10 ** 6)}.0000"
+        for at in range(self.count):
+            mw = draw.randrange(9) if at % 3 == 0 and at % 80 else 0
+            yield f"bid q{quarter}-{at} {mw}"
+        for at in range(len(self.zones[::2])):
+            yield f"demand {at + 1} {draw.randrange(0, 30)}"
+        yield f"tree {len(tree)}"
+        yield from tree
+        yield from self.ledger("")
+        yield f"end {run}"
 
-    def operators(self):
-        return [{"name": f"TSO-{z}", "payment": 4, "rent": 1, "net": 3} for z in self.zones]
+    def ledger(self, prefix):
+        for zone in self.zones:
+            yield f"{prefix}operator TSO-{zone} 0.0100 0.0025 0.0075"
+        for name in self.providers:
+            yield f"{prefix}provider {name} {self.draw.randrange(10 ** 7)}.0000"
 
-    def paid(self):
-        return [{"name": name, "amount": self.draw.randrange(10 ** 9)} for name in self.providers]
-
-    def feed(self):
-        def text(value):
-            return json.dumps(value, sort_keys=True, separators=(",", ":"))
-        yield text({"budget": 50_000, "date": "2026-11-27", "quarters": QUARTERS})
+    def publication(self):
+        yield f"mari 1 2026-11-27 {QUARTERS} 50000"
+        without = [run for run in range(1, self.runs + 1) if run % 97 == 5]
         for run in range(1, self.runs + 1):
-            if run % 97 == 5:
-                yield text({"kind": self.kind_of(run), "nodes": 50_000,
-                            "quarter": self.quarter_of(run), "run": run})
+            if run in without:
+                yield f"run {run} {self.quarter_of(run)} {self.kind_of(run)} unpublished 50000"
             else:
-                yield text(self.block(run))
-        yield text({"operators": self.operators(), "providers": self.paid()})
+                yield from self.block(run)
+        yield from self.ledger("total-")
+        yield f"done {self.runs - len(without)} {len(without)}"
 
 
 def make(folder, runs=1000, zones=64, bids=4096):
-    """Writes the market files into a folder, and the feed as FOLDER/feed.jsonl."""
+    """Writes the market files and the publication into a folder."""
     day = Great(folder, runs, zones, bids)
     day.files()
-    day.write("feed.jsonl", day.feed())
+    day.write("publication.txt", day.publication())

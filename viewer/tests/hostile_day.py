@@ -1,11 +1,9 @@
-"""Names that try to leave the page's data, in the market files and the feed of a day.
+"""Names that try to leave the page's data, in the market files and the publication of a day.
 
-The program refuses such names, and `show` refuses a feed that has them; so that the walls behind these are tested too,
-the page of this day is made past that check.
+The program refuses such names, and so does `show`; so that the walls behind these are tested too, the page of this day
+is made past that check.
 """
-import csv
-import json
-import os
+from dataclasses import fields, is_dataclass, replace
 
 NAMES = {
     "A": "</script><script>window.hit=1</script>",
@@ -20,25 +18,13 @@ NAMES = {
 
 
 def renamed(value):
+    """A folder, a publication, or a part of one, with these names."""
     if isinstance(value, str):
         return NAMES.get(value, value)
     if isinstance(value, list):
         return [renamed(item) for item in value]
-    if isinstance(value, dict):
-        return {key: renamed(item) for key, item in value.items()}
+    if isinstance(value, tuple):
+        return type(value)(*map(renamed, value)) if hasattr(value, "_fields") else tuple(map(renamed, value))
+    if is_dataclass(value):
+        return replace(value, **{field.name: renamed(getattr(value, field.name)) for field in fields(value)})
     return value
-
-
-def rename_market(folder):
-    """Renames what the folder's market files name."""
-    for file in ("zones.csv", "borders.csv", "bids.csv", "demands.csv"):
-        path = os.path.join(folder, file)
-        with open(path, newline="", encoding="utf-8") as page:
-            head, *rows = csv.reader(page)
-        with open(path, "w", newline="", encoding="utf-8") as page:
-            csv.writer(page).writerows([head, *renamed(rows)])
-
-
-def renamed_lines(feed):
-    """The objects of a feed's lines, renamed."""
-    return [renamed(json.loads(line)) for line in feed.splitlines()]

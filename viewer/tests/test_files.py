@@ -6,24 +6,23 @@ import os
 import unittest
 from unittest import mock
 
-from days import Days, change, changed, script
+from days import PROGRAM, Days, change, script
 
-from making import clock
-from making.damage import Damaged
-from making.day_parts import Day
-from making.feed import parts
-from making.market_files import MarketFiles
+from making.day_parts import DayParts
 from making.page import Page, json_text
+from mari import Day, Folder, MariError, Program, iter_parts
+from mari.publication import open_text
 
 show = script("show")
 
 
-def made(folder, feed):
+def made(folder):
     """(summary, parts by name)."""
-    whole, found = Day(MarketFiles(folder)), {}
-    for kind, value in parts(feed.splitlines(keepends=True)):
-        found.update(whole.take(kind, value))
-    return whole.summary(), found
+    day, found = DayParts(Folder.read(folder)), {}
+    with open_text(folder) as lines:
+        for part in iter_parts(lines):
+            found.update(day.take(part))
+    return day.summary(), found
 
 
 class FileTest(unittest.TestCase):
@@ -33,7 +32,7 @@ class FileTest(unittest.TestCase):
         cls.addClassCleanup(cls.days.close)
 
     def made(self, name):
-        return made(*self.days.day(name))
+        return made(self.days.day(name))
 
 
 class Sound(FileTest):
@@ -42,7 +41,7 @@ class Sound(FileTest):
         self.assertEqual(summary["runs"], [{
             "run": 1, "quarter": 1, "kind": "scheduled", "reference": 4000, "asked": [80, 0],
             "price": [2000, 6000], "welfare": "799712000", "rent": "200000",
-            "activated": [80, 0], "served": [80, 0], "rejected": 0}])
+            "activated": [80, 0], "served": [80, 0], "unserved": 0, "rejected": 0}])
         self.assertEqual(found["run-1"]["borders"], {"flow": [50], "rent": ["200000"], "limit": [50], "back": [50]})
 
     def test_a_direct_run_finds_what_is_left(self):
@@ -55,24 +54,59 @@ class Sound(FileTest):
         limits = [found[f"run-{run}"]["borders"]["limit"] for run in (1, 2)]
         self.assertNotEqual(*limits)
 
+    def test_a_direct_run_has_the_room_that_flows_left(self):
+        """The scheduled run fills 50 MW to B; then none is left there, and 100 MW back. The next quarter begins anew."""
+        folder = self.days.market("two-zones")
+        change(folder, "runs.csv", "1,1,scheduled,40.00", "1,1,scheduled,40.00\n2,1,direct,40.00\n3,2,scheduled,40.00")
+        change(folder, "demands.csv", "1,B,80,", "1,B,80,\n2,B,5,")
+        Program(PROGRAM).clear(folder)
+        _, found = made(folder)
+        room = [[found[f"run-{run}"]["borders"][way] for way in ("limit", "back")] for run in (1, 2, 3)]
+        self.assertEqual(room, [[[50], [50]], [[0], [100]], [[50], [50]]])
+
     def test_rejected_in_the_money(self):
         summary, found = self.made("paradox-bid")
         self.assertEqual(summary["runs"][0]["rejected"], 1)
-        self.assertEqual(found["run-1"]["rejected"], [1])
+        self.assertEqual(summary["runs"][0]["unserved"], 10)
+        self.assertEqual(summary["states"][found["run-1"]["reasons"]["state"][1]], "rejected in the money")
         self.assertEqual(found["run-1"]["tree"], {"items": "Box", "zones": {2: [1]}, "bounds": {1: [9999900, 9999900]}})
 
     def test_money_is_text(self):
         _, found = self.made("fair")
-        rents = [rent for name, part in found.items() if name.startswith("run-") for rent in part["borders"]["rent"]]
+        runs = [part for name, part in found.items() if name.startswith("run-")]
+        rents = [rent for part in runs for rent in part["borders"].get("rent", [])]
         self.assertEqual({type(rent) for rent in rents}, {str})
 
-    def test_the_clock(self):
-        rule = "CET-1CEST,M3.5.0,M10.5.0/3"
-        spring = clock.times("2025-03-30", rule, 92)
-        self.assertEqual([spring[0], spring[7], spring[8], spring[92]], ["00:00", "01:45", "03:00", "00:00"])
-        autumn = clock.times("2025-10-26", rule, 100)
-        self.assertEqual([autumn[8], autumn[12], autumn[16]], ["02:00", "02:00", "03:00"])
-        self.assertEqual(clock.times("2025-10-26", "../../etc/passwd", 96)[4], "01:00")
+    def test_the_words_are_those_of_explain(self):
+        folder = self.days.day("fair")
+        _, found = made(folder)
+        words = [text for name, part in found.items() if name.startswith("run-") for text in part["reasons"]["text"]]
+        self.assertEqual(words, [why.text for why in Day.read(folder).reasons()])
+
+    def test_the_pay_of_bids_is_what_the_ledger_says(self):
+        folder = self.days.day("fair")
+        _, found = made(folder)
+        for line in Program(PROGRAM).feed(folder)[1:-1]:
+            part = found[f"run-{line['run']}"]
+            providers, paid = found[f"quarter-{line['quarter']}"]["provider"], {}
+            for place, pay in zip(part["bids"]["place"], part["bids"]["pay"]):
+                paid[providers[place]] = paid.get(providers[place], 0) + int(pay)
+            for row in line.get("providers", ()):
+                self.assertEqual(paid[row["name"]], row["amount"])
+
+    def test_bids_without_a_run(self):
+        folder = self.days.market("two-zones")
+        change(folder, "bids.csv", "b1,P2,B,1", "c1,P2,B,7,up,60.00,0,100,both\nb1,P2,B,1")
+        Program(PROGRAM).clear(folder)
+        _, found = made(folder)
+        self.assertEqual(found["without-run"]["name"], ["c1"])
+
+    def test_positions(self):
+        folder = self.days.day("two-zones")
+        self.assertIsNone(made(folder)[0]["positions"])
+        with open(os.path.join(folder, "positions.csv"), "w", encoding="ascii") as page:
+            page.write("zone,x,y\nB,10,51.5\nA,4,52\n")
+        self.assertEqual(made(folder)[0]["positions"], [[4, 52], [10, 51.5]])
 
     def test_json_ends_no_script(self):
         text = json_text({"</script>": ["<!--", "&", "\u2028"]})
@@ -81,62 +115,71 @@ class Sound(FileTest):
 
 
 class Damage(FileTest):
-    def fault(self, folder, feed):
-        with self.assertRaises(Damaged) as caught:
-            made(folder, feed)
+    def fault(self, folder):
+        with self.assertRaises(MariError) as caught:
+            made(folder)
         return str(caught.exception)
 
-    def test_feeds(self):
-        folder, feed = self.days.day("linked-day")
+    def test_publications(self):
         for old, new, said in (
-                (b'"welfare":49994500', b'"welfare":49994500.5', "line 2: its welfare isn't one of a feed"),
-                (b'"welfare":49994500,', b"", "line 2: has no welfare"),
-                (b'"run":2', b'"run":3', "line 3: is the block of run 3, which isn't the next one"),
-                (b'"id":"u"', b'"id":"zz"', "line 4: names a bid zz"),
-                (b'"id":"u"', b'"id":"<u>"', "line 4: its bids isn't one of a feed"),
-                (b'"mw":3', b'"mw":true', "line 3: its bids isn't one of a feed"),
-                (b'"direct"', b'"scheduled"', "line 3: has another quarter hour or kind"),
-                (b'{"bids":[{"id":"u"', b'{"bids":[{"id":u', "line 4: isn't JSON"),
-                (b'"date":"2025-03-12"', b'"date":"2025-03-13"', "line 1: is of another date"),
-                (b'"tree":[{"bound":[7000]}]', b'"tree":["leaf"]', "line 4: its tree isn't one of a feed")):
+                ("welfare 49994500", "welfare 49994500.5", "line 3: '49994500.5' isn't a whole number"),
+                ("welfare 49994500\n", "", "line 3: should be the line welfare"),
+                ("end 2", "end 3", "should be end 2"),
+                ("run 2 1 direct", "run 3 1 direct", "should be end 3"),
+                ("bid u 10", "bid zz 10", "run 3 has the bid zz, which isn't of its quarter hour"),
+                ("bid u 10", "bid <u> 10", "names a bid by what is no name"),
+                ("run 2 1 direct", "run 2 1 scheduled", "run 2 has another quarter hour or kind"),
+                ("mari 1 2025-03-12", "mari 1 2025-03-13", "is of another day than day.csv"),
+                ("bound 70.00", "leaf 70.00", "should be an item of the certificate")):
             with self.subTest(new=new):
-                self.assertIn(said, self.fault(folder, changed(feed, old, new)))
+                folder = self.days.day("linked-day")
+                change(folder, "publication.txt", old, new)
+                self.assertIn(said, self.fault(folder))
+
+    def test_a_run_that_is_missing(self):
+        folder = self.days.day("linked-day")
+        with open(os.path.join(folder, "publication.txt"), encoding="ascii") as page:
+            text = page.read()
+        last = text[text.index("run 4 "):text.index("total-operator")]
+        change(folder, "publication.txt", last, "")
+        change(folder, "publication.txt", "done 4 0", "done 3 0")
+        self.assertIn("has the totals, but runs are missing", self.fault(folder))
 
     def test_market_files(self):
         for file, old, new, said in (
-                ("zones.csv", "zone,operator", "zone", "line 1: the header isn't zone,operator"),
-                ("bids.csv", "y,P,Z", "y,P,Q", "there is no zone Q"),
-                ("bids.csv", "10.00,0,10", "ten,0,10", "line 2: ten isn't a price"),
-                ("runs.csv", "1,1,sch", "7,1,sch", "line 2: isn't the next run")):
+                ("zones.csv", "zone,operator", "zone", "zones.csv line 1: the first record isn't zone,operator"),
+                ("bids.csv", "y,P,Z", "y,P,Q", "'Q' isn't a zone of zones.csv"),
+                ("bids.csv", "10.00,0,10", "ten,0,10", "bids.csv line 2, field price: 'ten' isn't a price"),
+                ("runs.csv", "1,1,sch", "7,1,sch", "runs.csv line 2, field run: '7' isn't the next run")):
             with self.subTest(file=file, new=new):
-                folder, feed = self.days.day("linked-day")
+                folder = self.days.day("linked-day")
                 change(folder, file, old, new)
-                self.assertIn(said, self.fault(folder, feed))
+                self.assertIn(said, self.fault(folder))
 
-    def test_cut_feeds(self):
-        folder, feed = self.days.day("linked-day")
-        for size in [*range(0, len(feed), 37), len(feed) - 1]:
-            self.fault(folder, feed[:size])
-
-    def test_a_refused_publication(self):
-        folder, feed = self.days.day("linked-day")
-        refused = b"".join(feed.splitlines(keepends=True)[:2]) + b"refused publication.txt 30 11 BadLine\n"
-        self.assertEqual(self.fault(folder, refused),
-                         "feed, line 3: the feed was broken off: refused publication.txt 30 11 BadLine")
+    def test_cut_publications(self):
+        folder = self.days.day("linked-day")
+        path = os.path.join(folder, "publication.txt")
+        with open(path, encoding="ascii") as page:
+            text = page.read()
+        for size in [*range(0, len(text), 37), len(text) - 1]:
+            with open(path, "w", encoding="ascii") as page:
+                page.write(text[:size])
+            self.fault(folder)
 
 
 class Showing(FileTest):
     def test_the_runs_before_a_fault_are_shown(self):
-        folder, feed = self.days.day("linked-day")
+        folder = self.days.day("linked-day")
+        change(folder, "publication.txt", "run 3 2 scheduled published", "run 3 2 scheduled")
         written = []
-        fault = show.show(folder, feed.splitlines(keepends=True)[:3], Page(written.append, "d3"))
-        self.assertEqual(fault, "feed, line 3: is the last line, and the totals are missing")
+        fault = show.show(folder, Page(written.append, "d3"))
+        self.assertIn("isn't the heading of a run", fault)
         text = "".join(written)
         self.assertIn('id="run-2"', text)
-        self.assertIn('"fault":"feed, line 3: is the last line', text)
+        self.assertIn(json_text(fault), text)
 
     def test_d3_is_missed_in_one_line(self):
-        folder, _ = self.days.day("two-zones")
+        folder = self.days.day("two-zones")
         said = io.StringIO()
         with mock.patch.object(show, "D3", os.path.join(folder, "d3.min.js")), contextlib.redirect_stderr(said):
             self.assertEqual(show.main([folder]), 4)

@@ -1,47 +1,21 @@
-"""What a person sees of a page in chromium, opened from a file."""
-import json
+"""What a person reads off a page in chromium, opened from a file, and what can't harm it."""
 import os
 import re
 import subprocess
 import unittest
 
-from browser import Browser
-from days import Days, TOP, change, changed, PROGRAM
-from hostile_day import NAMES, rename_market, renamed_lines
+from days import TOP, change, PROGRAM
+from hostile_day import NAMES, renamed
+from page_test import PageTest, open_browser
 from pictures import take_pictures
 
-from making.day_parts import Day
-from making.market_files import MarketFiles
+from making.day_parts import DayParts
 from making.page import D3, Page
+from mari import Day
 
 from selenium.webdriver.common.keys import Keys
 
-
-def setUpModule():
-    """One browser and the same days for all tests, since to make them takes longer than most tests do."""
-    PageTest.days, PageTest.browser = Days(), Browser()
-    unittest.addModuleCleanup(PageTest.days.close)
-    unittest.addModuleCleanup(PageTest.browser.close)
-
-
-class PageTest(unittest.TestCase):
-    def show(self, name, fragment=""):
-        """Opens the page of a day."""
-        self.browser.open(self.days.page_of(name), fragment)
-
-    def cells(self, selector):
-        return [[cell.text for cell in row.find_elements("css selector", "td")]
-                for row in self.browser.all(f"{selector} tbody tr")]
-
-    def figures(self):
-        words = self.browser.text("#figures").split("\n")
-        return dict(zip(words[::2], words[1::2]))
-
-    def key(self, *keys):
-        self.browser.one("main").send_keys(*keys)
-
-    def tearDown(self):
-        self.assertEqual(self.browser.faults(), [])
+setUpModule = open_browser
 
 
 class Reading(PageTest):
@@ -54,8 +28,9 @@ class Reading(PageTest):
         self.assertEqual(prices, ["20.00", "60.00"])
         self.key(Keys.ARROW_DOWN)
         self.assertEqual(self.figures()["Price in B"], "60.00 EUR/MWh")
-        self.assertEqual(self.cells("#merit-order")[0][:7],
-                         ["b1", "P2", "up", "60.00", "100", "30", "450.0000"])
+        self.assertEqual(self.cells("#merit-order")[0][:8],
+                         ["b1", "P2", "activated in part", "up", "60.00", "100", "30", "450.0000"])
+        self.assertEqual(self.browser.text("#merit-order tr.below"), "30 of 100 MW at 60.00, so P2 gets 450.0000 euro")
         self.assertIn("Demand 80 MW, served 80 MW = up 30 \u2212 down 0 + net import 50 MW",
                       self.browser.text("#merit-order .balance"))
 
@@ -68,10 +43,13 @@ class Reading(PageTest):
 
     def test_unpublished_runs(self):
         self.show("fair", "#run=2&zone=AT")
-        self.assertEqual(self.browser.text("#count"), "14 published, 2 unpublished")
+        self.assertEqual(self.browser.text("#count"), "14 published, 2 unpublished, 1 with demand unserved")
         self.assertEqual(self.figures()["Run"], "unpublished after 59 nodes")
         self.assertIn("Run 2 is unpublished", self.browser.text("#certificate"))
         self.assertEqual(len(self.browser.all("rect.unpublished")), 2)
+        states = [row[2] for row in self.cells("#merit-order")]
+        self.assertIn("run not published", states)
+        self.assertGreater(len(self.browser.all("#merit-order path.block")), 0)
 
     def test_a_rejected_bid_leads_to_its_zone(self):
         self.show("fair", "#run=14&zone=PT")
@@ -81,24 +59,26 @@ class Reading(PageTest):
         bid.click()
         self.assertIn(f"Price in {zone}", self.figures())
 
-    def test_bids_are_paid_what_the_ledger_says(self):
+    def test_unserved_demand(self):
+        """10 of 50 MW at any price aren't met, though an indivisible bid of 20 MW stands by."""
+        self.show("paradox-bid")
+        self.assertEqual(self.figures()["Unserved at the cap"], "10 MW, inelastic")
+        self.assertEqual(len(self.browser.all("#figures .alarm")), 1)
+        self.assertEqual(self.browser.text("#count"), "1 published, 1 with demand unserved")
+        self.assertEqual(len(self.browser.all("#day-chart .lack")), 1)
+        self.show("two-zones")
+        self.assertEqual(self.figures()["Unserved at the cap"], "0 MW, inelastic")
+        self.assertEqual(len(self.browser.all("#figures .alarm")), 0)
+
+    def test_the_trees_fit_the_gated_bids(self):
         self.show("fair")
         wrong = self.browser.driver.execute_async_script("""
           const done = arguments[arguments.length - 1];
           (async () => {
-            const day = parts_module.summary();
             const wrong = [];
-            for (const { run } of day.runs) {
-              const view = await run_module.runView(day, run);
-              if (!view.run) continue;
-              const paid = new Map();
-              for (const bid of view.bids) {
-                paid.set(bid.provider, (paid.get(bid.provider) || 0n) + bid.amount);
-              }
-              view.run.providers.name.forEach((name, at) => {
-                if (paid.get(name) !== BigInt(view.run.providers.amount[at])) wrong.push([run, name]);
-              });
-              if (!view.nodes) wrong.push([run, "tree"]);
+            for (const { run } of parts_module.summary().runs) {
+              const view = await run_module.runView(parts_module.summary(), run);
+              if (view.run && !view.nodes) wrong.push(run);
             }
             return wrong;
           })().then(done, (fault) => done(String(fault)));""")
@@ -128,112 +108,51 @@ class Causes(PageTest):
         change(folder, "demands.csv", "1,B,80,", f"1,B,{demand},")
         with open(os.path.join(folder, "publication.txt"), "wb") as publication:
             subprocess.run([PROGRAM, "clear", folder], stdout=publication, check=True)
-        feed = subprocess.run([PROGRAM, "feed", folder], stdout=subprocess.PIPE, check=True).stdout
-        self.browser.open(self.days.page(folder, feed)[0])
-        return next(line.text for line in self.browser.all("#rejected li") if line.text.startswith("b2 "))
+        self.browser.open(self.days.page(folder)[0])
+        said = next(line.text for line in self.browser.all("#rejected li") if line.text.startswith("b2 "))
+        [why] = [why.text for why in Day.read(folder).reasons() if why.bid == "b2"]
+        self.assertTrue(said.endswith(why), (said, why))
+        return said
 
     def test_no_consistent_prices(self):
         self.assertEqual(
             self.reason({"b2": "45.00,30,30"}, [], 60),
-            "b2 of P3 offers 30 MW or nothing, up, at 45.00 EUR/MWh. At B\u2019s price of 60.00 EUR/MWh it would gain "
-            "15.00 EUR/MWh, 112.5000 EUR over the quarter hour. With it, and every other gated bid as it is, there are "
-            "no consistent prices: the price can\u2019t fall from B to A, but orders need a higher one in B than "
-            "others allow in A.")
+            "b2 of P3, up at 45.00: at the price 60.00 of B it would gain 15.00 euro per MWh, 112.5000 euro in all, "
+            "but it runs 30 MW at least or not at all. With it, and every other gated bid as it is, there are no "
+            "consistent prices: the price can't fall from B to A, but orders need a higher one in B than others allow in A (the "
+            "certificate's conflict).")
 
     def test_no_greater_welfare(self):
         bids = {"b2": "59.00,30,30", "b3": "70.00,5,5"}
-        self.assertTrue(self.reason(bids, [], 60).endswith(
-            "With it there is no greater welfare: a bound of the certificate shows it."))
+        self.assertIn("there is no greater welfare (the certificate's bound).", self.reason(bids, [], 60))
 
     def test_no_balance(self):
-        self.assertTrue(self.reason({"b2": "45.00,200,200"}, [], 60).endswith(
-            "With it there is no balance: A, B couldn\u2019t send out what they would have too much."))
+        self.assertIn("there is no balance: A, B couldn't send out what they would have too much",
+                      self.reason({"b2": "45.00,200,200"}, [], 60))
 
     def test_its_group(self):
         bids = {"b3": "45.00,0,100", "b2": "46.00,0,100"}
         self.assertTrue(self.reason(bids, ["group,g,b3", "group,g,b2"], 170).endswith(
-            "Of its group g at most one bid runs, and b3 does."))
+            "but of its group g at most one bid runs, and b3 does"))
 
     def test_its_parent(self):
         bids = {"b3": "500.00,0,10", "b2": "45.00,0,100"}
         self.assertTrue(self.reason(bids, ["child,b2,b3"], 80).endswith(
-            "It runs only where its parent b3 does, which isn\u2019t activated."))
-
-
-class Picking(PageTest):
-    def test_keys_and_address(self):
-        self.show("fair", "#run=3&zone=FR")
-        self.key(Keys.ARROW_RIGHT, Keys.ARROW_DOWN)
-        self.browser.drawn(4)
-        self.assertEqual(self.browser.text("#when"), "quarter 4, 00:45\u201301:00, scheduled")
-        self.assertTrue(self.browser.driver.current_url.endswith("#run=4&zone=HU"))
-        self.key(Keys.END)
-        self.browser.drawn(16)
-        self.assertEqual(self.browser.text("#when"), "quarter 12, 02:45\u201303:00, direct")
-        self.browser.run("location.hash = '#run=5&zone=PL'")
-        self.browser.drawn(5)
-        self.assertIn("Price in PL", self.figures())
-
-    def test_a_click_in_the_day(self):
-        self.show("fair", "#run=1&zone=FR")
-        for number in (11, 6, 10, 9, 12):
-            spot = self.browser.run("""
-              const at = Array.from(document.querySelectorAll("#day-chart .bars.money.scheduled,"
-                + "#day-chart .bars.money.direct"))[0].ownerSVGElement.getBoundingClientRect();
-              const slots = strokes_module.slotsOf(parts_module.summary().runs);
-              const slot = slots[arguments[0] - 1];
-              const left = 74, right = at.width - 14;
-              return [at.left + left + (slot.start + slot.end) / 2 / 12 * (right - left),
-                at.top + 60];""", number)
-            for kind in ("mousePressed", "mouseReleased"):
-                self.browser.command("Input.dispatchMouseEvent", type=kind, x=spot[0], y=spot[1],
-                                     button="left", clickCount=1)
-            self.browser.drawn(number)
-            self.assertEqual(self.browser.one("#run").get_attribute("value"), str(number))
-
-    def test_a_click_on_a_zone(self):
-        self.show("fair")
-        zones = self.browser.all(".zones g")
-        [zone for zone in zones if "\nES" in "\n" + zone.text][0].click()
-        self.assertIn("Price in ES", self.figures())
-        self.assertIn("ES,", self.browser.text("#merit-order h2"))
-
-    def test_the_ledger_is_sorted(self):
-        self.show("fair")
-        head = [h for h in self.browser.all("#ledger .operators th button") if "Net" in h.text][0]
-        nets = lambda: [float(row[3].replace(",", "").replace("\u2212", "-"))   # noqa: E731
-                        for row in self.cells("#ledger .operators")]
-        head.click()
-        self.assertEqual(nets(), sorted(nets(), reverse=True))
-        head.click()
-        self.assertEqual(nets(), sorted(nets()))
-        self.assertAlmostEqual(sum(nets()), 0)
-        run = nets()
-        self.browser.one("#ledger input[value=day]").click()
-        self.assertNotEqual(nets(), run)
-        self.assertEqual(self.browser.one("#ledger .operators th[aria-sort]").text[:3], "Net")
-
-    def test_layout_is_the_same_in_each_run(self):
-        places = lambda: [zone.get_attribute("transform")                       # noqa: E731
-                          for zone in self.browser.all(".zones g")]
-        self.show("fair", "#run=1")
-        first = places()
-        self.show("fair", "#run=9")
-        self.assertEqual(places(), first)
+            "but it runs only where its parent b3 does, which isn't activated"))
 
 
 class Harm(PageTest):
     def show_hostile(self):
-        """Opens the page of a day with hostile names, which is made past the check of the feed."""
-        folder, feed = self.days.day("two-zones")
-        rename_market(folder)
+        """Opens the page of a day with hostile names, which is made past the check of files and text."""
+        folder = self.days.day("two-zones")
+        found = Day.read(folder)
         path = os.path.join(folder, "day.html")
         with open(D3, encoding="utf-8") as d3, open(path, "w", encoding="utf-8", newline="\n") as text:
-            page, day = Page(text.write, d3.read()), Day(MarketFiles(folder))
+            page, day = Page(text.write, d3.read()), DayParts(renamed(found.folder))
             page.start()
-            for kind, value in zip(("head", "published", "totals"), renamed_lines(feed)):
-                for part in day.take(kind, value):
-                    page.part(*part)
+            for part in (found.publication, *found.publication.blocks, found.publication):
+                for name, value in day.take(renamed(part)):
+                    page.part(name, value)
             page.end(day.summary())
         self.browser.open(path)
 
@@ -251,35 +170,36 @@ class Harm(PageTest):
         self.assertEqual(self.browser.run("return new URLSearchParams(location.hash.slice(1)).get('zone')"), NAMES["B"])
         self.assertEqual(self.cells("#merit-order")[0][0], "constructor")
 
-    def test_a_hostile_feed_is_refused(self):
-        folder, feed = self.days.day("two-zones")
-        rename_market(folder)
-        hostile = "".join(json.dumps(line) + "\n" for line in renamed_lines(feed)).encode()
-        path, code, _ = self.days.page(folder, hostile)
+    def test_a_hostile_publication_is_refused(self):
+        folder = self.days.day("two-zones")
+        change(folder, "publication.txt", "bid a1 50", f"bid {NAMES['B'].replace(' ', '')} 50")
+        path, code, _ = self.days.page(folder)
         self.browser.open(path, wait=False)
         self.assertEqual(code, 3)
-        self.assertEqual(self.browser.text("#fault"), "The day is damaged. feed, line 2: its bids isn't one of a feed.")
+        self.assertEqual(self.browser.text("#fault"),
+                         "The day is damaged. publication.txt line 7: names a bid by what is no name.")
         self.assertIsNone(self.browser.run("return window.hit || null"))
 
     def test_damage_is_said_and_the_rest_shown(self):
-        folder, feed = self.days.day("fair")
-        path, code, _ = self.days.page(folder, changed(feed, b'"run":6', b'"run":"<b>6"'))
+        folder = self.days.day("fair")
+        change(folder, "publication.txt", "\nend 6\n", "\nend <b>6\n")
+        path, code, _ = self.days.page(folder)
         self.browser.open(path)
         self.assertEqual(code, 3)
-        self.assertEqual(self.browser.text("#fault"), "The day is damaged. feed, line 7: its run isn't one of a feed. "
-                         "The 5 of 16 runs before it are shown.")
+        self.assertRegex(self.browser.text("#fault"), r"The day is damaged\. publication\.txt line [0-9]+: '<b>6' isn't "
+                         r"a whole number\. The 5 of 16 runs before it are shown\.")
         self.assertEqual(self.browser.text("#of"), "of 5")
 
     def test_a_page_without_a_day(self):
-        folder, feed = self.days.day("fair")
+        folder = self.days.day("fair")
         os.remove(os.path.join(folder, "zones.csv"))
-        path, _, _ = self.days.page(folder, feed)
+        path, _, _ = self.days.page(folder)
         self.browser.open(path, wait=False)
-        self.assertEqual(self.browser.text("#fault"), "The day is damaged. zones.csv: the folder hasn't this file.")
+        self.assertIn("The day is damaged. zones.csv is missing", self.browser.text("#fault"))
         self.assertFalse(self.browser.one("main").is_displayed())
 
     def test_a_page_that_was_cut(self):
-        path, _, _ = self.days.page(*self.days.day("fair"))
+        path, _, _ = self.days.page(self.days.day("fair"))
         with open(path, encoding="utf-8", newline="") as page:
             text = page.read()
         with open(path, "w", encoding="utf-8", newline="") as page:
@@ -294,61 +214,6 @@ class Harm(PageTest):
             "(entry) => !/^(data|blob):/.test(entry.name)).length"), 0)
         self.assertIn("default-src 'none'", self.browser.run(
             "return document.querySelector('meta[http-equiv]').content"))
-
-
-class Manners(PageTest):
-    def contrast(self, dark):
-        self.browser.command("Emulation.setEmulatedMedia", features=[
-            {"name": "prefers-color-scheme", "value": "dark" if dark else "light"}])
-        return self.browser.run("""
-          const light = (text) => {
-            const part = text.match(/[0-9.]+/g).slice(0, 3).map((v) => {
-              const s = v / 255; return s <= 0.03928 ? s / 12.92 : ((s + 0.055) / 1.055) ** 2.4; });
-            return 0.2126 * part[0] + 0.7152 * part[1] + 0.0722 * part[2]; };
-          const ground = light(getComputedStyle(document.querySelector("section")).backgroundColor);
-          const least = {};
-          for (const [name, key] of [["td", "color"], [".reading", "color"], ["#when", "color"],
-              [".axis text", "fill"], [".reasons button", "color"], [".bars.up", "fill"],
-              [".bars.down", "fill"], [".chosen .direct", "stroke"]]) {
-            const found = document.querySelector(name);
-            if (!found) continue;
-            const ink = light(getComputedStyle(found)[key]);
-            least[name] = (Math.max(ink, ground) + 0.05) / (Math.min(ink, ground) + 0.05);
-          }
-          return least;""")
-
-    def test_contrast(self):
-        self.show("fair", "#run=14")
-        for dark in (True, False):
-            for name, ratio in self.contrast(dark).items():
-                drawn = name.startswith((".bars", ".chosen"))
-                self.assertGreaterEqual(ratio, 3 if drawn else 4.5, (name, dark))
-
-    def test_names_and_roles(self):
-        self.show("fair")
-        self.assertEqual(self.browser.run("""
-          const named = (e) => e.getAttribute("aria-label") || e.textContent.trim()
-            || e.querySelector("title");
-          return [...document.querySelectorAll("svg, button, section, .rows")].filter((e) =>
-            !(e.getAttribute("aria-labelledby") || named(e))).length
-            + [...document.querySelectorAll("svg:not([role])")].length
-            + [...document.querySelectorAll("th:not([scope])")].length
-            + [...document.querySelectorAll("input, select")].filter((e) => !e.labels.length).length
-            """), 0)
-        self.assertIn("Run 1, quarter 1", self.browser.one("#spoken").get_attribute("textContent"))
-
-    def test_what_has_less_room_is_drawn_smaller(self):
-        self.show("fair")
-        self.assertEqual(self.browser.run("""
-          return [...document.querySelectorAll("section")].filter((panel) => {
-            panel.style.width = "320px";
-            return panel.querySelector("svg")?.getBoundingClientRect().right > panel.getBoundingClientRect().right;
-          }).map((panel) => panel.id)"""), [])
-
-    def test_print(self):
-        self.show("fair")
-        made = self.browser.command("Page.printToPDF", printBackground=True)["data"]
-        self.assertGreater(len(made), 20_000)
 
 
 class Whole(PageTest):

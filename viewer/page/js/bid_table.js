@@ -1,4 +1,4 @@
-// The table of a zone's bids in a run.
+// The table of a zone's bids in a run, each with its reason below it.
 
 import { price, whole, euros } from "./numbers.js";
 import { Table } from "./table.js";
@@ -13,10 +13,12 @@ function chips(cell, bid) {
   }
 }
 
+function kindText(bid) {
+  return bid.tags.map((tag) => tag.text).join(" ");
+}
+
 function stateOf(bid) {
-  if (bid.rejected) return "rejected";
-  if (!bid.mw) return "";
-  return bid.mw === bid.offered ? "activated" : "partly";
+  return bid.mw && bid.mw < bid.offered ? "activated in part" : bid.state;
 }
 
 export class BidTable {
@@ -24,6 +26,7 @@ export class BidTable {
     const columns = [
       { head: "Bid", value: (bid) => bid.name, text: (bid) => bid.name },
       { head: "Provider", value: (bid) => bid.provider, text: (bid) => bid.provider },
+      { head: "State", value: stateOf, text: stateOf },
       { head: "Way", value: (bid) => (bid.up ? 1 : 0), text: (bid) => (bid.up ? "up" : "down") },
       { head: "Price", unit: "EUR/MWh", number: true, value: (bid) => bid.price,
         text: (bid) => price(bid.price) },
@@ -33,16 +36,16 @@ export class BidTable {
         text: (bid) => whole(bid.mw) },
       { head: "Is paid", unit: "EUR", number: true, value: (bid) => bid.amount,
         text: (bid) => (bid.mw ? euros(bid.amount) : "") },
-      { head: "State", value: stateOf, text: stateOf },
-      { head: "Kind", value: (bid) => bid.tags.map((tag) => tag.text).join(" "), draw: chips },
+      { head: "Kind", value: kindText, text: kindText, draw: chips },
     ];
-    this.table = new Table(host, { label: "Bids of the zone", columns,
-      mark: (bid) => (bid.rejected ? "refused" : bid.mw ? "runs" : "") });
+    this.table = new Table(host, { label: "Bids of the zone", file: "bids", columns,
+      below: { head: "Why", text: (bid) => bid.why },
+      mark: (bid) => (bid.rejected ? "refused" : bid.mw ? "runs" : bid.withheld ? "withheld" : "") });
   }
 
   draw(bids) {
-    const order = bids.slice().sort((a, b) => Number(b.up) - Number(a.up)
-      || (a.up ? a.price - b.price : b.price - a.price) || a.at - b.at);
+    const order = bids.slice().sort((a, b) => Number(a.withheld) - Number(b.withheld)
+      || Number(b.up) - Number(a.up) || (a.up ? a.price - b.price : b.price - a.price) || a.place - b.place);
     this.table.draw(order);
   }
 }

@@ -43,8 +43,8 @@ export class Certificate {
     if (!view.run) {
       this.note.text(unpublishedText(view.short, this.day.budget));
     } else if (!nodes) {
-      this.note.text("The tree doesn\u2019t fit the gated bids of the run: the feed and the market files "
-        + "aren\u2019t of one day.");
+      this.note.text("The tree doesn\u2019t fit the gated bids of the run: the publication and the market "
+        + "files aren\u2019t of one day.");
     } else if (nodes.length <= DRAWN) {
       this.drawTree(placed(nodes), view);
     } else {

@@ -1,13 +1,14 @@
 // The day: prices, MW, rent and welfare over the quarters, on one axis; a click picks a run.
 
 import { price, whole, rough, euros, sum } from "./numbers.js";
-import { usualRange, widened } from "./colour.js";
-import { shortText } from "./sentences.js";
+import { usualPrices, usualRange, widened } from "./colour.js";
+import { shortText, unservedText } from "./sentences.js";
 import { readingOf, sizeTo, spotOf } from "./frame.js";
 import { ZonePrices } from "./zone_prices.js";
-import { slotsOf, tenths, steps, bars, diamonds } from "./strokes.js";
+import { slotsOf, tenths, steps, stacked, bars, diamonds } from "./strokes.js";
+import { save } from "./csv.js";
 
-const SIDE = { left: 74, right: 14 };
+const SIDE = { left: 74, right: 20 };
 const LANES = [
   { name: "price", head: "Price", unit: "EUR/MWh", high: 104 },
   { name: "zones", head: "Price by zone" },
@@ -20,6 +21,13 @@ const HEAD = 14;
 const MARKS = 10;
 const AXIS = 26;
 
+// The prices of all published runs as records.
+function priceRecords(day) {
+  const rows = day.runs.filter((run) => run.price).flatMap((run) => run.price.map((cents, zone) => [run.run,
+    run.quarter, day.times[run.quarter - 1], run.kind, day.zones[zone], (cents / 100).toFixed(2)]));
+  return [["run", "quarter", "time", "kind", "zone", "price"], ...rows];
+}
+
 export class DayChart {
   constructor(host, day, selection) {
     Object.assign(this, { host, day, selection });
@@ -28,9 +36,9 @@ export class DayChart {
     this.published = this.slots.filter((slot) => slot.run.price);
     const first = this.slots.length ? Math.floor(this.slots[0].start) : 0;
     const last = this.slots.length ? Math.ceil(this.slots[this.slots.length - 1].end) : 1;
-    this.whole = [first, Math.max(last, Math.min(first + 12, day.quarters), first + 1)];
+    this.whole = [first, Math.max(last, first + 1)];
     this.window = this.whole;
-    this.range = widened(usualRange(this.published.flatMap((slot) => slot.run.price)));
+    this.range = widened(usualPrices(this.published.flatMap((slot) => slot.run.price)));
     this.zonePrices = new ZonePrices(day, this.range);
     LANES[1].high = this.zonePrices.high;
     this.frame();
@@ -43,9 +51,14 @@ export class DayChart {
     legend.html(`<span><i class="key scheduled"></i> scheduled</span>
       <span><i class="key direct"></i> direct</span>
       <span><i class="key others"></i> other zones</span> <span><i class="key up"></i> up</span>
-      <span><i class="key down"></i> down</span> <span><i class="key asked"></i> demand</span>
-      <span><i class="key unpublished"></i> unpublished</span>
-      <span><b class="flag">\u25be</b> rejected in the money</span>`);
+      <span><i class="key down"></i> down</span>
+      <span><i class="key up light"></i><i class="key down light"></i> of direct runs</span>
+      <span><i class="key asked"></i> demand</span> <span><i class="key unpublished"></i> unpublished</span>
+      <span><b class="flag">\u25be</b> rejected in the money</span>
+      <span><b class="flag">\u25a0</b> demand unserved</span>`);
+    legend.append("button").attr("type", "button").attr("class", "csv").text("CSV")
+      .attr("title", "The prices of all runs, as a CSV file")
+      .on("click", () => save("prices.csv", priceRecords(this.day)));
     this.back = legend.append("button").attr("type", "button").text("whole day")
       .attr("hidden", true).on("click", () => this.zoom(this.whole));
     const svg = d3.select(this.host).append("svg").attr("role", "img");
@@ -164,8 +177,8 @@ export class DayChart {
     const runs = this.published.map((slot) => slot.run);
     if (lane.name === "rent" || lane.name === "welfare") {
       const all = sum(runs.map((run) => BigInt(run[lane.name])));
-      const range = usualRange(runs.map((run) => Number(run[lane.name]) / 400), 100);
-      const beyond = runs.filter((run) => Number(run[lane.name]) / 400 > range[1]).length;
+      const { stacks, range } = this.moneyOf(lane.name);
+      const beyond = stacks.filter((stack) => stack.to > range[1]).length;
       return `${lane.unit}, the day ${euros(all)}${beyond ? `, ${beyond} runs beyond the axis` : ""}`;
     }
     if (lane.name === "price") return lane.unit + this.beyondText();
@@ -188,27 +201,38 @@ export class DayChart {
     const { x } = this;
     const marks = this.lanes.append("g");
     for (const slot of this.slots) {
+      const { run } = slot;
       const middle = x((slot.start + slot.end) / 2);
       if (middle < SIDE.left || middle > this.width - SIDE.right) continue;
-      if (!slot.run.price) {
-        marks.append("rect").attr("class", "unpublished").attr("x", x(slot.start)).attr("y", 0)
-          .attr("width", Math.max(2, x(slot.end) - x(slot.start))).attr("height", this.bottom)
-          .append("title").text(`Run ${slot.run.run} is unpublished`);
-      } else if (slot.run.rejected) {
-        marks.append("path").attr("class", "flag")
-          .attr("d", `M${middle - 3.5},2h7l-3.5,6z`)
-          .append("title").text(`Run ${slot.run.run}: ${slot.run.rejected} bids rejected in the money`);
+      if (!run.price) {
+        const [left, right] = [x(run.quarter - 1), x(run.quarter)];
+        marks.append("rect").attr("class", "unpublished").attr("x", left).attr("y", 0)
+          .attr("width", Math.max(2, right - left)).attr("height", run.kind === "direct" ? MARKS : this.bottom)
+          .append("title").text(`Run ${run.run} is unpublished`);
+        continue;
+      }
+      if (run.rejected) {
+        marks.append("path").attr("class", "flag").attr("d", `M${middle - 3.5},2h7l-3.5,6z`)
+          .append("title").text(`Run ${run.run}: ${run.rejected} bids rejected in the money`);
+      }
+      if (run.unserved) {
+        marks.append("rect").attr("class", "flag lack").attr("x", middle - 3 + (run.rejected ? 8 : 0)).attr("y", 2)
+          .attr("width", 6).attr("height", 6).append("title").text(unservedText(run));
       }
     }
   }
 
-  // The runs of a kind with their places: prices of a scheduled one hold for the whole quarter.
-  strokes(kind, whole) {
+  // The published runs that are seen, of one kind or of both, each over its quarter.
+  strokes(kind) {
     const [from, to] = this.window;
-    return this.seen.filter((slot) => slot.run.kind === kind).map((slot) => ({
-      left: tenths(this.x(Math.max(from, whole ? slot.run.quarter - 1 : slot.start))),
-      right: tenths(this.x(Math.min(to, whole ? slot.run.quarter : slot.end))),
-      run: slot.run }));
+    return this.seen.filter((slot) => !kind || slot.run.kind === kind).map(({ run }) => ({
+      left: tenths(this.x(Math.max(from, run.quarter - 1))), right: tenths(this.x(Math.min(to, run.quarter))), run }));
+  }
+
+  // The direct runs side by side where they are picked.
+  spots() {
+    return this.seen.filter((slot) => slot.run.kind === "direct").map(({ start, end, run }) => ({
+      left: tenths(this.x(start)), right: tenths(this.x(end)), run }));
   }
 
   drawPrices() {
@@ -216,7 +240,7 @@ export class DayChart {
       .nice(4).domain(), 4, whole);
     this.y = (cents) => y(cents / 100);
     const group = this.lanes.append("g").attr("class", "others");
-    [this.scheduled, this.direct] = [this.strokes("scheduled", true), this.strokes("direct", false)];
+    [this.scheduled, this.direct] = [this.strokes("scheduled"), this.strokes("direct")];
     this.day.zones.forEach((name, zone) => {
       const at = (run) => run.price[zone];
       group.append("path").attr("class", "scheduled").attr("d", steps(this.scheduled, at, this.y, true));
@@ -227,28 +251,37 @@ export class DayChart {
 
   drawMegawatts() {
     const value = (key, place) => (run) => (place ? -1 : 1) * run[key][place];
-    const most = (place) => d3.max(this.published, ({ run }) => Math.max(run.activated[place],
-      run.asked[place])) || 1;
-    const y = this.scale(LANES[2], [-most(1), most(0)], 3, rough);
+    const every = this.published.map(({ run }) => ({ run }));
+    const ends = (place) => ["activated", "asked"].flatMap((key) => stacked(every, value(key, place)))
+      .map((stack) => stack.to);
+    const y = this.scale(LANES[2], [d3.min(ends(1)) || -1, d3.max(ends(0)) || 1], 3, rough);
     const group = this.lanes.append("g");
-    for (const kind of ["scheduled", "direct"]) {
-      for (const place of [0, 1]) {
-        const strokes = this.strokes(kind, false);
+    for (const place of [0, 1]) {
+      const stacks = stacked(this.strokes(), value("activated", place));
+      for (const kind of ["scheduled", "direct"]) {
         group.append("path").attr("class", `bars ${place ? "down" : "up"} ${kind}`)
-          .attr("d", bars(strokes, value("activated", place), y));
-        group.append("path").attr("class", "asked")
-          .attr("d", steps(strokes, value("asked", place), y, true));
+          .attr("d", bars(stacks.filter((stack) => stack.run.kind === kind), y));
       }
+      const asked = stacked(this.strokes(), value("asked", place));
+      const lasts = new Map(asked.map((stack) => [stack.run.quarter, stack]));
+      const tops = [...lasts.values()].map(({ left, right, to }) => ({ left, right, run: { to } }));
+      group.append("path").attr("class", "asked").attr("d", steps(tops, (run) => run.to, y, true));
     }
   }
 
+  // The bars of all published runs for rent or welfare, in EUR, and the usual range of their ends.
+  moneyOf(key) {
+    const stacks = stacked(this.published.map(({ run }) => ({ run })), (run) => Number(run[key]) / 400);
+    return { stacks, range: usualRange(stacks.map((stack) => stack.to), 100) };
+  }
+
   drawMoney(lane, key) {
-    const value = (run) => Number(run[key]) / 400;
-    const [least, most] = usualRange(this.published.map(({ run }) => value(run)), 100);
+    const [least, most] = this.moneyOf(key).range;
     const y = this.scale(lane, [Math.min(0, least), Math.max(most, 1)], 2, rough);
+    const stacks = stacked(this.strokes(), (run) => Number(run[key]) / 400);
     for (const kind of ["scheduled", "direct"]) {
       this.lanes.append("path").attr("class", `bars money ${kind}`)
-        .attr("d", bars(this.strokes(kind, false), value, y));
+        .attr("d", bars(stacks.filter((stack) => stack.run.kind === kind), y));
     }
   }
 
@@ -289,7 +322,7 @@ export class DayChart {
       .attr("d", steps(this.scheduled, at, this.y, true));
     this.chosen.append("path").attr("class", "direct")
       .attr("d", steps(this.direct, at, this.y, false));
-    this.chosen.append("path").attr("class", "diamonds").attr("d", diamonds(this.direct, at, this.y));
+    this.chosen.append("path").attr("class", "diamonds").attr("d", diamonds(this.spots(), at, this.y));
     this.zonePrices.select(this.selection.zone);
     this.drawCursor(slot);
     this.read(this.selection.run);
@@ -297,13 +330,14 @@ export class DayChart {
 
   drawCursor(slot) {
     this.cursor.selectAll("*").remove();
-    const left = this.x(Math.max(slot.start, this.window[0]));
-    const width = Math.max(2, this.x(slot.end) - left);
+    const { quarter } = slot.run;
+    const left = this.x(Math.max(quarter - 1, this.window[0]));
+    const width = Math.max(2, this.x(Math.min(quarter, this.window[1])) - left);
     this.cursor.append("rect").attr("x", left).attr("y", 0).attr("width", width)
-      .attr("height", this.bottom + 2);
+      .attr("height", this.bottom + 2).classed("all", this.window[1] - this.window[0] === 1);
     const short = slot.run;
     if (!short.price) return;
-    this.cursor.append("circle").attr("cx", left + width / 2).attr("r", 3.5)
+    this.cursor.append("circle").attr("cx", this.x((slot.start + slot.end) / 2)).attr("r", 3.5)
       .attr("cy", this.y(short.price[this.selection.zone]));
   }
 }

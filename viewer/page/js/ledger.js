@@ -45,7 +45,7 @@ export class Ledger {
     const box = columns.append("div").attr("class", head.toLowerCase());
     const line = box.append("h3").text(head);
     const note = line.append("span").attr("class", "reading");
-    return { table: new Table(box.node(), { label: head, columns: list }), note };
+    return { table: new Table(box.node(), { label: head, file: head.toLowerCase(), columns: list }), note };
   }
 
   async draw(view) {

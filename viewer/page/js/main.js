@@ -13,6 +13,7 @@ import { Certificate } from "./certificate.js";
 import { Ledger } from "./ledger.js";
 import { listen } from "./keys.js";
 import { drawFacts } from "./facts.js";
+import { Find } from "./find.js";
 
 const byId = (name) => document.getElementById(name);
 const later = () => new Promise((done) => { setTimeout(done); });
@@ -26,8 +27,10 @@ function head(day, selection) {
   byId("date").textContent = day.date;
   document.title = `Mari: ${day.date}`;
   const without = day.runs.filter((run) => !run.price).length;
+  const lacking = day.runs.filter((run) => run.unserved).length;
   byId("count").textContent = `${whole(day.runs.length - without)} published`
-    + (without ? `, ${whole(without)} unpublished` : "");
+    + (without ? `, ${whole(without)} unpublished` : "")
+    + (lacking ? `, ${whole(lacking)} with demand unserved` : "");
   byId("of").textContent = `of ${whole(day.runs.length)}`;
   byId("run").max = day.runs.length;
   byId("run").addEventListener("change", () => {
@@ -63,6 +66,7 @@ function figures(day, short, zone) {
       ["Reference", price(short.reference), "EUR/MWh"],
       ["Demand up", of(short.asked[0], short.served[0]), "MW served"],
       ["Demand down", of(short.asked[1], short.served[1]), "MW served"],
+      ["Unserved at the cap", whole(short.unserved), "MW, inelastic", short.unserved > 0],
       ["Activated up / down", `${whole(short.activated[0])} / ${whole(short.activated[1])}`, "MW"],
       ["Congestion rent", euros(BigInt(short.rent)), "EUR"],
       ["Welfare", euros(BigInt(short.welfare)), "EUR"]];
@@ -104,6 +108,7 @@ function open(day) {
     draw();
   });
   listen(selection);
+  new Find(byId("find"), byId("found"), day, selection);
   draw();
 }
 

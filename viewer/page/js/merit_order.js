@@ -1,7 +1,7 @@
 // The merit order of a zone in a run: upward bids to the right, downward bids to the left.
 
 import { price, whole } from "./numbers.js";
-import { netImport } from "./sentences.js";
+import { netImport, UNPUBLISHED } from "./sentences.js";
 import { usualRange } from "./colour.js";
 import { BidTable } from "./bid_table.js";
 import { readingOf, sizeTo } from "./frame.js";
@@ -54,15 +54,16 @@ export class MeritOrder {
     this.view = view;
     if (!this.width) this.resize();
     const { zone } = this.selection;
-    const bids = view.bids.filter((bid) => bid.zone === zone);
+    const all = view.all.filter((bid) => bid.zone === zone);
+    const bids = all.filter((bid) => !bid.withheld);
     this.blocks = blocksOf(bids);
     this.svg.selectAll("*").remove();
-    const others = view.run ? view.elsewhere[zone] || 0 : 0;
-    this.reading.text(`${this.day.zones[zone]}, ${whole(bids.length)} bids`
-      + (others ? `, and ${whole(others)} of the quarter that aren\u2019t in this run` : ""));
+    const others = all.length - bids.length;
+    this.reading.text(`${this.day.zones[zone]}, ${whole(bids.length)} bids${
+      others ? `, and ${whole(others)} withheld` : ""}${view.run ? "" : `; ${UNPUBLISHED}`}`);
     this.balance.text(view.run ? this.balanceText(view, bids) : "");
-    this.table.draw(bids);
-    if (view.run) this.drawChart(view.run, zone);
+    this.table.draw(all);
+    this.drawChart(view.run, zone);
   }
 
   balanceText(view, bids) {
@@ -74,12 +75,14 @@ export class MeritOrder {
     const up = d3.sum(bids, (bid) => (bid.up ? bid.mw : 0));
     const down = d3.sum(bids, (bid) => (bid.up ? 0 : bid.mw));
     const enters = netImport(this.day, view.run, zone);
-    return `Demand ${whole(signed("asked"))} MW, served ${whole(signed("served"))} MW = up ${
+    const lacks = d3.sum(mine, (at) => demands.unserved[at]);
+    const alarm = lacks ? `${whole(lacks)} MW of inelastic demand unserved at the cap. ` : "";
+    return `${alarm}Demand ${whole(signed("asked"))} MW, served ${whole(signed("served"))} MW = up ${
       whole(up)} \u2212 down ${whole(down)} + net import ${whole(enters)} MW`;
   }
 
   drawChart(run, zone) {
-    const at = run.zones.price[zone];
+    const at = run ? run.zones.price[zone] : 0;
     const levels = [...this.blocks.map((block) => block.bid.price), 0];
     const [low, high] = usualRange(levels.length > 1 ? levels : [0, at]);
     const near = at > high + 3 * (high - low) || at < low - 3 * (high - low) ? [] : [at];
@@ -94,7 +97,7 @@ export class MeritOrder {
     Object.assign(this, { x, level });
     this.drawAxes(x, y);
     this.drawBlocks(x, level);
-    this.drawPrice(run, zone, level);
+    if (run) this.drawPrice(run, zone, level);
     this.drawTags(x, level);
     this.svg.append("rect").attr("class", "catch").attr("x", SIDE.left).attr("y", SIDE.top)
       .attr("width", this.width - SIDE.left - SIDE.right)

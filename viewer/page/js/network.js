@@ -1,11 +1,11 @@
 // The network of a run: zones coloured by price, borders as arrows, and the table of borders.
 
 import { price, whole, euros, percent } from "./numbers.js";
-import { inkOn, priceColour, usualRange, widened } from "./colour.js";
+import { inkOn, priceColour, usualPrices, widened } from "./colour.js";
 import { Table } from "./table.js";
 import { readingOf, sizeTo } from "./frame.js";
 import { UNPUBLISHED } from "./sentences.js";
-import { clearest, apart } from "./layout.js";
+import { clearest, apart, onMap } from "./layout.js";
 
 // A border as the run has it, in the direction in which energy flows, or else would pay to flow.
 function borderRow(day, run, at) {
@@ -23,6 +23,10 @@ function borderRow(day, run, at) {
     share: limit ? mw / limit : 0 };
 }
 
+function fullText(row) {
+  return row.full && !row.mw ? "no room" : percent(row.mw, row.limit);
+}
+
 export class Network {
   constructor(host, day, selection) {
     Object.assign(this, { host, day, selection });
@@ -32,7 +36,9 @@ export class Network {
     const box = d3.max(this.names, (name) => this.wide(name));
     this.side = box / 2 + 2;
     this.around = this.small ? [box + 4, 27] : [box + 20, 54];
-    this.places = clearest(day.zones, day.borders, this.around, [490 - box, this.high - 48]);
+    if (!day.positions) {
+      this.places = clearest(day.zones, day.borders, this.around, [490 - box, this.high - 48]);
+    }
     this.frame();
     new ResizeObserver(() => this.resize()).observe(host);
   }
@@ -52,7 +58,7 @@ export class Network {
     this.svg = host.append("svg").attr("role", "img").attr("aria-label", "Network of the run");
     this.layers = ["areas", "borders", "zones"].map((name) => this.svg.append("g")
       .attr("class", name));
-    this.table = new Table(this.host, { label: "Borders", pick: (row) => this.pick(row),
+    this.table = new Table(this.host, { label: "Borders", file: "borders", pick: (row) => this.pick(row),
       mark: (row) => (row.from === this.selection.zone || row.to === this.selection.zone
         ? "near" : ""),
       sort: 5, down: true, columns: this.columns() });
@@ -75,8 +81,8 @@ export class Network {
       { head: "Flow", unit: "MW", number: true, value: (row) => row.mw, text: (row) => whole(row.mw) },
       { head: "Limit", unit: "MW", number: true, value: (row) => row.limit,
         text: (row) => whole(row.limit) },
-      { head: "Full", number: true, value: (row) => row.share, draw: (cell, row) => {
-        cell.textContent = row.full && !row.mw ? "no room" : percent(row.mw, row.limit);
+      { head: "Full", number: true, value: (row) => row.share, text: fullText, draw: (cell, row) => {
+        cell.textContent = fullText(row);
         cell.classList.add("share");
         cell.style.setProperty("--share", row.share);
         cell.classList.toggle("is-full", row.full);
@@ -98,9 +104,10 @@ export class Network {
     this.width = width;
     sizeTo(this.svg, width, this.high);
     const { side } = this;
-    this.spots = apart(this.places.map(([x, y]) =>
-      [side + x * (width - 2 * side), 24 + y * (this.high - 48)]), this.around,
-    [side, width - side, 18, this.high - 18]);
+    const [wide, high] = [width - 2 * side, this.high - 48];
+    const places = this.places || onMap(this.day.positions, wide / high);
+    this.spots = apart(places.map(([x, y]) => [side + x * wide, 24 + y * high]), this.around,
+      [side, width - side, 18, this.high - 18]);
     if (this.view) this.draw(this.view);
   }
 
@@ -123,7 +130,7 @@ export class Network {
 
   // Colours by the prices of this run: the day's chart shows how they change.
   paint(run) {
-    const [low, high] = widened(usualRange(run ? run.zones.price : [0]));
+    const [low, high] = widened(usualPrices(run ? run.zones.price : [0]));
     this.colour = priceColour([low, high]);
     this.lowText.text(`${price(low)} `);
     this.highText.text(` ${price(high)} EUR/MWh`);

@@ -1,26 +1,10 @@
-// The run's rejected bids that the price would have paid, each explained in a sentence.
+// The run's rejected bids that the price would have paid, each with its reason.
 
-import { price, whole, euros, gain } from "./numbers.js";
-import { causeText } from "./cause.js";
+import { price, gain } from "./numbers.js";
 import { readingOf } from "./frame.js";
 import { UNPUBLISHED } from "./sentences.js";
 
 const SHOWN = 60;
-
-function offerText(bid) {
-  const some = bid.least === bid.offered ? `${whole(bid.offered)} MW or nothing`
-    : bid.least > 0 ? `${whole(bid.least)} to ${whole(bid.offered)} MW or nothing`
-      : `up to ${whole(bid.offered)} MW`;
-  return `offers ${some}, ${bid.up ? "up" : "down"}, at ${price(bid.price)} EUR/MWh`;
-}
-
-function reasonText(bid, view, day) {
-  const at = view.run.zones.price[bid.zone];
-  const each = Math.abs(at - bid.price);
-  const all = euros(gain(bid, at, bid.offered));
-  return `${offerText(bid)}. At ${day.zones[bid.zone]}\u2019s price of ${price(at)} EUR/MWh it would gain ${
-    price(each)} EUR/MWh, ${all} EUR over the quarter hour. ${causeText(bid, view, day)}`;
-}
 
 export class Rejected {
   constructor(host, day, selection) {
@@ -52,18 +36,18 @@ export class Rejected {
     this.none.attr("hidden", found.length ? true : null);
     this.elsewhere.selectAll("button")
       .attr("aria-current", (run) => (run.run === view.short.run ? "true" : null));
-    this.drawList(view, found);
+    this.drawList(found);
   }
 
-  drawList(view, found) {
+  drawList(found) {
     this.list.selectAll("li").remove();
     const lines = this.list.selectAll("li").data(found.slice(0, SHOWN)).enter().append("li")
       .classed("near", (bid) => bid.zone === this.selection.zone);
     lines.append("button").attr("type", "button").text((bid) => bid.name)
       .attr("title", (bid) => `To ${this.day.zones[bid.zone]}`)
       .on("click", (bid) => this.selection.setZone(bid.zone));
-    lines.append("span").text((bid) => ` of ${bid.provider} ${
-      reasonText(bid, view, this.day)}`);
+    lines.append("span").text((bid) => ` of ${bid.provider}, ${bid.up ? "up" : "down"} at ${
+      price(bid.price)}: ${bid.why}`);
     if (found.length > SHOWN) {
       this.list.append("li").text(`And ${found.length - SHOWN} more.`);
     }

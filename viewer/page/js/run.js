@@ -1,14 +1,10 @@
-// A run joined with its quarter: its bids with what they offer, run and are paid.
+// A run joined with its quarter: its bids with what they offer, run and are paid, and why.
 
 import { part } from "./parts.js";
 import { gatesOf, treeOf } from "./tree.js";
 
-// The prices of the quarter's published scheduled run, by which a direct run pays too.
-function alsoPrices(day, short) {
-  if (short.kind !== "direct") return null;
-  const found = day.runs.find((run) => run.quarter === short.quarter && run.kind === "scheduled");
-  return found && found.price ? found.price : null;
-}
+const REJECTED = "rejected in the money";
+const WITHHELD = "withheld";
 
 // The tags of a bid: what it is beside a price and a quantity.
 function tagsOf(quarter, place, children) {
@@ -39,51 +35,35 @@ function childrenOf(quarter) {
   return children;
 }
 
-function bidOf(quarter, place, children) {
-  const gated = quarter.gated[place] === 1;
-  return { place, name: quarter.name[place], provider: quarter.provider[place],
+// A bid of the quarter hour as a run has it; `at` is its place among those that the run is offered.
+function bidOf(day, quarter, run, place, at) {
+  const state = day.states[run.reasons.state[place]];
+  return { place, at, name: quarter.name[place], provider: quarter.provider[place],
     zone: quarter.zone[place], up: quarter.up[place] === 1, price: quarter.price[place],
-    least: gated ? Math.max(1, quarter.least[place]) : 0, gated, group: quarter.group[place],
-    parent: quarter.parent[place],
-    tags: tagsOf(quarter, place, children) };
+    gated: quarter.gated[place] === 1, group: quarter.group[place], parent: quarter.parent[place],
+    state, why: run.reasons.text[place], rejected: state === REJECTED, withheld: state === WITHHELD,
+    mw: at === null ? 0 : run.bids.mw[at], offered: at === null ? 0 : run.bids.left[at],
+    amount: at === null ? 0n : BigInt(run.bids.pay[at]) };
 }
 
-function joined(day, short, run, quarter) {
-  const also = alsoPrices(day, short);
+function joined(day, run, quarter) {
+  const places = new Map(run.bids.place.map((place, at) => [place, at]));
   const children = childrenOf(quarter);
-  const rejected = new Set(run.rejected);
-  return run.bids.place.map((place, at) => {
-    const bid = bidOf(quarter, place, children);
-    bid.at = at;
-    bid.mw = run.bids.mw[at];
-    bid.offered = run.bids.left[at];
-    bid.rejected = rejected.has(at);
-    const zonal = run.zones.price[bid.zone];
-    bid.paidAt = also === null ? zonal
-      : bid.up ? Math.max(zonal, also[bid.zone]) : Math.min(zonal, also[bid.zone]);
-    bid.amount = BigInt(bid.up ? bid.paidAt : -bid.paidAt) * BigInt(bid.mw);
+  return quarter.name.map((name, place) => {
+    const bid = bidOf(day, quarter, run, place, places.has(place) ? places.get(place) : null);
+    bid.tags = tagsOf(quarter, place, children);
     return bid;
   });
 }
 
-// How many bids of each zone are in the quarter, but not in the run's market.
-function elsewhere(run, quarter) {
-  const inside = new Set(run.bids.place);
-  const counts = [];
-  quarter.zone.forEach((zone, place) => {
-    if (!inside.has(place)) counts[zone] = (counts[zone] || 0) + 1;
-  });
-  return counts;
-}
-
-// A run in full: its bids with their gates, and the nodes of its tree. Of an unpublished one `short` alone.
+// A run in full: the quarter hour's bids, those that it is offered, their gates, and the nodes of its tree. `run` is
+// null where it is unpublished.
 export async function runView(day, number) {
   const short = day.runs[number - 1];
-  if (!short || !short.price) return { short, run: null, bids: [], gates: [], nodes: null };
-  const [run, quarter] = await Promise.all(
-    [part(`run-${number}`), part(`quarter-${short.quarter}`)]);
-  const bids = joined(day, short, run, quarter);
+  const [run, quarter] = await Promise.all([part(`run-${number}`), part(`quarter-${short.quarter}`)]);
+  const all = joined(day, run, quarter);
+  const bids = all.filter((bid) => !bid.withheld);
   const gates = gatesOf(bids);
-  return { short, run, bids, gates, nodes: treeOf(run.tree.items, gates),
-    elsewhere: elsewhere(run, quarter) };
+  return { short, run: short.price ? run : null, all, bids, gates,
+    nodes: short.price ? treeOf(run.tree.items, gates) : null };
 }

@@ -18,6 +18,10 @@ export function shortText(day, short, zone) {
     + `rent ${euros(BigInt(short.rent))} EUR`;
 }
 
+export function unservedText(short) {
+  return `Run ${short.run}: ${whole(short.unserved)} MW of inelastic demand unserved at the cap`;
+}
+
 // The names of zones that are numbered from 1.
 export function zoneNames(numbers, day) {
   return numbers.map((number) => day.zones[number - 1]);

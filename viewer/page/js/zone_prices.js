@@ -3,22 +3,35 @@
 import { price } from "./numbers.js";
 import { priceColour } from "./colour.js";
 
+const NAMED = 11;     // the height of a row that has room for a name
+
 function rowHeight(zones) {
-  return Math.max(2, Math.min(9, Math.floor(84 / zones)));
+  return zones <= 9 ? Math.min(13, Math.floor(110 / zones)) : Math.max(2, Math.min(9, Math.floor(84 / zones)));
 }
 
-// A picture of one dot for each place across and each zone down.
+// A picture of one dot for each place across and two for each zone down: a scheduled run fills its quarter, and direct
+// runs after it share the lower dots.
 function painted(slots, x, width, zones, colour) {
   const canvas = document.createElement("canvas");
-  [canvas.width, canvas.height] = [Math.max(1, Math.round(width)), zones];
+  [canvas.width, canvas.height] = [Math.max(1, Math.round(width)), 2 * zones];
   const pen = canvas.getContext("2d");
   const start = x.range()[0];
-  for (const { run, start: from, end: to } of slots) {
+  const of = (kind) => slots.filter(({ run }) => run.kind === kind).map(({ run }) => run.quarter);
+  const scheduled = new Set(of("scheduled"));
+  const direct = d3.nest().key((quarter) => quarter).rollup((all) => all.length).map(of("direct"));
+  const seen = new Map();
+  for (const { run } of slots) {
+    const { quarter } = run;
+    const below = run.kind === "direct" && scheduled.has(quarter);
+    const count = run.kind === "direct" ? direct.get(quarter) : 1;
+    const place = run.kind === "direct" ? seen.get(quarter) || 0 : 0;
+    if (run.kind === "direct") seen.set(quarter, place + 1);
+    const [from, to] = [quarter - 1 + place / count, quarter - 1 + (place + 1) / count];
     const left = Math.round(Math.max(0, x(from) - start));
     const wide = Math.max(1, Math.round(Math.min(width, x(to) - start)) - left);
     run.price.forEach((cents, zone) => {
       pen.fillStyle = colour(cents);
-      pen.fillRect(left, zone, wide, 1);
+      pen.fillRect(left, 2 * zone + (below ? 1 : 0), wide, below ? 1 : 2);
     });
   }
   return canvas.toDataURL();
@@ -42,11 +55,13 @@ export class ZonePrices {
 
   // The names that fit, and always the selected zone's.
   select(zone) {
-    const y = this.top + zone * this.row;
-    this.frame.attr("y", y);
+    const top = (at) => this.top + at * this.row;
+    this.frame.attr("y", top(zone));
+    const named = this.row >= NAMED ? d3.range(this.day.zones.length) : [zone];
     this.names.selectAll("text").remove();
-    this.names.append("text").attr("x", this.left - 6).attr("y", y + this.row / 2 + 3.5)
-      .text(this.day.zones[zone]);
+    this.names.selectAll("text").data(named).enter().append("text").attr("x", this.left - 6)
+      .attr("y", (at) => top(at) + this.row / 2 + 3.5).classed("others", (at) => at !== zone)
+      .text((at) => this.day.zones[at]);
   }
 
   // The zone at a height, or null.

@@ -1,0 +1,44 @@
+"""A wheel that is made in a clone has the shipped program in it."""
+
+import hashlib
+import importlib.util
+import platform
+import shutil
+import subprocess
+import sys
+import tempfile
+import unittest
+import zipfile
+from pathlib import Path
+
+PACKAGE = Path(__file__).resolve().parents[1]
+RELEASE = PACKAGE.parent / "release"
+
+TOOLS = all(importlib.util.find_spec(name) for name in ("pip", "setuptools", "wheel"))
+
+
+@unittest.skipUnless(TOOLS, "pip, setuptools or wheel isn't installed")
+@unittest.skipIf((platform.system(), platform.machine()) != ("Linux", "x86_64"), "the program isn't for this machine")
+class TestWheel(unittest.TestCase):
+    def test_program(self):
+        """Its SHA-256 is the manifest's, and the name of the wheel states machine and C library."""
+        with tempfile.TemporaryDirectory() as scratch:
+            copy = Path(scratch, "mari", "python")
+            shutil.copytree(PACKAGE, copy, ignore=shutil.ignore_patterns("build", "*.egg-info", ".*", "__pycache__"))
+            shutil.copytree(RELEASE, copy.parent / "release")
+            words = ["wheel", "--quiet", "--no-build-isolation", "--no-deps", "--no-index", "-w", scratch, str(copy)]
+            subprocess.run([sys.executable, "-m", "pip", *words], check=True, capture_output=True)
+            [made] = Path(scratch).glob("*.whl")
+            with zipfile.ZipFile(made) as files:
+                program = files.getinfo("mari/_program/mari")
+                found = hashlib.sha256(files.read(program)).hexdigest()
+        manifest = dict(line.split(" ", 1) for line in (RELEASE / "manifest").read_text().splitlines())
+        self.assertEqual(found, manifest["program"])
+        self.assertEqual(program.external_attr >> 16 & 0o777, 0o755)
+        system, machine = manifest["machine"].lower().split()
+        library = manifest["glibc"].replace(".", "_")
+        self.assertTrue(made.name.endswith(f"-py3-none-many{system}_{library}_{machine}.whl"), made.name)
+
+
+if __name__ == "__main__":
+    unittest.main()

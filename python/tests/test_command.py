@@ -60,9 +60,18 @@ class TestCommand(unittest.TestCase):
         self.assertIn("UNSERVED in zone Z: 10 of 50 MW", out)
         self.assertIn("i1: rejected in the money", out)
         self.assertNotIn("p1", out)
-        self.assertIn("and 1 of bids that were activated", out)
+        self.assertIn("and 1 more, activated", out)
         self.assertIn("p1: activated: 40 MW at 99999.00", said("explain", folder, "p1")[1])
         self.assertEqual(said("explain", folder, "p9")[0], 2)
+
+    def test_explain_of_a_provider(self):
+        """Only its bids, and unserved demand of their quarter hours alone."""
+        folder = self.at("direct-run")
+        bids = Path(folder, "bids.csv")
+        bids.write_text(bids.read_text() + "later,Far,Z,2,up,20.00,0,5,both\n")
+        lines = said("explain", folder, "Far")[1].splitlines()
+        self.assertEqual(lines, ["quarter 2 (00:15): later: no run: its quarter hour has no run in runs.csv"])
+        self.assertIn("UNSERVED in zone Z: 20 of 50 MW", said("explain", folder)[1])
 
     def test_nodes_and_a_stale_publication(self):
         folder = self.at("paradox-bid")

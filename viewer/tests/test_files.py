@@ -55,7 +55,7 @@ class Sound(FileTest):
         self.assertNotEqual(*limits)
 
     def test_a_direct_run_has_the_room_that_flows_left(self):
-        """The scheduled run fills 50 MW to B; then none is left there, and 100 MW back. The next quarter begins anew."""
+        """The scheduled run fills 50 MW to B: none is left there, and 100 MW back. The next quarter begins anew."""
         folder = self.days.market("two-zones")
         change(folder, "runs.csv", "1,1,scheduled,40.00", "1,1,scheduled,40.00\n2,1,direct,40.00\n3,2,scheduled,40.00")
         change(folder, "demands.csv", "1,B,80,", "1,B,80,\n2,B,5,")

@@ -119,8 +119,8 @@ class Causes(PageTest):
             self.reason({"b2": "45.00,30,30"}, [], 60),
             "b2 of P3, up at 45.00: at the price 60.00 of B it would gain 15.00 euro per MWh, 112.5000 euro in all, "
             "but it runs 30 MW at least or not at all. With it, and every other gated bid as it is, there are no "
-            "consistent prices: the price can't fall from B to A, but orders need a higher one in B than others allow in A (the "
-            "certificate's conflict).")
+            "consistent prices: the price can't fall from B to A, but orders need a higher one in B than others allow in A "
+            "(the certificate's conflict).")
 
     def test_no_greater_welfare(self):
         bids = {"b2": "59.00,30,30", "b3": "70.00,5,5"}
@@ -186,8 +186,8 @@ class Harm(PageTest):
         path, code, _ = self.days.page(folder)
         self.browser.open(path)
         self.assertEqual(code, 3)
-        self.assertRegex(self.browser.text("#fault"), r"The day is damaged\. publication\.txt line [0-9]+: '<b>6' isn't "
-                         r"a whole number\. The 5 of 16 runs before it are shown\.")
+        self.assertRegex(self.browser.text("#fault"), r"The day is damaged\. publication\.txt line [0-9]+: '<b>6' "
+                         r"isn't a whole number\. The 5 of 16 runs before it are shown\.")
         self.assertEqual(self.browser.text("#of"), "of 5")
 
     def test_a_page_without_a_day(self):

@@ -112,23 +112,25 @@ def _order(old: Path, new: Path) -> int:
 
 
 def _explain(day: Day, wanted: str | None, everything: bool) -> int:
-    for row in day.unserved():
-        print(
-            f"run {row.run} ({row.time}): UNSERVED in zone {row.zone}: {row.unserved} of {abs(row.asked)} MW of an "
-            f"inelastic demand, at the price {row.price}"
-        )
-    providers = {bid.id: bid.provider for bid in day.folder.bids}
-    if wanted is not None and wanted not in providers and wanted not in providers.values():
+    bids = {bid.id: bid.quarter for bid in day.folder.bids if wanted in (None, bid.id, bid.provider)}
+    if wanted is not None and not bids:
         print(f"mari: {wanted} is neither a bid nor a provider of bids.csv", file=sys.stderr)
         return 2
+    quarters = {*bids.values()}
+    for row in day.unserved():
+        if wanted is None or row.quarter in quarters:
+            print(
+                f"run {row.run} ({row.time}): UNSERVED in zone {row.zone}: {row.unserved} of {abs(row.asked)} MW of an "
+                f"inelastic demand, at the price {row.price}"
+            )
     more = 0
     for why in day.reasons():
         if wanted is None and not (everything or _stands_out(why)):
             more += 1
-        elif wanted is None or wanted in (why.bid, providers[why.bid]):
+        elif why.bid in bids:
             print(_line(day, why))
     if more:
-        print(f"and {more} of bids that were activated, out of the money, used up, or for scheduled runs alone (--all)")
+        print(f"and {more} more, activated, out of the money, used up, or for scheduled runs alone (--all shows them)")
     return 0
 
 

@@ -27,8 +27,8 @@ def shipped():
     program, manifest = RELEASE / "mari", RELEASE / "manifest"
     if not (program.is_file() and manifest.is_file()) or (platform.system(), platform.machine()) != ("Linux", "x86_64"):
         return False
-    wanted = dict(line.split(" ", 1) for line in manifest.read_text().splitlines() if " " in line)
-    return hashlib.sha256(program.read_bytes()).hexdigest() == wanted["program"]
+    wanted = dict(line.rsplit(" ", 1) for line in manifest.read_text().splitlines() if " " in line)
+    return hashlib.sha256(program.read_bytes()).hexdigest() == wanted.get("program mari")
 
 
 class BuildWithProgram(build_py):

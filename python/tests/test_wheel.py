@@ -33,7 +33,7 @@ class TestWheel(unittest.TestCase):
                 program = files.getinfo("mari/_program/mari")
                 found = hashlib.sha256(files.read(program)).hexdigest()
         manifest = dict(line.split(" ", 1) for line in (RELEASE / "manifest").read_text().splitlines())
-        self.assertEqual(found, manifest["program"])
+        self.assertEqual(f"mari {found}", manifest["program"])
         self.assertEqual(program.external_attr >> 16 & 0o777, 0o755)
         system, machine = manifest["machine"].lower().split()
         library = manifest["glibc"].replace(".", "_")

@@ -9,3 +9,4 @@ pub mod TreeWalk
 pub mod Exchanges
 pub mod Needs
 pub mod RootLaws
+pub mod GateOrders

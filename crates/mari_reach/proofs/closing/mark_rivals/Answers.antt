@@ -3,7 +3,7 @@ use Rattle.std.specs.List.{list_any, range_with_len}
 use Rattle.mari_market.specs.Prefix.{opens_in}
 use Rattle.mari_reach.specs.State.{are_rivals}
 use Rattle.mari_reach.proofs.Ranges.{any_more, or_assoc}
-use Rattle.mari_reach.proofs.states.mark_rivals.Goals as goal
+use Rattle.mari_reach.proofs.closing.mark_rivals.Goals as goal
 
 pub loop-gate-preserved : goal.loop-gate-preserved
 loop-gate-preserved c = λ g l.

@@ -2,7 +2,7 @@ use Rattle.std.proofs.Common.{◌≡◌, ◌<◌, ℕ, neg_ℤ, ◌≤ℤ◌, ta
 use Rattle.mari_units.specs.declared.numbers.TheConstants.{CAP}
 use Rattle.mari_market.specs.Sums.{int_at}
 use Rattle.mari_reach.specs.State.{high_said, low_said}
-use Rattle.mari_reach.proofs.states.PriceBox.said.Given as goal
+use Rattle.mari_reach.proofs.prices.PriceBox.said.Given as goal
 
 abbrev pub invariant-loop-decision : goal.invariant-loop-decision
 invariant-loop-decision l = record {

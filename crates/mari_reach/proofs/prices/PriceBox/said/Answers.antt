@@ -4,7 +4,7 @@ use Rattle.std.specs.Int.{int_max, int_min}
 use Rattle.mari_units.specs.declared.numbers.TheConstants.{CAP}
 use Rattle.mari_reach.specs.State.{ceiling_said, floor_said}
 use Rattle.mari_reach.proofs.Ranges.{fold_step}
-use Rattle.mari_reach.proofs.states.PriceBox.said.Goals as goal
+use Rattle.mari_reach.proofs.prices.PriceBox.said.Goals as goal
 
 pub loop-decision-preserved : goal.loop-decision-preserved
 loop-decision-preserved c = record {

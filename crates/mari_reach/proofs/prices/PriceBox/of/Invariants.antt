@@ -3,7 +3,7 @@ use Rattle.mari_units.specs.declared.numbers.TheConstants.{CAP}
 use Rattle.mari_market.specs.Prefix.{opens_in}
 use Rattle.mari_market.specs.Sums.{int_at}
 use Rattle.mari_reach.specs.State.{high_by, low_by}
-use Rattle.mari_reach.proofs.states.PriceBox.of.Given as goal
+use Rattle.mari_reach.proofs.prices.PriceBox.of.Given as goal
 
 abbrev pub invariant-loop-order : goal.invariant-loop-order
 invariant-loop-order l = record {

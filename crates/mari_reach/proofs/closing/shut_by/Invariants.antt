@@ -2,7 +2,7 @@ use Rattle.std.proofs.Common.{◌≡◌, ◌<◌, ◌≤◌, ℕ, false}
 use Rattle.std.specs.List.{list_any}
 use Rattle.mari_market.specs.Prefix.{opens_in}
 use Rattle.mari_reach.specs.State.{line_of}
-use Rattle.mari_reach.proofs.states.shut_by.Given as goal
+use Rattle.mari_reach.proofs.closing.shut_by.Given as goal
 
 abbrev pub invariant-loop-gate : goal.invariant-loop-gate
 invariant-loop-gate l = record {

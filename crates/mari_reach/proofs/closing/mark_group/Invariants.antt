@@ -1,7 +1,7 @@
 use Rattle.std.proofs.Common.{◌≡◌, ◌||◌, ◌<◌, ◌≤◌, ℕ}
 use Rattle.mari_market.specs.Prefix.{opens_in}
 use Rattle.mari_reach.specs.State.{are_rivals}
-use Rattle.mari_reach.proofs.states.mark_group.Given as goal
+use Rattle.mari_reach.proofs.closing.mark_group.Given as goal
 
 abbrev pub invariant-loop-other : goal.invariant-loop-other
 invariant-loop-other l = record {

@@ -10,3 +10,4 @@ pub mod Exchanges
 pub mod Needs
 pub mod RootLaws
 pub mod GateOrders
+pub mod Plain

@@ -153,6 +153,17 @@ pub(crate) fn shut_themselves(
     shut
 }
 
+/// Whether a gate is closed itself or its parent is closed, where that is known of all gates before it.
+fn is_closed(gates: &[GateInfo], shut: &Marks, closed: &Marks, gate: usize) -> bool
+    requires few { length gates.now ≤ MOST_GATES }
+    requires there { gate < length gates.now }
+    requires earlier { ParentsEarlier gates.now }
+    requires before { (h : ℕ) → h < gate → opens_in closed.now h ≡ list_any (opens_in shut.now) (line_of gates.now h) }
+    ensures { result ≡ list_any (opens_in shut.now) (line_of gates.now gate) }
+{
+    shut.has(gate as u32) || closed.has_some(gates[gate].parent)
+}
+
 /// The gates in whose line one is closed itself.
 pub(crate) fn shut_by(gates: &[GateInfo], shut: &Marks) -> Marks
     requires few { length gates.now ≤ MOST_GATES }
@@ -161,7 +172,7 @@ pub(crate) fn shut_by(gates: &[GateInfo], shut: &Marks) -> Marks
 {
     let mut closed = Marks::none();
     for gate in 0..gates.len() {
-        if shut.has_in_line(gates, gate as u32) {
+        if is_closed(gates, shut, &closed, gate) {
             closed.mark(gate as u32);
         }
     }

@@ -4,12 +4,13 @@
 ghost use Rattle.std.specs.Prelude.{◌≡◌, ℤ, pos, ◌*◌, ◌-ℤ◌, ◌*ℤ◌, ◌≤ℤ◌, neg_ℤ, ◌≤◌, ◌<◌, length};
 ghost use Rattle.std.specs.List.{All};
 ghost use Rattle.mari_reach.specs.Tables.{flow_in, span_in};
-ghost use Rattle.mari_reach.specs.Values.{dual_in};
+ghost use Rattle.mari_reach.specs.Values.{dual_in, runs_best};
 ghost use Rattle.mari_market.specs.Dual.{gain_per_mw, best_within, best_border, best_flow, best_order};
 ghost use Rattle.mari_market.specs.Market.{IsValid, IsValidOrder, IsValidBorder};
 ghost use Rattle.mari_market.specs.Price.{IsCapped, IsPrice, ArePrices, price_at};
-ghost use Rattle.mari_market.specs.Sums.{int_sum};
+ghost use Rattle.mari_market.specs.Sums.{int_at, int_sum};
 
+use crate::prices::PriceBox;
 use crate::states::State;
 use mari_market::{Border, MOST_GAP, MOST_ORDERS, MOST_WORTH, Market, Order, Side};
 use mari_units::{Cents, MOST_BORDERS, MOST_FLOW, MOST_GATES, MOST_MW, MOST_ZONES};
@@ -75,6 +76,53 @@ pub(crate) fn best_order(order: &Order, state: &State, potentials: &[Cents]) -> 
 {
     let gap = gap(order, potential_at(potentials, order.zone));
     best_within(gap, state.span(order))
+}
+
+/// Whether a plain order is worth most at its greatest quantity, and not at 0.
+fn runs_best(order: &Order, potential: Cents, prices: &PriceBox) -> bool
+    requires { order.now.zone < MOST_ZONES }
+    ensures { result ≡ runs_best order.now.side order.now.price.0 potential.0 (int_at prices.now.low order.now.zone) (int_at prices.now.high order.now.zone) }
+{
+    let price = order.price.0;
+    let low = prices.low[order.zone as usize];
+    let high = prices.high[order.zone as usize];
+    match order.side {
+        Side::Inject => price < low || (price < potential.0 && price <= high),
+        Side::Withdraw => high < price || (potential.0 < price && low <= price),
+    }
+}
+
+/// The same of a plain order, whose bounds needn't be made for it.
+fn best_plain(order: &Order, state: &State, potentials: &[Cents]) -> i64
+    requires order { IsValidOrder (length potentials.now) MOST_GATES order.now }
+    requires plain { order.now.gate ≡ None }
+    requires few { length potentials.now ≤ MOST_ZONES }
+    requires potentials { All IsCapped potentials.now }
+    ensures value { result ≡ best_order (span_in state.now) potentials.now order.now }
+    ensures low { neg_ℤ (pos MOST_WORTH) ≤ℤ result }
+    ensures high { result ≤ℤ pos MOST_WORTH }
+{
+    let potential = potential_at(potentials, order.zone);
+    if runs_best(order, potential, &state.prices) {
+        amount(gap(order, potential), order.greatest)
+    } else {
+        0
+    }
+}
+
+/// The same of any order.
+fn order_value(order: &Order, state: &State, potentials: &[Cents]) -> i64
+    requires order { IsValidOrder (length potentials.now) MOST_GATES order.now }
+    requires few { length potentials.now ≤ MOST_ZONES }
+    requires potentials { All IsCapped potentials.now }
+    ensures value { result ≡ best_order (span_in state.now) potentials.now order.now }
+    ensures low { neg_ℤ (pos MOST_WORTH) ≤ℤ result }
+    ensures high { result ≤ℤ pos MOST_WORTH }
+{
+    match order.gate {
+        None => best_plain(order, state, potentials),
+        Some(_) => best_order(order, state, potentials),
+    }
 }
 
 /// A zone's potential.
@@ -147,7 +195,7 @@ fn orders_value(orders: &[Order], state: &State, potentials: &[Cents]) -> i64
 {
     let mut total = 0;
     for order in orders {
-        total += best_order(order, state, potentials);
+        total += order_value(order, state, potentials);
     }
     total
 }

@@ -6,7 +6,7 @@ ghost use Rattle.mari_market.specs.Market.{IsValid};
 ghost use Rattle.mari_market.specs.Prefix.{opens_in};
 ghost use Rattle.mari_market.specs.Price.{IsPrice};
 ghost use Rattle.mari_market.specs.Sums.{int_at};
-ghost use Rattle.mari_reach.specs.State.{ceiling_at, ceiling_said, floor_at, floor_said, high_by, high_said, is_opened, low_by, low_said, AreDecisions, IsDecision};
+ghost use Rattle.mari_reach.specs.State.{ceiling_at, ceiling_said, floor_at, floor_said, high_by, high_said, low_by, low_said, AreDecisions, IsDecision};
 ghost use Rattle.mari_reach.specs.Tables.{gains_in, is_dearer_in, loses_in};
 
 use crate::decisions::Decision;
@@ -21,16 +21,6 @@ pub struct PriceBox {
     pub low: [i64; MOST_ZONES],
     /// The greatest prices.
     pub high: [i64; MOST_ZONES],
-}
-
-/// Whether an order is of an open gate.
-fn is_opened(opened: &Marks, order: &Order) -> bool
-    ensures { result ≡ is_opened (opens_in opened.now) order.now.gate }
-{
-    match order.gate {
-        None => false,
-        Some(gate) => opened.has(gate),
-    }
 }
 
 /// A price that is a cent more.
@@ -63,7 +53,7 @@ impl PriceBox {
         ensures low { (z : ℕ) → int_at self.new.low z ≡ int_max (int_at self.old.low z) (floor_at (opens_in opened.now) z order.now) }
         ensures high { (z : ℕ) → int_at self.new.high z ≡ int_min (int_at self.old.high z) (ceiling_at (opens_in opened.now) z order.now) }
     {
-        if !is_opened(opened, order) {
+        if !opened.has_some(order.gate) {
             return;
         }
         let zone = order.zone as usize;

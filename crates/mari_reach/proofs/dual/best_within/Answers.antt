@@ -1,7 +1,6 @@
-use Rattle.std.proofs.Common.{◌≡◌, ◌∙◌, ℕ, ℤ, pos, ◌*ℤ◌, ◌≤ℤ◌, ◌<ℤ◌, ◌≤◌, arith, rules, to_z-of_z, w64}
+use Rattle.std.proofs.Common.{◌∙◌, arith, rules, to_z-of_z, w64}
 use Rattle.std.proofs.lemmas.Int.{ints}
 use Rattle.std.specs.Prelude.{FitsSigned}
-use Rattle.mari_market.specs.Dual.{best_within}
 use Rattle.mari_reach.proofs.Plain.{greatest_best, least_best}
 use Rattle.mari_reach.proofs.dual.best_within.Goals as goal
 

@@ -9,3 +9,5 @@ pub mod TreeWalk
 pub mod Exchanges
 pub mod Needs
 pub mod RootLaws
+pub mod GateOrders
+pub mod Plain

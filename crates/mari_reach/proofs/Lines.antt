@@ -1,11 +1,11 @@
 -- Loops that go up a line of gates.
-use Rattle.std.proofs.Common.{◌≡◌, ◌||◌, Bool, true, false, ℕ, zero, suc, ◌+◌, ◌-◌, ◌<◌, ◌≤◌, List, length, get_or, Option, Some, None, arith, refl, sym, ap, ◌∙◌}
+use Rattle.std.proofs.Common.{◌≡◌, ◌||◌, Bool, true, false, ℕ, zero, suc, ◌+◌, ◌-◌, ◌<◌, ◌≤◌, List, [], ◌∷◌, length, get_or, Option, Some, None, arith, refl, sym, ap, ◌∙◌}
 use Rattle.std.specs.Prelude.{IfSome}
 use Rattle.std.specs.List.{list_any}
 use Rattle.mari_market.specs.declared.market.GateInfo.{GateInfo}
-use Rattle.mari_market.specs.Gates.{ParentsEarlier}
+use Rattle.mari_market.specs.Gates.{ParentsEarlier, parent_of}
 use Rattle.mari_gates.proofs.Decisions.{parent_at}
-use Rattle.mari_reach.specs.State.{line_from}
+use Rattle.mari_reach.specs.State.{is_opened, line_from, line_of}
 
 -- what is left of a line, by its first gate
 pub line_test : (test : ℕ → Bool) (gates : List GateInfo) (i at : ℕ) (next : Option ℕ) (d : GateInfo) → i < length gates → at < length gates → next ≡ Some at
@@ -56,10 +56,45 @@ or_none false c whole e n = sym n ∙ e
 pub marks_end : (b c whole : Bool) → (b || c) ≡ whole → c ≡ false → b ≡ whole
 marks_end b c whole e n = or_none b c whole e n
 
--- a step of a loop that tests a line
-pub test_step : (gates : List GateInfo) (test : ℕ → Bool) (whole : Bool) (i at : ℕ) (next : Option ℕ) (d : GateInfo) → i < length gates → at < length gates → next ≡ Some at
-    → list_any test (line_from (length gates - i) gates next) ≡ whole → test at ≡ false
-    → list_any test (line_from (length gates - (i + 1)) gates (get_or gates at d).parent) ≡ whole
-test_step gates test whole i at next d l k is before e =
-    sym (ap (λ (b : Bool). b || list_any test (line_from (length gates - (i + 1)) gates (get_or gates at d).parent)) e)
-    ∙ sym (line_test test gates i at next d l k is) ∙ before
+-- ---- lines that are long enough
+
+none_line : (n : ℕ) (gates : List GateInfo) → line_from n gates None ≡ []
+none_line zero gates = refl
+none_line (suc n) gates = refl
+
+above_it : (n m : ℕ) (gates : List GateInfo) (g : ℕ) (parent : Option ℕ) → parent_of gates g ≡ parent → ParentsEarlier gates → g < suc n → g < suc m
+    → ((h : ℕ) → h < n → h < m → line_from n gates (Some h) ≡ line_from m gates (Some h)) → line_from n gates parent ≡ line_from m gates parent
+above_it n m gates g None e early l k more = none_line n gates ∙ sym (none_line m gates)
+above_it n m gates g (Some h) e early l k more = let before : h < g = early g h e in more h (omega arith) (omega arith)
+
+-- a line is the same by any number of gates that is above its first gate's
+line_fuel : (n m : ℕ) (gates : List GateInfo) (g : ℕ) → ParentsEarlier gates → g < n → g < m → line_from n gates (Some g) ≡ line_from m gates (Some g)
+line_fuel zero m gates g early l k = absurd (omega arith)
+line_fuel (suc n) zero gates g early l k = absurd (omega arith)
+line_fuel (suc n) (suc m) gates g early l k =
+    ap (λ (xs : List ℕ). g ∷ xs) (above_it n m gates g (parent_of gates g) refl early l k (λ h x y. line_fuel n m gates h early x y))
+
+-- what a test says of a line, by what it says of the parent's
+line_up : (test closed : ℕ → Bool) (n : ℕ) (gates : List GateInfo) (g : ℕ) (parent : Option ℕ) → parent_of gates g ≡ parent → ParentsEarlier gates → g < suc n
+    → ((h : ℕ) → h < g → closed h ≡ list_any test (line_from (suc n) gates (Some h)))
+    → is_opened closed parent ≡ list_any test (line_from n gates parent)
+line_up test closed n gates g None e early l before = sym (ap (list_any test) (none_line n gates))
+line_up test closed n gates g (Some h) e early l before =
+    let less : h < g = early g h e in
+    before h less ∙ ap (list_any test) (line_fuel (suc n) n gates h early (omega arith) (omega arith))
+
+closed_up : (test closed : ℕ → Bool) (gates : List GateInfo) (g : ℕ) (d : GateInfo) → ParentsEarlier gates → g < length gates
+    → ((h : ℕ) → h < g → closed h ≡ list_any test (line_of gates h))
+    → (test g || is_opened closed (get_or gates g d).parent) ≡ list_any test (line_of gates g)
+closed_up test closed gates g d early l before =
+    let e : length gates ≡ suc (length gates - 1) = omega arith in
+    ap (λ (b : Bool). test g || b) (ap (is_opened closed) (sym (parent_at gates g d l))
+    ∙ line_up test closed (length gates - 1) gates g (parent_of gates g) refl early (omega arith) (λ h k. before h k ∙ ap (λ (n : ℕ). list_any test (line_from n gates (Some h))) e))
+    ∙ sym (ap (λ (n : ℕ). list_any test (line_from n gates (Some g))) e)
+
+-- and where the gate itself isn't closed
+pub closed_above : (test closed : ℕ → Bool) (gates : List GateInfo) (g : ℕ) (d : GateInfo) (answer : Bool) → ParentsEarlier gates → g < length gates
+    → ((h : ℕ) → h < g → closed h ≡ list_any test (line_of gates h)) → test g ≡ false → answer ≡ is_opened closed (get_or gates g d).parent
+    → answer ≡ list_any test (line_of gates g)
+closed_above test closed gates g d answer early l before own e =
+    e ∙ ap (λ (b : Bool). b || is_opened closed (get_or gates g d).parent) (sym own) ∙ closed_up test closed gates g d early l before

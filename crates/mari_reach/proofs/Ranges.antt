@@ -1,6 +1,8 @@
 -- Tests and greatest numbers, item by item.
 use Rattle.std.proofs.Common.{◌≡◌, ◌&&◌, ◌||◌, Bool, true, false, ℕ, zero, suc, ◌+◌, ◌<◌, ◌≤◌, ℤ, pos, ◌≤ℤ◌, List, [], ◌∷◌, length, map, take, get_or, arith, refl, sym, ap, ◌∙◌, subst, inl, inr, zero-add}
 use Rattle.std.proofs.lemmas.Bool.{cases_lt}
+use Rattle.std.proofs.lemmas.Int.{ints, clamps}
+use Rattle.std.specs.Int.{int_max, int_min}
 use Rattle.std.proofs.lemmas.List.{get_or-replicate, get_or_past}
 use Rattle.std.proofs.Math.ListN.{replicate, length-replicate}
 use Rattle.std.proofs.lemmas.List.FromFn.{get_or-range_with_len, length-range_with_len}
@@ -47,6 +49,15 @@ fold_map_more f h a (x ∷ xs) (suc i) d l =
 pub fold_step : {X : Type 0} (f : ℤ → ℤ → ℤ) (h : X → ℤ) (a : ℤ) (xs : List X) (i : ℕ) (d : X) (old new : ℤ) → i < length xs → old ≡ fold f a (map h (take i xs)) → new ≡ f old (h (get_or xs i d))
     → new ≡ fold f a (map h (take (i + 1) xs))
 fold_step f h a xs i d old new l e k = k ∙ ap (λ (x : ℤ). f x (h (get_or xs i d))) e ∙ sym (fold_map_more f h a xs i d l)
+
+-- a greatest number from a number on, and a least one up to a number
+pub max_from : {X : Type 0} (f : X → ℤ) (a low : ℤ) (xs : List X) → low ≤ℤ a → low ≤ℤ fold int_max a (map f xs)
+max_from f a low [] l = l
+max_from f a low (x ∷ xs) l = max_from f (int_max a (f x)) low xs (omega (arith, ints, clamps))
+
+pub min_to : {X : Type 0} (f : X → ℤ) (a high : ℤ) (xs : List X) → a ≤ℤ high → fold int_min a (map f xs) ≤ℤ high
+min_to f a high [] l = l
+min_to f a high (x ∷ xs) l = min_to f (int_min a (f x)) high xs (omega (arith, ints, clamps))
 
 -- a table of one number
 pub all_one : (n z : ℕ) (x : ℤ) → z < n → int_at (replicate n x) z ≡ x

@@ -19,10 +19,10 @@ use Rattle.mari_market.specs.Prefix.{opens_in}
 use Rattle.mari_market.specs.Sums.{int_at}
 use Rattle.mari_reach.specs.declared.decisions.Decision.{Decision}
 use Rattle.mari_reach.specs.declared.marks.Marks.{Marks}
-use Rattle.mari_reach.specs.declared.states.PriceBox.{PriceBox}
+use Rattle.mari_reach.specs.declared.prices.PriceBox.{PriceBox}
 use Rattle.mari_reach.specs.declared.states.State.{State}
 use Rattle.mari_reach.specs.State.{are_rivals, border_span, bounds_in, ceiling_at, ceiling_of, closes, floor_at, floor_of, flows_in, gains, gains_within, has_loss, has_rival, high_by, high_of, high_said, is_opened, is_shut, line_from, line_of, loses, loses_within, low_by, low_of, low_said, opens, reached_span, rises, shuts, state_at, state_by, IsBetweenPrices, IsPriceless, IsTorn, IsVoid}
-use Rattle.mari_reach.specs.Tables.{HasOpened, HasPrices, IsStateOf, falls_in, flow_in, gains_in, is_priceless, is_torn, loses_in, span_in, state_in}
+use Rattle.mari_reach.specs.Tables.{HasOpened, HasPrices, IsStateOf, SpeaksFor, falls_in, flow_in, gains_in, is_priceless, is_torn, loses_in, span_in, state_in}
 use Rattle.mari_reach.specs.Values.{is_void_by}
 use Rattle.mari_market.proofs.Lists.{by_test}
 use Rattle.mari_market.proofs.Rising.{is_less, less}
@@ -83,12 +83,12 @@ same_high n zones p q (o ∷ os) z a v k =
     let e : ceiling_at p z o ≡ ceiling_at q z o = ap (λ (b : Bool). ceiling_of ((o.zone == z) && b) o.side o.price.0) (same_opened n p q o.gate o.least first.gate k) in
     ap (λ (x : ℤ). fold int_min (int_min a x) (map (ceiling_at p z) os)) e ∙ same_high n zones p q os z (int_min a (ceiling_at q z o)) (All-tail (IsValidOrder zones n) o os v) k
 
-pub box_is : (m : Market) (ds : List Decision) (marks : Marks) (box : PriceBox) (os : List Order) → IsValid m → os ≡ m.orders → HasOpened m ds marks
+pub box_is : (m : Market) (ds : List Decision) (marks : Marks) (box : PriceBox) (os : List Order) → IsValid m → SpeaksFor m os → HasOpened m ds marks
     → ((z : ℕ) → z < 64 → int_at box.low z ≡ low_by (opens_in marks) ds os z) → ((z : ℕ) → z < 64 → int_at box.high z ≡ high_by (opens_in marks) ds os z) → HasPrices m ds box
-box_is m ds marks box os v same k low high = record {
-  low = λ z l. low z (omega (arith, v.zones.1)) ∙ ap (λ (xs : List Order). low_by (opens_in marks) ds xs z) same
+box_is m ds marks box os v speaks k low high = record {
+  low = λ z l. low z (omega (arith, v.zones.1)) ∙ speaks.low (opens_in marks) ds z
       ∙ same_low (length m.gates) m.zones (opens_in marks) (opens m.gates ds) m.orders z (low_said ds z) v.orders k;
-  high = λ z l. high z (omega (arith, v.zones.1)) ∙ ap (λ (xs : List Order). high_by (opens_in marks) ds xs z) same
+  high = λ z l. high z (omega (arith, v.zones.1)) ∙ speaks.high (opens_in marks) ds z
       ∙ same_high (length m.gates) m.zones (opens_in marks) (opens m.gates ds) m.orders z (high_said ds z) v.orders k;
 }
 
@@ -113,14 +113,14 @@ regroup false false false z e = refl
 
 -- what is marked by a decision, by a rival and by a loss is closed itself
 pub shut_is : (m : Market) (ds : List Decision) (marks : Marks) (box : PriceBox) (os : List Order) (gates : List GateInfo) (g : ℕ) (none one two three : Bool)
-    → IsValid m → HasOpened m ds marks → HasPrices m ds box → os ≡ m.orders → gates ≡ m.gates → none ≡ false → one ≡ (none || closes ds g)
+    → IsValid m → HasOpened m ds marks → HasPrices m ds box → SpeaksFor m os → gates ≡ m.gates → none ≡ false → one ≡ (none || closes ds g)
     → two ≡ (one || has_rival gates (opens_in marks) g) → three ≡ (two || list_any (λ (o : Order). is_gate g o.gate && loses_in box o) os)
     → three ≡ is_shut m ds g
-shut_is m ds marks box os gates g none one two three v k h same_os same_gates n e f d =
+shut_is m ds marks box os gates g none one two three v k h speaks same_gates n e f d =
     d ∙ ap (λ (b : Bool). b || list_any (λ (o : Order). is_gate g o.gate && loses_in box o) os) (f ∙ ap (λ (b : Bool). b || has_rival gates (opens_in marks) g) e)
     ∙ regroup none (closes ds g) (has_rival gates (opens_in marks) g) (list_any (λ (o : Order). is_gate g o.gate && loses_in box o) os) n
     ∙ ap (λ (b : Bool). closes ds g || (b || list_any (λ (o : Order). is_gate g o.gate && loses_in box o) os)) (ap (λ (gs : List GateInfo). has_rival gs (opens_in marks) g) same_gates ∙ same_rival m.gates (opens_in marks) (opens m.gates ds) g k)
-    ∙ ap (λ (b : Bool). closes ds g || (has_rival m.gates (opens m.gates ds) g || b)) (ap (list_any (λ (o : Order). is_gate g o.gate && loses_in box o)) same_os ∙ same_loss m ds box g v h)
+    ∙ ap (λ (b : Bool). closes ds g || (has_rival m.gates (opens m.gates ds) g || b)) (speaks.losses box g ∙ same_loss m ds box g v h)
 
 -- ---- bounds
 

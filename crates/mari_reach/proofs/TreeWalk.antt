@@ -1,8 +1,8 @@
 -- A walk through a tree of states, item by item.
-use Rattle.std.proofs.Common.{◌≡◌, ℕ, zero, suc, ◌+◌, ◌<◌, ◌≤◌, ℤ, neg_ℤ, ◌≤ℤ◌, map, List, [], ◌∷◌, ◌++◌, length, take, drop, get_or, arith, refl, sym, ap, ◌∙◌, subst}
+use Rattle.std.proofs.Common.{◌≡◌, ℕ, zero, suc, ◌+◌, ◌<◌, ◌≤◌, ℤ, neg_ℤ, ◌≤ℤ◌, List, [], ◌∷◌, ◌++◌, length, take, drop, get_or, arith, refl, sym, ap, ◌∙◌, subst}
 use Rattle.std.specs.Prelude.{◌↔◌, IfOk, Result, Ok, Err, Bool, true, false, Option, Some, None, IfSome, MatchOption}
 use Rattle.std.proofs.Math.Seq.{drop-cons}
-use Rattle.std.specs.List.{All, fold}
+use Rattle.std.specs.List.{All}
 use Rattle.std.proofs.lemmas.List.{append_assoc, append-nil, drop_all, take_all, take_more}
 use Rattle.std.proofs.lemmas.List.Elements.{All-append, All-head, All-nil, All-push, All-tail}
 use Rattle.mari_market.specs.declared.market.Market.{Market}
@@ -14,15 +14,14 @@ use Rattle.mari_reach.specs.declared.decisions.ReachLeaf.{ReachLeaf}
 use Rattle.mari_reach.specs.declared.decisions.ReachItem.{ReachItem}
 use Rattle.mari_reach.specs.declared.decisions.ReachItem.TheVariants.{Branch, Leaf}
 use Rattle.mari_reach.specs.Places.{IsBadShape, IsFalseLeaf, IsReachVerdict, LeafFails, LeafFits, LeavesStates, ShapeFails, second_after, state_with, states_left, waiting_after}
-use Rattle.std.proofs.lemmas.Int.{ints, clamps}
-use Rattle.std.specs.Int.{int_max, int_min}
+use Rattle.std.proofs.lemmas.Int.{ints}
 use Rattle.mari_units.specs.declared.numbers.TheConstants.{CAP}
-use Rattle.mari_market.specs.declared.market.Order.{Order}
 use Rattle.mari_market.specs.Price.{IsPrice}
 use Rattle.mari_reach.specs.declared.decisions.Choice.{Choice}
 use Rattle.mari_reach.specs.declared.decisions.Choice.TheVariants.{OfGate, OfPrice}
 use Rattle.mari_reach.specs.State.{AreDecisions, IsBetweenPrices, IsDecision, IsLeft, MayBranch, ceiling_at, ceiling_said, children_at, first_of, floor_at, floor_said, high_of, high_said, low_of, low_said, opens, second_of}
 use Rattle.mari_reach.specs.Tree.{AnyLeaf, ArePartsOf, HasShape}
+use Rattle.mari_reach.proofs.Ranges.{max_from, min_to}
 
 -- ---- one item
 
@@ -128,26 +127,10 @@ first_there m ds (OfGate g) h price = h.there
 first_there m ds (OfPrice z p) h price = (h.there, price z p.0 h)
 
 -- a price within the box is within the cap
-low_capped : (f : Order → ℤ) (a : ℤ) (os : List Order) → neg_ℤ CAP ≤ℤ a → neg_ℤ CAP ≤ℤ fold int_max a (map f os)
-low_capped f a [] l = l
-low_capped f a (o ∷ os) l = low_capped f (int_max a (f o)) os (omega (arith, ints, clamps))
-
-low_said_capped : (f : Decision → ℤ) (a : ℤ) (ds : List Decision) → neg_ℤ CAP ≤ℤ a → neg_ℤ CAP ≤ℤ fold int_max a (map f ds)
-low_said_capped f a [] l = l
-low_said_capped f a (d ∷ ds) l = low_said_capped f (int_max a (f d)) ds (omega (arith, ints, clamps))
-
-high_capped : (f : Order → ℤ) (a : ℤ) (os : List Order) → a ≤ℤ CAP → fold int_min a (map f os) ≤ℤ CAP
-high_capped f a [] l = l
-high_capped f a (o ∷ os) l = high_capped f (int_min a (f o)) os (omega (arith, ints, clamps))
-
-high_said_capped : (f : Decision → ℤ) (a : ℤ) (ds : List Decision) → a ≤ℤ CAP → fold int_min a (map f ds) ≤ℤ CAP
-high_said_capped f a [] l = l
-high_said_capped f a (d ∷ ds) l = high_said_capped f (int_min a (f d)) ds (omega (arith, ints, clamps))
-
 price_between : (m : Market) (ds : List Decision) (z : ℕ) (p : ℤ) → IsBetweenPrices m ds z p → IsPrice p
 price_between m ds z p h =
-    let low : neg_ℤ CAP ≤ℤ low_of m ds z = low_capped (floor_at (opens m.gates ds) z) (low_said ds z) m.orders (low_said_capped (floor_said z) (neg_ℤ CAP) ds (omega (arith, ints))) in
-    let high : high_of m ds z ≤ℤ CAP = high_capped (ceiling_at (opens m.gates ds) z) (high_said ds z) m.orders (high_said_capped (ceiling_said z) CAP ds (omega (arith, ints))) in
+    let low : neg_ℤ CAP ≤ℤ low_of m ds z = max_from (floor_at (opens m.gates ds) z) (low_said ds z) (neg_ℤ CAP) m.orders (max_from (floor_said z) (neg_ℤ CAP) (neg_ℤ CAP) ds (omega (arith, ints))) in
+    let high : high_of m ds z ≤ℤ CAP = min_to (ceiling_at (opens m.gates ds) z) (high_said ds z) CAP m.orders (min_to (ceiling_said z) CAP CAP ds (omega (arith, ints))) in
     record { low = omega (arith, ints, low, h.low); high = omega (arith, ints, high, h.high) }
 
 -- a branch that may stand decides what is there

@@ -1,18 +1,22 @@
 -- States as tables.
 use Rattle.std.specs.Prelude.{◌≡◌, ◌&&◌, Bool, ℕ, ◌<◌, List, length}
+use Rattle.std.specs.List.{All, list_any}
+use Rattle.std.specs.Option.{is_some}
 use lib.Signed.{lt_z}
 use Rattle.mari_market.specs.declared.market.Border.{Border}
 use Rattle.mari_market.specs.declared.market.Order.{Order}
 use Rattle.mari_market.specs.declared.market.Market.{Market}
 use Rattle.mari_market.specs.Bounds.{Span, GateState}
 use Rattle.mari_market.specs.Flows.{FlowSpan}
+use Rattle.mari_market.specs.Activation.{is_gate}
+use Rattle.mari_market.specs.Market.{IsValidOrder}
 use Rattle.mari_market.specs.Prefix.{opens_in}
 use Rattle.mari_market.specs.Sums.{int_at}
 use Rattle.mari_reach.specs.declared.decisions.Decision.{Decision}
 use Rattle.mari_reach.specs.declared.marks.Marks.{Marks}
-use Rattle.mari_reach.specs.declared.states.PriceBox.{PriceBox}
+use Rattle.mari_reach.specs.declared.prices.PriceBox.{PriceBox}
 use Rattle.mari_reach.specs.declared.states.State.{State}
-use Rattle.mari_reach.specs.State.{border_span, gains_within, high_of, loses_within, low_of, opens, reached_span, shuts, state_by}
+use Rattle.mari_reach.specs.State.{border_span, gains_within, high_by, high_of, loses_within, low_by, low_of, opens, reached_span, shuts, state_by}
 
 -- whether an order gains at every price of the box
 abbrev pub gains_in : PriceBox → Order → Bool
@@ -42,6 +46,21 @@ HasOpened m ds marks = (g : ℕ) → g < length m.gates → opens_in marks g ≡
 pub record HasPrices (m : Market) (ds : List Decision) (box : PriceBox) : Type 0 where
   pub low : (z : ℕ) → z < m.zones → int_at box.low z ≡ low_of m ds z
   pub high : (z : ℕ) → z < m.zones → int_at box.high z ≡ high_of m ds z
+
+-- whether an order is of a gate
+abbrev pub has_gate : Order → Bool
+has_gate o = is_some o.gate
+
+-- whether some of these orders is of the gate and always loses by the box
+abbrev pub has_loss_in : PriceBox → List Order → ℕ → Bool
+has_loss_in box os g = list_any (λ (o : Order). is_gate g o.gate && loses_in box o) os
+
+-- orders that leave the same prices as all of a market, and close the same gates
+pub record SpeaksFor (m : Market) (os : List Order) : Type 0 where
+  pub valid : All (IsValidOrder m.zones (length m.gates)) os
+  pub low : (on : ℕ → Bool) (ds : List Decision) (z : ℕ) → low_by on ds os z ≡ low_by on ds m.orders z
+  pub high : (on : ℕ → Bool) (ds : List Decision) (z : ℕ) → high_by on ds os z ≡ high_by on ds m.orders z
+  pub losses : (box : PriceBox) (g : ℕ) → has_loss_in box os g ≡ has_loss_in box m.orders g
 
 -- the tables are those of a state
 pub record IsStateOf (m : Market) (ds : List Decision) (r : State) : Type 0 where

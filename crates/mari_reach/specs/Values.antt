@@ -1,9 +1,12 @@
 -- Leaves by the tables of a state.
-use Rattle.std.specs.Prelude.{◌≡◌, ◌||◌, Bool, true, false, ℕ, ℤ, pos, ◌≤ℤ◌, List, length, map}
+use Rattle.std.specs.Prelude.{◌≡◌, ◌||◌, not, Bool, true, false, ℕ, ℤ, pos, ◌≤ℤ◌, List, length, map}
+use Rattle.std.specs.Int.{int_max, int_min}
 use Rattle.std.specs.List.{list_any, range_with_len}
 use lib.Signed.{lt_z}
 use Rattle.mari_units.specs.declared.numbers.Cents.{Cents}
 use Rattle.mari_market.specs.declared.market.Border.{Border}
+use Rattle.mari_market.specs.declared.market.Side.{Side}
+use Rattle.mari_market.specs.declared.market.Side.TheVariants.{Inject, Withdraw}
 use Rattle.mari_market.specs.declared.market.Market.{Market}
 use Rattle.mari_market.specs.declared.certificate.CutSide.{CutSide}
 use Rattle.mari_market.specs.declared.certificate.CutSide.TheVariants.{Out, In}
@@ -22,6 +25,12 @@ use Rattle.mari_reach.specs.Tables.{flow_in, is_priceless, is_torn, span_in}
 -- the dual value by the tables
 abbrev pub dual_in : Market → State → List Cents → ℤ
 dual_in m r ps = dual_value_within (span_in r) (flow_in r) m ps
+
+-- whether a plain order is worth most at its greatest quantity: it gains at all prices from low to high, or it gains or is
+-- worth nothing at the potential and doesn't lose at all of them
+abbrev pub runs_best : Side → (c p low high : ℤ) → Bool
+runs_best Inject c p low high = lt_z c low || not (lt_z (int_min p high) c)
+runs_best Withdraw c p low high = lt_z high c || not (lt_z c (int_max p low))
 
 -- whether the tables have the gate as open, or it gains
 abbrev pub is_needed_in : Market → State → List Cents → ℕ → Bool

@@ -1,11 +1,12 @@
 //! Decisions of gates and prices, and the items of a tree below them.
 
-ghost use Rattle.std.specs.Prelude.{◌≡◌};
+ghost use Rattle.std.specs.Prelude.{◌≡◌, ◌↔◌, IsTrue};
+ghost use Rattle.mari_market.specs.Price.{IsPrice};
 ghost use Rattle.mari_reach.specs.Places.{second_after};
-ghost use Rattle.mari_reach.specs.State.{first_of, second_of};
+ghost use Rattle.mari_reach.specs.State.{first_of, second_of, AreDecisions, IsDecision};
 
-use mari_market::{Cut, Prices};
-use mari_units::Cents;
+use mari_market::{Cut, Market, Prices};
+use mari_units::{CAP, Cents};
 
 /// A decision: of a gate, or of what the price of a zone may be.
 #[derive(Clone, Copy, Debug, Drop, PartialEq, Eq)]
@@ -60,6 +61,33 @@ impl Decision {
             Decision::Gate(_, true) | Decision::Above(_, _) => None,
         }
     }
+}
+
+/// Whether a price is within the cap.
+fn is_price(price: Cents) -> bool
+    ensures { IsTrue result ↔ IsPrice price.0 }
+{
+    -CAP <= price.0 && price.0 <= CAP
+}
+
+/// Whether a decision is of a gate that is there, or of a price within the cap in a zone that is there.
+fn is_decision(market: &Market, decision: &Decision) -> bool
+    ensures { IsTrue result ↔ IsDecision market.now decision.now }
+{
+    match *decision {
+        Decision::Gate(gate, _) => (gate as usize) < market.gates.as_slice().len(),
+        Decision::AtMost(zone, price) => zone < market.zones && is_price(price),
+        Decision::Above(zone, price) => zone < market.zones && is_price(price),
+    }
+}
+
+/// Whether decisions are of gates and zones that are there, and of prices within the cap.
+pub fn are_decisions(market: &Market, decisions: &[Decision]) -> bool
+    ensures { IsTrue result ↔ AreDecisions market.now decisions.now }
+{
+    decisions
+        .iter()
+        .all(|decision| is_decision(market, decision))
 }
 
 /// Why nothing better lies below a state.

@@ -1,15 +1,17 @@
 //! The dual value by the tables of a state: what all orders gain and all borders earn at most, at one potential for each
 //! zone.
 
-ghost use Rattle.std.specs.Prelude.{◌≡◌, ℤ, pos, ◌*◌, ◌-ℤ◌, ◌*ℤ◌, ◌≤ℤ◌, neg_ℤ, ◌≤◌, ◌<◌, length};
+ghost use Rattle.std.specs.Prelude.{◌≡◌, if◌then◌else◌, ℤ, pos, ◌*◌, ◌-ℤ◌, ◌*ℤ◌, ◌≤ℤ◌, neg_ℤ, ◌≤◌, ◌<◌, length};
 ghost use Rattle.std.specs.List.{All};
+ghost use Rattle.mari_market.specs.declared.market.Side.TheVariants.{Inject, Withdraw};
 ghost use Rattle.mari_reach.specs.Tables.{flow_in, span_in};
-ghost use Rattle.mari_reach.specs.Values.{dual_in};
+ghost use Rattle.mari_reach.specs.Values.{dual_in, runs_best};
 ghost use Rattle.mari_market.specs.Dual.{gain_per_mw, best_within, best_border, best_flow, best_order};
 ghost use Rattle.mari_market.specs.Market.{IsValid, IsValidOrder, IsValidBorder};
 ghost use Rattle.mari_market.specs.Price.{IsCapped, IsPrice, ArePrices, price_at};
-ghost use Rattle.mari_market.specs.Sums.{int_sum};
+ghost use Rattle.mari_market.specs.Sums.{int_at, int_sum};
 
+use crate::prices::PriceBox;
 use crate::states::State;
 use mari_market::{Border, MOST_GAP, MOST_ORDERS, MOST_WORTH, Market, Order, Side};
 use mari_units::{Cents, MOST_BORDERS, MOST_FLOW, MOST_GATES, MOST_MW, MOST_ZONES};
@@ -75,6 +77,76 @@ pub(crate) fn best_order(order: &Order, state: &State, potentials: &[Cents]) -> 
 {
     let gap = gap(order, potential_at(potentials, order.zone));
     best_within(gap, state.span(order))
+}
+
+/// Whether a plain order that injects is worth most at its greatest quantity, and not at 0.
+fn injects_best(price: i64, potential: i64, low: i64, high: i64) -> bool
+    ensures { result ≡ runs_best Inject price potential low high }
+{
+    price < low || price <= potential.min(high)
+}
+
+/// The same of one that withdraws.
+fn withdraws_best(price: i64, potential: i64, low: i64, high: i64) -> bool
+    ensures { result ≡ runs_best Withdraw price potential low high }
+{
+    high < price || potential.max(low) <= price
+}
+
+/// The same of any plain order.
+fn runs_best(order: &Order, potential: Cents, prices: &PriceBox) -> bool
+    requires { order.now.zone < MOST_ZONES }
+    ensures { result ≡ runs_best order.now.side order.now.price.0 potential.0 (int_at prices.now.low order.now.zone) (int_at prices.now.high order.now.zone) }
+{
+    let low = prices.low[order.zone as usize];
+    let high = prices.high[order.zone as usize];
+    match order.side {
+        Side::Inject => injects_best(order.price.0, potential.0, low, high),
+        Side::Withdraw => withdraws_best(order.price.0, potential.0, low, high),
+    }
+}
+
+/// The quantity at which a plain order is worth most.
+fn best_quantity(order: &Order, potential: Cents, prices: &PriceBox) -> u32
+    requires { order.now.zone < MOST_ZONES }
+    ensures value { result ≡ (if runs_best order.now.side order.now.price.0 potential.0 (int_at prices.now.low order.now.zone) (int_at prices.now.high order.now.zone) then order.now.greatest else 0) }
+    ensures most { result ≤ order.now.greatest }
+{
+    if runs_best(order, potential, prices) {
+        order.greatest
+    } else {
+        0
+    }
+}
+
+/// The most that a plain order gains at its zone's potential, without its bounds.
+fn best_plain(order: &Order, state: &State, potentials: &[Cents]) -> i64
+    requires order { IsValidOrder (length potentials.now) MOST_GATES order.now }
+    requires plain { order.now.gate ≡ None }
+    requires few { length potentials.now ≤ MOST_ZONES }
+    requires potentials { All IsCapped potentials.now }
+    ensures value { result ≡ best_order (span_in state.now) potentials.now order.now }
+    ensures low { neg_ℤ (pos MOST_WORTH) ≤ℤ result }
+    ensures high { result ≤ℤ pos MOST_WORTH }
+{
+    let potential = potential_at(potentials, order.zone);
+    let mw = best_quantity(order, potential, &state.prices);
+    amount(gap(order, potential), mw)
+}
+
+/// The most that any order gains at its zone's potential.
+fn order_value(order: &Order, state: &State, potentials: &[Cents]) -> i64
+    requires order { IsValidOrder (length potentials.now) MOST_GATES order.now }
+    requires few { length potentials.now ≤ MOST_ZONES }
+    requires potentials { All IsCapped potentials.now }
+    ensures value { result ≡ best_order (span_in state.now) potentials.now order.now }
+    ensures low { neg_ℤ (pos MOST_WORTH) ≤ℤ result }
+    ensures high { result ≤ℤ pos MOST_WORTH }
+{
+    match order.gate {
+        None => best_plain(order, state, potentials),
+        Some(_) => best_order(order, state, potentials),
+    }
 }
 
 /// A zone's potential.
@@ -147,7 +219,7 @@ fn orders_value(orders: &[Order], state: &State, potentials: &[Cents]) -> i64
 {
     let mut total = 0;
     for order in orders {
-        total += best_order(order, state, potentials);
+        total += order_value(order, state, potentials);
     }
     total
 }

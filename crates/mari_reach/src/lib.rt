@@ -2,23 +2,27 @@
 //! gates, for prices, for orders and for borders, and the tests of a tree of them.
 #![tactic(auto)]
 
+mod closing;
 mod cuts;
 mod decisions;
 mod dual;
 mod gains;
+mod gated;
 mod laws;
 mod leaves;
 mod marks;
+mod prices;
 mod root;
 mod states;
 mod trees;
 mod walk;
 
-pub use decisions::{Choice, Decision, ReachItem, ReachLeaf};
+pub use decisions::{Choice, Decision, ReachItem, ReachLeaf, are_decisions};
 pub use dual::MOST_VALUE;
 pub use laws::{by_tree, early, needed, reached, twins};
 pub use leaves::check_leaf;
 pub use marks::Marks;
+pub use prices::PriceBox;
 pub use root::root_value;
-pub use states::{PriceBox, State, are_decisions, state_of};
+pub use states::{State, state_of};
 pub use trees::check_tree;

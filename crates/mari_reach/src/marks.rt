@@ -4,7 +4,7 @@ ghost use Rattle.std.specs.Prelude.{◌≡◌, ◌==◌, ◌||◌, ◌<◌, ◌�
 ghost use Rattle.std.specs.List.{list_any};
 ghost use Rattle.mari_market.specs.Gates.{ParentsEarlier};
 ghost use Rattle.mari_market.specs.Prefix.{opens_in};
-ghost use Rattle.mari_reach.specs.State.{line_of};
+ghost use Rattle.mari_reach.specs.State.{is_opened, line_of};
 
 use mari_market::GateInfo;
 use mari_units::MOST_GATES;
@@ -49,6 +49,16 @@ impl Marks {
         (gate as usize) < MOST_GATES && self.marks[gate as usize]
     }
 
+    /// Whether there is a gate and it is marked.
+    pub(crate) fn has_some(&self, gate: Option<u32>) -> bool
+        ensures { result ≡ is_opened (opens_in self.now) gate }
+    {
+        match gate {
+            None => false,
+            Some(gate) => self.has(gate),
+        }
+    }
+
     /// Marks a gate and all gates above it.
     pub(crate) fn mark_line(&mut self, gates: &[GateInfo], gate: u32)
         requires few { length gates.now ≤ MOST_GATES }
@@ -64,25 +74,5 @@ impl Marks {
             self.mark(at);
             next = gates[at as usize].parent;
         }
-    }
-
-    /// Whether a gate or one above it is marked.
-    pub(crate) fn has_in_line(&self, gates: &[GateInfo], gate: u32) -> bool
-        requires few { length gates.now ≤ MOST_GATES }
-        requires there { gate < length gates.now }
-        requires earlier { ParentsEarlier gates.now }
-        ensures { result ≡ list_any (opens_in self.now) (line_of gates.now gate) }
-    {
-        let mut next = Some(gate);
-        for step in 0..gates.len() {
-            let Some(at) = next else {
-                return false;
-            };
-            if self.has(at) {
-                return true;
-            }
-            next = gates[at as usize].parent;
-        }
-        false
     }
 }

@@ -7,13 +7,13 @@ ghost use Rattle.mari_market.specs.Prefix.{word_of};
 ghost use Rattle.mari_reach.specs.Leaf.{ReachLeafHolds};
 ghost use Rattle.mari_reach.specs.Places.{LeafFails, LeafFits, LeavesStates, ShapeFails, states_left, waiting_after};
 ghost use Rattle.mari_reach.specs.State.{AreDecisions, IsBetweenPrices, IsFree, IsLeft, MayBranch};
-ghost use Rattle.mari_reach.specs.Tables.{IsStateOf};
+ghost use Rattle.mari_reach.specs.Tables.{IsStateOf, SpeaksFor};
 ghost use Rattle.mari_reach.specs.Tree.{AnyLeaf};
 
 use crate::decisions::{Choice, Decision, ReachItem};
 use crate::leaves::check_leaf_by;
-use crate::states::{State, state_of};
-use mari_market::{Market, Prefix};
+use crate::states::{State, state_by};
+use mari_market::{Market, Order, Prefix};
 use mari_units::{Cents, Memory, Quarters};
 use std::alloc::Global;
 
@@ -103,11 +103,13 @@ impl Walk {
     pub(crate) fn is_false(
         &self,
         market: &Market,
+        gated: &[Order],
         item: &ReachItem,
         cutoff: Quarters,
         word: &Prefix,
     ) -> bool
         requires market { IsValid market.now }
+        requires gated { SpeaksFor market.now gated.now }
         requires decisions { AreDecisions market.now self.now.path.items }
         requires full { word.now.length ≡ length market.now.gates }
         ensures fails { IsTrue result → LeafFails market.now (ReachLeafHolds market.now cutoff.0 (word_of word.now)) (states_left self.now.is_left self.now.path.items) (item.now ∷ []) }
@@ -117,7 +119,7 @@ impl Walk {
             ReachItem::Branch(_) => false,
             ReachItem::Leaf(leaf) => {
                 let decisions = self.path.as_slice();
-                let state = state_of(market, decisions);
+                let state = state_by(market, gated, decisions);
                 self.is_left && !check_leaf_by(market, decisions, &state, leaf, cutoff, word)
             }
         }
@@ -127,6 +129,7 @@ impl Walk {
     pub(crate) fn first_false(
         &self,
         market: &Market,
+        gated: &[Order],
         found: Option<usize>,
         place: usize,
         item: &ReachItem,
@@ -134,6 +137,7 @@ impl Walk {
         word: &Prefix,
     ) -> Option<usize>
         requires market { IsValid market.now }
+        requires gated { SpeaksFor market.now gated.now }
         requires decisions { AreDecisions market.now self.now.path.items }
         requires full { word.now.length ≡ length market.now.gates }
         ensures kept { IfSome found (λ p. result ≡ Some p) }
@@ -142,7 +146,7 @@ impl Walk {
         if found.is_some() {
             return found;
         }
-        if self.is_false(market, item, cutoff, word) {
+        if self.is_false(market, gated, item, cutoff, word) {
             Some(place)
         } else {
             None
@@ -150,8 +154,14 @@ impl Walk {
     }
 
     /// Takes a branch at the state whose item comes next, if it may stand there.
-    fn take_branch(&mut self, market: &Market, choice: Choice) -> Result<bool, Memory>
+    fn take_branch(
+        &mut self,
+        market: &Market,
+        gated: &[Order],
+        choice: Choice,
+    ) -> Result<bool, Memory>
         requires market { IsValid market.now }
+        requires gated { SpeaksFor market.now gated.now }
         requires decisions { AreDecisions market.now self.old.path.items }
         requires left { IsTrue self.old.is_left }
         ensures fits { IfOk result (λ b. IsTrue b → LeavesStates market.now AnyLeaf (states_left self.old.is_left self.old.path.items) (ReachItem.Branch choice ∷ []) (states_left self.new.is_left self.new.path.items)) }
@@ -159,7 +169,7 @@ impl Walk {
         ensures decisions { OnOk result (AreDecisions market.now self.new.path.items) }
     {
         let decisions = self.path.as_slice();
-        let state = state_of(market, decisions);
+        let state = state_by(market, gated, decisions);
         if !may_branch(market, decisions, &state, choice) {
             return Ok(false);
         }
@@ -169,8 +179,14 @@ impl Walk {
 
     /// Takes an item, whatever its leaf says, and tells whether it is the item of a state: there is one that has none
     /// yet, and leaves what a branch decides.
-    pub(crate) fn take(&mut self, market: &Market, item: &ReachItem) -> Result<bool, Memory>
+    pub(crate) fn take(
+        &mut self,
+        market: &Market,
+        gated: &[Order],
+        item: &ReachItem,
+    ) -> Result<bool, Memory>
         requires market { IsValid market.now }
+        requires gated { SpeaksFor market.now gated.now }
         requires decisions { AreDecisions market.now self.old.path.items }
         ensures fits { IfOk result (λ b. IsTrue b → LeavesStates market.now AnyLeaf (states_left self.old.is_left self.old.path.items) (item.now ∷ []) (states_left self.new.is_left self.new.path.items)) }
         ensures fails { IfOk result (λ b. b ≡ false → ShapeFails market.now (states_left self.old.is_left self.old.path.items) (item.now ∷ [])) }
@@ -180,7 +196,7 @@ impl Walk {
             return Ok(false);
         }
         match item {
-            ReachItem::Branch(choice) => self.take_branch(market, *choice),
+            ReachItem::Branch(choice) => self.take_branch(market, gated, *choice),
             ReachItem::Leaf(_) => {
                 self.is_left = go_on(&mut self.path)?;
                 Ok(true)

@@ -135,7 +135,7 @@ module _ (books : Books) (ok : IsAccepted books) where
           let left : ℕ → Border = λ j. border_left (ends_at books.borders.borders j) (run_limits books b.run j) (taken.flow j) in
           let own : left k ≡ get_or (market_at books before b.run).borders k (left k) = sym (get_or-map-range_with_len left 0 (length books.borders.borders) k k (left k) l (zero-add k)) in
           let within : IsWithinLimits (left k) (get_or past.activation.flow k (pos 0)) =
-          subst (λ (b : Border). IsWithinLimits b (get_or past.activation.flow k (pos 0))) (sym own)
+          subst (λ (x : Border). IsWithinLimits x (get_or past.activation.flow k (pos 0))) (sym own)
           (AllZip-at IsWithinLimits (market_at books before b.run).borders past.activation.flow k (left k) (pos 0) (omega (arith, l, length-map-range_with_len left 0 (length books.borders.borders))) is.feasible.borders) in
           let fits = in_range books books.limits b.run k ok.limits (ok.borders.borders k _ l) in
           let same : (run_numbered books b.run).quarter ≡ quarter = sym next.quarter ∙ e in

@@ -1,15 +1,8 @@
-use Rattle.std.proofs.Common.{◌≡◌, ◌∙◌, ℕ, ℤ, pos, ◌*ℤ◌, ◌≤ℤ◌, ◌<ℤ◌, ◌≤◌, arith, rules, to_z-of_z, w64}
+use Rattle.std.proofs.Common.{◌∙◌, arith, rules, to_z-of_z, w64}
 use Rattle.std.proofs.lemmas.Int.{ints}
 use Rattle.std.specs.Prelude.{FitsSigned}
-use Rattle.mari_market.specs.Dual.{best_within}
-use Rattle.mari_market.proofs.Ints.{end_is_best}
+use Rattle.mari_reach.proofs.Plain.{greatest_best, least_best}
 use Rattle.mari_reach.proofs.dual.best_within.Goals as goal
-
-greatest_best : (gap : ℤ) (lo hi : ℕ) → lo ≤ hi → pos 0 <ℤ gap → gap *ℤ pos hi ≡ best_within gap (record { lo = lo; hi = hi })
-greatest_best gap lo hi l h = end_is_best gap (pos lo) (pos hi) (pos hi) (omega (arith, ints)) (omega (arith, ints)) (λ _. omega (arith, ints)) (λ s. absurd (omega (arith, ints, s)))
-
-least_best : (gap : ℤ) (lo hi : ℕ) → lo ≤ hi → gap ≤ℤ pos 0 → gap *ℤ pos lo ≡ best_within gap (record { lo = lo; hi = hi })
-least_best gap lo hi l h = end_is_best gap (pos lo) (pos lo) (pos hi) (omega (arith, ints)) (omega (arith, ints)) (λ s. absurd (omega (arith, ints, s))) (λ _. omega (arith, ints))
 
 pub returns-then-gap-gt0-clause-value : goal.returns-then-gap-gt0-clause-value
 returns-then-gap-gt0-clause-value c =

@@ -1,0 +1,180 @@
+//! The gates that decisions open and close.
+
+ghost use Rattle.std.specs.Prelude.{◌≡◌, ◌&&◌, ◌||◌, ◌<◌, ◌≤◌, ℕ, length};
+ghost use Rattle.std.specs.List.{All, list_any};
+ghost use Rattle.mari_market.specs.declared.market.Order.{Order};
+ghost use Rattle.mari_market.specs.Activation.{is_gate};
+ghost use Rattle.mari_market.specs.Gates.{ParentsEarlier};
+ghost use Rattle.mari_market.specs.Market.{IsValid, IsValidOrder};
+ghost use Rattle.mari_market.specs.Prefix.{opens_in};
+ghost use Rattle.mari_reach.specs.State.{are_rivals, closes, closes_by, has_rival, is_shut, line_of, opens, opens_by, AreDecisions, IsDecision};
+ghost use Rattle.mari_reach.specs.Tables.{HasOpened, HasPrices, SpeaksFor, loses_in};
+
+use crate::decisions::Decision;
+use crate::marks::Marks;
+use crate::prices::PriceBox;
+use mari_market::{GateInfo, Market, Order};
+use mari_units::{MOST_GATES, MOST_ZONES};
+
+/// Marks the gates that a decision opens: one that it decides as open, and all above it.
+fn mark_opened(opened: &mut Marks, market: &Market, decision: &Decision)
+    requires market { IsValid market.now }
+    requires decision { IsDecision market.now decision.now }
+    ensures { (g : ℕ) → opens_in opened.new g ≡ (opens_in opened.old g || opens_by market.now.gates g decision.now) }
+{
+    match *decision {
+        Decision::Gate(gate, is_open) => {
+            if is_open {
+                opened.mark_line(market.gates.as_slice(), gate);
+            }
+        }
+        Decision::AtMost(_, _) => {}
+        Decision::Above(_, _) => {}
+    }
+}
+
+/// The gates that decisions open.
+pub(crate) fn opened_by(market: &Market, decisions: &[Decision]) -> Marks
+    requires market { IsValid market.now }
+    requires decisions { AreDecisions market.now decisions.now }
+    ensures { (g : ℕ) → opens_in result g ≡ opens market.now.gates decisions.now g }
+{
+    let mut opened = Marks::none();
+    for decision in decisions {
+        mark_opened(&mut opened, market, decision);
+    }
+    opened
+}
+
+/// Marks the gate that a decision closes.
+fn mark_one_closed(marks: &mut Marks, market: &Market, decision: &Decision)
+    requires market { IsValid market.now }
+    requires decision { IsDecision market.now decision.now }
+    ensures { (g : ℕ) → opens_in marks.new g ≡ (opens_in marks.old g || closes_by g decision.now) }
+{
+    match *decision {
+        Decision::Gate(gate, is_open) => {
+            if !is_open {
+                marks.mark(gate);
+            }
+        }
+        Decision::AtMost(_, _) => {}
+        Decision::Above(_, _) => {}
+    }
+}
+
+/// Marks the gates that decisions close.
+fn mark_closed(marks: &mut Marks, market: &Market, decisions: &[Decision])
+    requires market { IsValid market.now }
+    requires decisions { AreDecisions market.now decisions.now }
+    ensures { (g : ℕ) → opens_in marks.new g ≡ (opens_in marks.old g || closes decisions.now g) }
+{
+    for decision in decisions {
+        mark_one_closed(marks, market, decision);
+    }
+}
+
+/// Marks the gates with an order that always loses.
+fn mark_losses(marks: &mut Marks, prices: &PriceBox, orders: &[Order])
+    requires { All (IsValidOrder MOST_ZONES MOST_GATES) orders.now }
+    ensures { (g : ℕ) → opens_in marks.new g ≡ (opens_in marks.old g || list_any (λ (o : Order). is_gate g o.gate && loses_in prices.now o) orders.now) }
+{
+    for order in orders {
+        if let Some(gate) = order.gate
+            && prices.loses(order)
+        {
+            marks.mark(gate);
+        }
+    }
+}
+
+/// Whether two gates are different ones of one group.
+fn are_rivals(gates: &[GateInfo], gate: usize, other: usize) -> bool
+    requires gate { gate < length gates.now }
+    requires other { other < length gates.now }
+    ensures { result ≡ are_rivals gates.now gate other }
+{
+    gate != other && gates[gate].group.is_some() && gates[gate].group == gates[other].group
+}
+
+/// Marks the other gates of a gate's group.
+fn mark_group(marks: &mut Marks, gates: &[GateInfo], gate: usize)
+    requires few { length gates.now ≤ MOST_GATES }
+    requires there { gate < length gates.now }
+    ensures { (g : ℕ) → g < length gates.now → opens_in marks.new g ≡ (opens_in marks.old g || are_rivals gates.now g gate) }
+{
+    for other in 0..gates.len() {
+        if are_rivals(gates, other, gate) {
+            marks.mark(other as u32);
+        }
+    }
+}
+
+/// Marks the other gates of an open gate's group.
+fn mark_rivals_of(marks: &mut Marks, gates: &[GateInfo], opened: &Marks, gate: usize)
+    requires few { length gates.now ≤ MOST_GATES }
+    requires there { gate < length gates.now }
+    ensures { (g : ℕ) → g < length gates.now → opens_in marks.new g ≡ (opens_in marks.old g || (are_rivals gates.now g gate && opens_in opened.now gate)) }
+{
+    if gates[gate].group.is_some() && opened.has(gate as u32) {
+        mark_group(marks, gates, gate);
+    }
+}
+
+/// Marks the gates whose group has another open gate.
+fn mark_rivals(marks: &mut Marks, gates: &[GateInfo], opened: &Marks)
+    requires few { length gates.now ≤ MOST_GATES }
+    ensures { (g : ℕ) → g < length gates.now → opens_in marks.new g ≡ (opens_in marks.old g || has_rival gates.now (opens_in opened.now) g) }
+{
+    for gate in 0..gates.len() {
+        mark_rivals_of(marks, gates, opened, gate);
+    }
+}
+
+/// The gates that are closed themselves.
+pub(crate) fn shut_themselves(
+    market: &Market,
+    orders: &[Order],
+    decisions: &[Decision],
+    opened: &Marks,
+    prices: &PriceBox,
+) -> Marks
+    requires market { IsValid market.now }
+    requires orders { SpeaksFor market.now orders.now }
+    requires decisions { AreDecisions market.now decisions.now }
+    requires opened { HasOpened market.now decisions.now opened.now }
+    requires prices { HasPrices market.now decisions.now prices.now }
+    ensures { (g : ℕ) → g < length market.now.gates → opens_in result g ≡ is_shut market.now decisions.now g }
+{
+    let mut shut = Marks::none();
+    mark_closed(&mut shut, market, decisions);
+    mark_rivals(&mut shut, market.gates.as_slice(), opened);
+    mark_losses(&mut shut, prices, orders);
+    shut
+}
+
+/// Whether a gate is closed itself or its parent is closed, where that is known of all gates before it.
+fn is_closed(gates: &[GateInfo], shut: &Marks, closed: &Marks, gate: usize) -> bool
+    requires few { length gates.now ≤ MOST_GATES }
+    requires there { gate < length gates.now }
+    requires earlier { ParentsEarlier gates.now }
+    requires before { (h : ℕ) → h < gate → opens_in closed.now h ≡ list_any (opens_in shut.now) (line_of gates.now h) }
+    ensures { result ≡ list_any (opens_in shut.now) (line_of gates.now gate) }
+{
+    shut.has(gate as u32) || closed.has_some(gates[gate].parent)
+}
+
+/// The gates in whose line one is closed itself.
+pub(crate) fn shut_by(gates: &[GateInfo], shut: &Marks) -> Marks
+    requires few { length gates.now ≤ MOST_GATES }
+    requires earlier { ParentsEarlier gates.now }
+    ensures { (g : ℕ) → g < length gates.now → opens_in result g ≡ list_any (opens_in shut.now) (line_of gates.now g) }
+{
+    let mut closed = Marks::none();
+    for gate in 0..gates.len() {
+        if is_closed(gates, shut, &closed, gate) {
+            closed.mark(gate as u32);
+        }
+    }
+    closed
+}

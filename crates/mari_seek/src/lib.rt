@@ -12,6 +12,7 @@ mod nodes;
 mod places;
 mod pricing;
 mod rounding;
+mod rungs;
 mod search;
 mod solver;
 mod sought;

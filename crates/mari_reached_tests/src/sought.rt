@@ -224,7 +224,7 @@ fn sought_in(alloc: Global, case: &Case) -> Result<Sought, AllocError> {
     Ok(Sought {
         end: case.end,
         word: Prefix {
-            length: case.market.gates.len() as u32,
+            length: u32::try_from(case.market.gates.len()).unwrap_or(0),
             bits: [case.bits, 0, 0, 0, 0, 0, 0, 0],
         },
         tree: Items::of(tree),

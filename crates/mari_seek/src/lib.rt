@@ -1,0 +1,24 @@
+//! The search of the second form of certificate: branch and bound over states of `mari_reach`, best bound first.
+//!
+//! Nothing is promised of what it finds: whoever answers by it checks its tree first. The search is safe and ends.
+#![tactic(auto)]
+
+mod around;
+mod candidates;
+mod choosing;
+mod gains;
+mod lists;
+mod nodes;
+mod places;
+mod pricing;
+mod rounding;
+mod rungs;
+mod search;
+mod solver;
+mod sought;
+mod spans;
+mod tree;
+mod view;
+mod words;
+
+pub use sought::{End, Sought, seek};

@@ -1,0 +1,372 @@
+//! The search of one market: nodes by their bounds, and the best activation that was found.
+
+ghost use Rattle.mari_market.specs.Market.{IsValid};
+
+use crate::gains::{needed_word, open_running};
+use crate::lists::number_of;
+use crate::nodes::{Kind, Node, Turn};
+use crate::places::Places;
+use crate::solver::{Optimum, Solved, solve, unbalanced};
+use crate::spans::Spans;
+use crate::view::{Child, View, decided, view_of};
+use crate::words::{closed, is_before};
+use mari_market::{Activation, Market, Prefix};
+use mari_prices::contradiction;
+use mari_reach::{Choice, Decision};
+use mari_units::Items;
+use mari_welfare::is_feasible;
+use std::alloc::{AllocError, Global};
+use std::collections::BinaryHeap;
+
+/// After so many turns not every relaxed optimum is rounded.
+const TURNS_ROUNDED: u32 = 100;
+
+/// Of so many later turns one is rounded.
+const ROUNDED_EACH: u32 = 8;
+
+/// The search of one market.
+#[derive(Drop)]
+pub(crate) struct Search {
+    /// Which orders and borders are of which zone and gate.
+    pub(crate) places: Places,
+    /// The relaxed optimum where nothing is decided.
+    pub(crate) root: Optimum,
+    /// The nodes, parents before children.
+    pub(crate) nodes: Vec<Node>,
+    /// The greatest welfare of an activation that was found, in quarter-cents.
+    pub(crate) best: i64,
+    /// Its gate word, the first of those that were found.
+    pub(crate) word: Prefix,
+    waiting: BinaryHeap<Turn>,
+    /// Whether the solver gave up somewhere.
+    stuck: bool,
+}
+
+/// A node as it is visited.
+#[derive(Drop)]
+pub(crate) struct Visit {
+    /// What its state decides.
+    pub(crate) decisions: Vec<Decision>,
+    /// What its state leaves.
+    pub(crate) view: View,
+    /// Its relaxed optimum.
+    pub(crate) optimum: Optimum,
+    /// The gates that run in it.
+    pub(crate) runs: Prefix,
+}
+
+/// How a search ended.
+#[derive(Clone, Copy, Debug, Drop, PartialEq, Eq)]
+pub(crate) enum Stop {
+    /// No node waits.
+    Done,
+    /// The budget is spent, or the search can't go on.
+    Left,
+}
+
+/// What runs in an optimum, as an activation.
+pub(crate) fn activation_of(alloc: Global, optimum: &Optimum) -> Result<Activation, AllocError> {
+    let mut mw = Vec::with_capacity(alloc, optimum.amounts.len())?;
+    for amount in &optimum.amounts {
+        mw.push(u32::try_from(amount.unsigned_abs()).unwrap_or(0))?;
+    }
+    let flow = Vec::from_slice(alloc, optimum.flows.as_slice())?;
+    Ok(Activation {
+        mw: Items::of(mw),
+        flow: Items::of(flow),
+    })
+}
+
+/// Whether a bound holds by its value, and for the word by the gates that the state opens alone.
+fn holds_at_sight(node: &Node, best: i64, word: &Prefix) -> bool {
+    node.bound < best || (node.bound == best && !is_before(&node.word, word))
+}
+
+impl Search {
+    /// The search of a market, with its root and the best activation that closes every gate; nothing where the solver
+    /// gives up.
+    pub(crate) fn start(alloc: Global, market: &Market) -> Result<Option<Search>, AllocError>
+        requires { IsValid market.now }
+    {
+        let places = Places::of(alloc, market)?;
+        let none = Vec::new(alloc);
+        let Some(view) = view_of(alloc, market, &none)? else {
+            return Ok(None);
+        };
+        let begun = unbalanced(alloc, market)?;
+        let Solved::Optimum(root) = solve(alloc, market, &places, &view.spans, &begun)? else {
+            return Ok(None);
+        };
+        let word = closed(market.gates.as_slice().len() as u32);
+        let spans = Spans::of_word(alloc, market, &word)?;
+        let Solved::Optimum(first) = solve(alloc, market, &places, &spans, &root)? else {
+            return Ok(None);
+        };
+        let start = root.clone()?;
+        let mut search = Search {
+            places,
+            root,
+            nodes: Vec::new(alloc),
+            best: first.value,
+            word,
+            waiting: BinaryHeap::new(alloc),
+            stuck: false,
+        };
+        search.add(alloc, market, none, &start)?;
+        Ok(Some(search))
+    }
+
+    /// The gates that run in an optimum.
+    pub(crate) fn running(&self, market: &Market, optimum: &Optimum) -> Prefix {
+        let mut word = closed(self.word.length);
+        open_running(market, &optimum.amounts, &mut word);
+        word
+    }
+
+    /// Takes a gate word of this welfare as the best, if it is better or earlier.
+    pub(crate) fn offer(&mut self, value: i64, word: Prefix) {
+        if value > self.best || (value == self.best && is_before(&word, &self.word)) {
+            self.best = value;
+            self.word = word;
+        }
+    }
+
+    /// Whether no better or earlier activation lies below a node, by its bound.
+    pub(crate) fn bound_holds(
+        &self,
+        alloc: Global,
+        market: &Market,
+        node: &Node,
+    ) -> Result<bool, AllocError>
+        requires { IsValid market.now }
+    {
+        if node.bound > self.best || holds_at_sight(node, self.best, &self.word) {
+            return Ok(node.bound <= self.best);
+        }
+        let Some(view) = view_of(alloc, market, &node.decisions)? else {
+            return Ok(false);
+        };
+        let needed = needed_word(market, &view.spans, &node.potentials, &node.word);
+        Ok(!is_before(&needed, &self.word))
+    }
+
+    /// Offers an optimum, where it is whole and has consistent prices.
+    fn judge(&mut self, alloc: Global, market: &Market, optimum: &Optimum) -> Result<(), AllocError>
+        requires { IsValid market.now }
+    {
+        let activation = activation_of(alloc, optimum)?;
+        if is_feasible(market, &activation) {
+            if contradiction(alloc, market, &activation)?.is_none() {
+                let running = self.running(market, optimum);
+                self.offer(optimum.value, running);
+            }
+        }
+        Ok(())
+    }
+
+    /// A node of a state, examined from an optimum within looser bounds. Where the solver gives up it has that optimum.
+    fn examined(
+        &mut self,
+        alloc: Global,
+        market: &Market,
+        decisions: Vec<Decision>,
+        start: &Optimum,
+    ) -> Result<Node, AllocError>
+        requires { IsValid market.now }
+    {
+        let Some(view) = view_of(alloc, market, &decisions)? else {
+            return Ok(Node::ended(alloc, decisions, Kind::Void));
+        };
+        let root = self.root.amounts.as_slice();
+        match solve(alloc, market, &self.places, &view.spans, start)? {
+            Solved::Cut(cut) => Ok(Node::ended(alloc, decisions, Kind::Cut(cut))),
+            Solved::Stuck => {
+                self.stuck = true;
+                Node::waiting(alloc, decisions, view.word, root, start)
+            }
+            Solved::Optimum(optimum) => {
+                let node = Node::waiting(alloc, decisions, view.word, root, &optimum)?;
+                self.judge(alloc, market, &optimum)?;
+                Ok(node)
+            }
+        }
+    }
+
+    /// Adds a node of a state.
+    fn add(
+        &mut self,
+        alloc: Global,
+        market: &Market,
+        decisions: Vec<Decision>,
+        start: &Optimum,
+    ) -> Result<(), AllocError>
+        requires { IsValid market.now }
+    {
+        let node = self.examined(alloc, market, decisions, start)?;
+        if matches!(&node.kind, Kind::Waiting) {
+            self.waiting.push(node.turn(self.nodes.len()))?;
+        }
+        self.nodes.push(node)?;
+        Ok(())
+    }
+
+    /// Says how a node stands.
+    fn mark(&mut self, number: u32, kind: Kind) {
+        if let Some(node) = self.nodes.get_mut(number as usize) {
+            node.kind = kind;
+        }
+    }
+
+    /// Whether a node was closed by its bound, which doesn't hold for the present best.
+    fn is_open_again(
+        &self,
+        alloc: Global,
+        market: &Market,
+        number: usize,
+    ) -> Result<Option<Turn>, AllocError>
+        requires { IsValid market.now }
+    {
+        match self.nodes.get(number) {
+            Some(node) if matches!(&node.kind, Kind::Bound) => {
+                if self.bound_holds(alloc, market, node)? {
+                    Ok(None)
+                } else {
+                    Ok(Some(node.turn(number)))
+                }
+            }
+            _ => Ok(None),
+        }
+    }
+
+    /// Lets nodes wait again whose bounds don't hold for an earlier word. It says whether there are some.
+    fn reopen(&mut self, alloc: Global, market: &Market) -> Result<bool, AllocError>
+        requires { IsValid market.now }
+    {
+        let mut some = false;
+        for number in 0..self.nodes.len() {
+            if let Some(turn) = self.is_open_again(alloc, market, number)? {
+                self.mark(number_of(number), Kind::Waiting);
+                self.waiting.push(turn)?;
+                some = true;
+            }
+        }
+        Ok(some)
+    }
+
+    /// Whether a node's bound holds; then it is marked so.
+    fn close(&mut self, alloc: Global, market: &Market, number: u32) -> Result<bool, AllocError>
+        requires { IsValid market.now }
+    {
+        let holds = match self.nodes.get(number as usize) {
+            Some(node) => self.bound_holds(alloc, market, node)?,
+            None => true,
+        };
+        if holds {
+            self.mark(number, Kind::Bound);
+        }
+        Ok(holds)
+    }
+
+    /// A node as it is visited.
+    fn visit_of(
+        &self,
+        alloc: Global,
+        market: &Market,
+        number: u32,
+    ) -> Result<Option<Visit>, AllocError>
+        requires { IsValid market.now }
+    {
+        let Some(node) = self.nodes.get(number as usize) else {
+            return Ok(None);
+        };
+        let Some(view) = view_of(alloc, market, &node.decisions)? else {
+            return Ok(None);
+        };
+        let optimum = node.optimum(alloc, &self.root.amounts)?;
+        let decisions = Vec::from_slice(alloc, node.decisions.as_slice())?;
+        let runs = self.running(market, &optimum);
+        Ok(Some(Visit {
+            decisions,
+            view,
+            optimum,
+            runs,
+        }))
+    }
+
+    /// Branches a node.
+    fn branch(
+        &mut self,
+        alloc: Global,
+        market: &Market,
+        number: u32,
+        visit: &Visit,
+        choice: Choice,
+    ) -> Result<(), AllocError>
+        requires { IsValid market.now }
+    {
+        let first = decided(alloc, &visit.decisions, choice, Child::First)?;
+        let second = decided(alloc, &visit.decisions, choice, Child::Second)?;
+        let children = number_of(self.nodes.len());
+        self.mark(number, Kind::Branch(choice, children));
+        self.add(alloc, market, first, &visit.optimum)?;
+        self.add(alloc, market, second, &visit.optimum)
+    }
+
+    /// Visits a node. It says whether the search can go on.
+    fn visit(
+        &mut self,
+        alloc: Global,
+        market: &Market,
+        number: u32,
+        turn: u32,
+    ) -> Result<bool, AllocError>
+        requires { IsValid market.now }
+    {
+        let Some(visit) = self.visit_of(alloc, market, number)? else {
+            return Ok(false);
+        };
+        if turn < TURNS_ROUNDED || turn % ROUNDED_EACH == 0 {
+            self.round(alloc, market, &visit)?;
+            if self.close(alloc, market, number)? {
+                return Ok(true);
+            }
+        }
+        let Some(choice) = self.choose(alloc, market, &visit)? else {
+            return Ok(false);
+        };
+        self.branch(alloc, market, number, &visit, choice)?;
+        Ok(!self.stuck)
+    }
+
+    /// Visits nodes until none waits or the budget of nodes is spent.
+    pub(crate) fn run(
+        &mut self,
+        alloc: Global,
+        market: &Market,
+        budget: u32,
+    ) -> Result<Stop, AllocError>
+        requires { IsValid market.now }
+    {
+        let mut turn = 0u32;
+        for _ in 0..u64::MAX {
+            let Some(next) = self.waiting.pop() else {
+                if self.reopen(alloc, market)? {
+                    continue;
+                }
+                return Ok(Stop::Done);
+            };
+            let number = next.number();
+            if self.close(alloc, market, number)? {
+                continue;
+            }
+            if self.nodes.len().saturating_add(2) > budget as usize {
+                return Ok(Stop::Left);
+            }
+            if !self.visit(alloc, market, number, turn)? {
+                return Ok(Stop::Left);
+            }
+            turn = turn.saturating_add(1);
+        }
+        Ok(Stop::Left)
+    }
+}

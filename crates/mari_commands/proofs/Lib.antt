@@ -16,4 +16,5 @@ pub mod ShortWords
 pub mod Summaries
 pub mod Stating
 pub mod valid
+pub mod Asking
 pub mod Causes

@@ -36,6 +36,7 @@ use Rattle.mari_capacity.specs.declared.ending.Valued.{Valued}
 use Rattle.mari_capacity.specs.Ends.{IsEndOf}
 use Rattle.mari_capacity.specs.Streams.{EndsAs, IsPageEnd, IsWrapped, ValueStates}
 use Rattle.mari_market.specs.Clearing.{IsBudget, IsWorkerCount}
+use Rattle.mari_publish.specs.Streams.{AsksForPage}
 use Rattle.mari_commands.specs.declared.outcome.Job.{Job}
 use Rattle.mari_commands.specs.declared.outcome.JointJob.{JointJob}
 use Rattle.mari_commands.specs.declared.outcome.Outcome.{Outcome}
@@ -100,6 +101,15 @@ abbrev pub IsOwn : Outcome → Type 0
 IsOwn (Feeds folder) = ⊤
 IsOwn (Joins quarters) = ⊤
 IsOwn _ = ⊥
+
+-- quarters are to be cleared as one market
+abbrev pub AreQuarters : Outcome → Type 0
+AreQuarters (Joins quarters) = ⊤
+AreQuarters _ = ⊥
+
+-- the shelf is asked for nothing, or for one page alone: a call opens it, and each further one is for a piece of it
+abbrev pub AsksForOne : (before now given : ℕ) → Type 0
+AsksForOne before now given = (now ≡ before) ⊎ AsksForPage ⊥ before now given
 
 -- a job that can be done: its books are a folder's, and its numbers are within their limits
 pub record IsReady (job : Job) : Type 0 where

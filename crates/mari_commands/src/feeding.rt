@@ -2,7 +2,7 @@
 
 ghost use Rattle.std.specs.Prelude.{◌≡◌};
 ghost use Rattle.mari_io.specs.Outside.{Counts, Rose};
-ghost use Rattle.mari_commands.specs.Outcome.{ReportsParts, ReportsText};
+ghost use Rattle.mari_commands.specs.Outcome.{AsksForOne, ReportsParts, ReportsText};
 
 use crate::checking::text_refusal;
 use crate::saying::{say_no_page, say_refused};
@@ -26,8 +26,10 @@ fn say_fault<K: Sink>(alloc: Global, sink: &mut K, fault: TextFault) -> Status
 
 /// Prints the feed of a folder's publication, which is read in pieces, and then the line of the status, where it has
 /// one. Of the folder it reads the publication alone.
+#[tactic(auto, using(crate::proofs::Asking::one_page))]
 pub fn fed<S: Shelf, K: Sink>(alloc: Global, shelf: &mut S, sink: &mut K, folder: &str) -> Status
     ensures same { S.pages shelf.new ≡ S.pages shelf.old }
+    ensures fetched { AsksForOne (S.fetches shelf.old) (S.fetches shelf.new) (S.given shelf.new) }
     ensures reported { ReportsParts (S.pages shelf.old) (Rose (S.faults shelf.old) (S.faults shelf.new)) folder.now (K.taken sink.old) (K.taken sink.new) result }
 
     // Why the page wasn't had, or a text not written.

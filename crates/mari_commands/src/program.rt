@@ -9,9 +9,9 @@ ghost use Rattle.mari_day.specs.Files.{Gap};
 ghost use Rattle.mari_capacity.specs.declared.ending.ValueEnd.{ValueEnd as TheValueEnd};
 ghost use Rattle.mari_words.specs.Asked.Asked.{Generate};
 ghost use Rattle.mari_words.specs.Words.{command_at};
-ghost use Rattle.mari_commands.specs.Commands.{AsksForFiles, AsksForPages, EndsValues, HasBooksToClear, IsFeedable, IsMigratable, IsReadable, LacksPage, RefusesFeed, RefusesFiles, RefusesText, text_refusal};
+ghost use Rattle.mari_commands.specs.Commands.{AsksForFeed, AsksForFiles, AsksForPages, EndsValues, HasBooksToClear, IsFeedable, IsMigratable, IsReadable, LacksPage, RefusesFeed, RefusesFiles, RefusesText, text_refusal};
 ghost use Rattle.mari_commands.specs.Headline.{HasBudget};
-ghost use Rattle.mari_commands.specs.Outcome.{IsNoPage, IsOfWords, IsOwn, IsReportable, IsSummarised, Reported, Says};
+ghost use Rattle.mari_commands.specs.Outcome.{AreQuarters, AsksForOne, IsNoPage, IsOfWords, IsOwn, IsReportable, IsSummarised, Reported, Says};
 ghost use Rattle.mari_commands.specs.Values.{value_status};
 ghost use Rattle.mari_commands.specs.Program.{IsDayStatus, IsStatus, IsVerdictStatus, OrFault, gap_status};
 ghost use Rattle.mari_commands.specs.Joint.{AnswersOf, Decides, IsJoinable};
@@ -111,6 +111,7 @@ fn finish<S: Shelf, K: Sink, G: Turnstile, R: Threads + Wait + Sync>(
     requires { IsReportable outcome.now }
     ensures same { S.pages shelf.new ≡ S.pages shelf.old }
     ensures untouched { (IsOwn outcome.now → ⊥) → S.fetches shelf.new ≡ S.fetches shelf.old }
+    ensures alone { (AreQuarters outcome.now → ⊥) → AsksForOne (S.fetches shelf.old) (S.fetches shelf.new) (S.given shelf.new) }
     ensures reported { Reported (S.pages shelf.old) (Rose (S.faults shelf.old) (S.faults shelf.new)) outcome.now (K.taken sink.old) (K.taken sink.new) result }
 
     // Why a page wasn't had, or a text not written.
@@ -161,8 +162,9 @@ pub fn run_program<S: Shelf, K: Sink, G: Turnstile, R: Threads + Wait + Sync>(
     ensures answers { AnswersOf (command_at (map string_bytes words.now)) (S.pages shelf.old) (Rose (S.faults shelf.old) (S.faults shelf.new)) (K.taken sink.old) (K.taken sink.new) result }
     ensures same { S.pages shelf.new ≡ S.pages shelf.old }
 
-    // Where the words read no page, nothing is fetched.
+    // Where the words read no page, nothing is fetched; a feed asks for the publication alone.
     ensures untouched { (AsksForPages (command_at (map string_bytes words.now)) → ⊥) → S.fetches shelf.new ≡ S.fetches shelf.old }
+    ensures alone { AsksForFeed (command_at (map string_bytes words.now)) → AsksForOne (S.fetches shelf.old) (S.fetches shelf.new) (S.given shelf.new) }
 
     // Why a page wasn't had, or a text not written.
     ensures read_fault { Counts (result ≡ Status.ReadFault) (S.faults shelf.old) (S.faults shelf.new) }

@@ -9,6 +9,9 @@ use Rattle.mari_commands.proofs.Causes.{failed-counts, missing-counts, too-long-
 use Rattle.mari_commands.proofs.Complete.{checked-answer, cleared-answer, complete-answer, fed-answer, gap-answer, islands-answer, migrated-answer, refuses-answer, refuses-feed-answer, refuses-text-answer, split-answer, values-answer}
 use Rattle.mari_commands.proofs.Decided.{decided-answer, joined-answer}
 use Rattle.mari_commands.proofs.Joint.{answers-of}
+use Rattle.mari_commands.proofs.Asking.{feed-no-quarters}
+use Rattle.mari_commands.proofs.Outcomes.{files-no-feed}
+use Rattle.mari_commands.specs.Outcome.{AsksForOne}
 use Rattle.mari_commands.proofs.program.run_program.Goals as goal
 
 pub returns-clause-answers : goal.returns-clause-answers
@@ -106,3 +109,8 @@ asked-for words _ w own = absurd own
 pub returns-clause-untouched : goal.returns-clause-untouched
 returns-clause-untouched g c = λ none.
     c.finish.ensures.untouched (λ own. none (inr (asked-for _ c.outcome_of-outcome.result c.outcome_of-outcome.ensures.words own))) ∙ c.outcome_of-outcome.ensures.untouched (λ files. none (inl files))
+
+pub returns-clause-alone : goal.returns-clause-alone
+returns-clause-alone g c = λ feed.
+    let none = c.outcome_of-outcome.ensures.untouched (λ files. files-no-feed _ files feed) in
+    rw (sym none) (c.finish.ensures.alone (feed-no-quarters _ c.outcome_of-outcome.result feed c.outcome_of-outcome.ensures.words))

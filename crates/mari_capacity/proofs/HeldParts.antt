@@ -1,5 +1,5 @@
 -- The parts that a text holds: one list of them begins the other, and the longest is that after which none comes.
-use Rattle.std.proofs.Common.{◌≡◌, ◌∙◌, ◌+◌, ℕ, List, [], ◌∷◌, ◌++◌, length, take, drop, Option, Some, None, ◌⊎◌, inl, inr, refl, sym, ap, subst, arith, append_assoc, length-append}
+use Rattle.std.proofs.Common.{◌≡◌, ◌∙◌, ℕ, List, [], ◌∷◌, ◌++◌, length, take, drop, Option, Some, None, ◌⊎◌, inl, inr, refl, sym, ap, subst, arith, append_assoc, length-append}
 use Rattle.std.specs.Prelude.{option_and_then}
 use Rattle.std.specs.List.{AllByRecursion}
 use Rattle.std.proofs.lemmas.Grind.{flat_map-append}
@@ -11,7 +11,7 @@ use Rattle.mari_lines.specs.declared.line.Line.{Line}
 use Rattle.mari_publish.specs.Faults.{IsText}
 use Rattle.mari_publish.specs.Lines.{lines_of, published_in, unpublished_in}
 use Rattle.mari_publish.specs.Order.{after, after_all, grown, nothing_kept, nothing_read}
-use Rattle.mari_publish.specs.Pieces.{Gives, HoldsParts, NoFault, NoPart, parts_of}
+use Rattle.mari_publish.specs.Pieces.{Gives, HoldsParts, NoPart, parts_of}
 use Rattle.mari_publish.specs.Texts.{text_of_lines}
 use Rattle.mari_publish.specs.declared.held.Held.TheVariants as held
 use Rattle.mari_publish.specs.declared.held.Kept.{Kept}
@@ -21,7 +21,7 @@ use Rattle.mari_publish.proofs.Fits.{lines_in_range}
 use Rattle.mari_publish.proofs.Follows.{accepted, in_parts}
 use Rattle.mari_publish.proofs.MoreText.{parts_stay}
 use Rattle.mari_publish.proofs.Outcomes.{compare, first_text}
-use Rattle.mari_publish.proofs.PartsGiven.{gives_nothing, longer_parts, next_gives}
+use Rattle.mari_publish.proofs.PartsGiven.{longer_parts, next_gives}
 use Rattle.mari_publish.proofs.Whole.{all_front}
 
 -- what is held of a page as far as it is given, the page holds
@@ -107,7 +107,7 @@ one-longer text P Q g h = elim (compare g.lines h.lines g.after h.after g.in_ran
   | inr c ↦ inr (longer_parts h.lines g.lines c.0 Q P h.kept g.kept h.gives g.gives c.1)
 ]
 
--- ---- nothing holds no part, and no line that has a fault
+-- ---- nothing holds no line
 
 nothing-left : (ls : List Line) (after : List ℕ) → [] ≡ text_of_lines ls ++ after → ls ≡ []
 nothing-left [] after e = refl
@@ -115,27 +115,6 @@ nothing-left (l ∷ ls) after e =
     let whole : 0 ≡ length (spelling l ++ 10 ∷ (text_of_lines ls ++ after)) = ap length (e ∙ first_text l ls after) in
     let some = length-append (spelling l) (10 ∷ (text_of_lines ls ++ after)) in
     absurd (omega (arith, whole, some))
-
-pub nothing-held : NoPart [] []
-nothing-held = λ x h.
-    let none : h.lines ≡ [] = nothing-left h.lines h.after h.is in
-    let more = longer_parts h.lines [] [] (x ∷ []) [] h.kept nothing_kept h.gives gives_nothing (sym none ∙ sym (append-nil h.lines)) in
-    absurd (cc more.1)
-
-pub no-fault-of-nothing : NoFault []
-no-fault-of-nothing = λ n. (
-  λ b.
-      let whole : 0 ≡ length (text_of_lines b.before ++ (b.here ++ 10 ∷ b.after)) = ap length b.parts in
-      let one = length-append (text_of_lines b.before) (b.here ++ 10 ∷ b.after) in
-      let two = length-append b.here (10 ∷ b.after) in
-      omega (arith, whole, one, two),
-  λ b.
-      let whole : 0 ≡ length (text_of_lines b.before ++ (line_text b.here ++ b.after)) = ap length b.parts in
-      let one = length-append (text_of_lines b.before) (line_text b.here ++ b.after) in
-      let two = length-append (line_text b.here) b.after in
-      let three = length-append (spelling b.here) (10 ∷ []) in
-      omega (arith, whole, one, two, three),
-)
 
 -- ---- the parts of a page are those of its publication
 

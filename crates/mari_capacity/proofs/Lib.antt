@@ -10,4 +10,3 @@ pub mod Parts
 pub mod Pages
 pub mod Endings
 pub mod Exact
-pub mod Whole

@@ -1,201 +1,189 @@
--- A page that is read piece by piece, and what is said of it.
-use Rattle.std.proofs.Common.{◌≡◌, ◌∙◌, ℕ, ◌+◌, ◌≤◌, true, List, [], ◌∷◌, ◌++◌, length, take, drop, Option, Some, None, Ok, Err, inr, refl, sym, ap, subst, arith}
-use Rattle.std.specs.Prelude.{is_some}
-use Rattle.std.specs.Option.{option_map}
-use Rattle.std.proofs.lemmas.List.{append-nil}
-use Rattle.mari_io.specs.Outside.{IsOverlong, IsPiece, most_given}
+-- What is said of a page that isn't read to its end.
+use Rattle.std.proofs.Common.{◌≡◌, ◌∙◌, ◌≤◌, ◌++◌, ◌∷◌, ℕ, List, [], length, Option, Some, None, Result, Ok, Err, inl, inr, refl, sym, subst}
+use Rattle.std.specs.Prelude.{IfErr, IfOk, OnOk}
+use Rattle.mari_io.specs.Outside.{most_given}
 use Rattle.mari_io.specs.declared.shelf.Fetch.{Fetch}
 use Rattle.mari_io.specs.declared.shelf.Fetch.TheVariants as fetch
-use Rattle.mari_publish.specs.Pieces.{ComesFrom, HasPart, IsNext, NoPart, found_none, parts_of, with_part}
-use Rattle.mari_publish.specs.declared.fault.TextFault.{TextFault}
-use Rattle.mari_publish.specs.declared.fault.TextFault.TheVariants as fault
-use Rattle.mari_publish.specs.declared.publication.Block.{Block}
+use Rattle.mari_publish.specs.Streams.{IsReadFetch, IsUnopened, ReadStates, SomeStates}
+use Rattle.mari_publish.specs.Streams as reading
 use Rattle.mari_publish.specs.declared.publication.Part.{Part}
-use Rattle.mari_publish.specs.declared.publication.Publication.{Publication}
-use Rattle.mari_publish.proofs.FirstParts.{come_parts, no_more}
-use Rattle.mari_publish.proofs.MoreText.{parts_stay}
-use Rattle.mari_publish.proofs.Paging.{Under, all-of-it, fault-reported, given-front, last-piece, one-piece, overlong-front, overlong-page, with-piece}
+use Rattle.mari_publish.specs.declared.stream.ReadStop.{ReadStop}
+use Rattle.mari_publish.specs.declared.stream.ReadStop.TheVariants as read
 use Rattle.mari_remain.specs.declared.books.Books.{Books}
-use Rattle.mari_progress.specs.Totals.{HasHead}
-use Rattle.mari_check.specs.declared.verdict.Verdict.{Verdict}
-use Rattle.mari_check.specs.Day.{AreFree}
-use Rattle.mari_check.specs.Streams.{IsVerdictSoFar, SettlesVerdict}
-use Rattle.mari_check.specs.Verdicts.{IsVerdict}
-use Rattle.mari_check.proofs.Streaming.{all-found}
 use Rattle.mari_capacity.specs.declared.ending.ValueStop.{ValueStop}
 use Rattle.mari_capacity.specs.declared.ending.ValueStop.TheVariants.{At, Memory as NoMemory}
+use Rattle.mari_capacity.specs.declared.ending.ValueEnd.{ValueEnd}
 use Rattle.mari_capacity.specs.declared.ending.ValueEnd.TheVariants.{Valid, Invalid, Text as OfText, Fetch as OfFetch}
-use Rattle.mari_capacity.specs.declared.stream.ValueStream.{ValueStream}
-use Rattle.mari_capacity.specs.Ends.{AreChecked, blocks_in}
-use Rattle.mari_capacity.specs.Streams.{StatesPage}
-use Rattle.mari_capacity.specs.Taking.{HasTaken, StopStates, StopsAtPart, StopsInText, StopsOnPage, TookAllParts, TookParts, stop_of_fetch, stop_of_text}
-use Rattle.mari_capacity.specs.Values.{IsValueText}
+use Rattle.mari_capacity.specs.declared.ending.Valued.{Valued}
+use Rattle.mari_capacity.specs.declared.stream.ValuesSoFar.{ValuesSoFar}
+use Rattle.mari_capacity.specs.Streams.{IsPageEnd, IsPageFault, IsWrapped, LinesReport, ValueStates}
+use Rattle.mari_capacity.specs.Taking.{HasTaken, KeepsValues, StopsAtPart, StopsValues, TookWhole}
 use Rattle.mari_capacity.specs.Streams.EndsInvalid.{AtPart}
-use Rattle.mari_capacity.specs.Streams.EndsFailed.{Midway}
-use Rattle.mari_capacity.proofs.FirstFaults.{blocks_in-parts}
-use Rattle.mari_capacity.proofs.HeldParts.{no-fault-of-nothing, nothing-held}
+use Rattle.mari_capacity.specs.Streams.EndsFailed.{Midway, Unopened}
 
--- ---- a text that goes on
+-- ---- a part that is taken
 
-states-stay : (books : Books) (n : ℕ) (text more : List ℕ) (parts : List Part) (lines : List ℕ) → StatesPage books n text parts lines → StatesPage books n (text ++ more) parts lines
-states-stay books n text more parts lines t = record { holds = parts_stay text more parts t.holds; states = t.states }
+module _ (books : Books) (n : ℕ) (parts : List Part) (old : ValuesSoFar) (keeps : KeepsValues books n parts old) where
+  -- by its own books and limits
+  pub own-taken : HasTaken old.books.now old.more parts old
+  own-taken =
+      let by_books : HasTaken old.books.now n parts old = subst (λ (b : Books). HasTaken b n parts old) (sym keeps.books_are) keeps.taken in
+      subst (λ (m : ℕ). HasTaken old.books.now m parts old) (sym keeps.taken.more_is) by_books
 
--- the text that a reader stands for holds the parts that were taken
-pub read-states : (books : Books) (n : ℕ) (text : List ℕ) (parts : List Part) (s : ValueStream) → TookParts books n text parts s → StatesPage books n text parts s.lines.items
-read-states books n text parts s r = record { holds = come_parts s.reader.come text parts r.stands; states = r.taken.states }
+  module _ {T : Type 0} (r : Result T ValueStop) (new : ValuesSoFar) (x : Part) where
+    pub part-kept : new.books.now ≡ old.books.now → OnOk r (HasTaken old.books.now old.more (parts ++ x ∷ []) new) → OnOk r (KeepsValues books n (parts ++ x ∷ []) new)
+    part-kept same h = by r h
+      where
+        by : (q : Result T ValueStop) → OnOk q (HasTaken old.books.now old.more (parts ++ x ∷ []) new) → OnOk q (KeepsValues books n (parts ++ x ∷ []) new)
+        by (Err e) h = tt
+        by (Ok t) h =
+            let by_books : HasTaken books old.more (parts ++ x ∷ []) new = subst (λ (b : Books). HasTaken b old.more (parts ++ x ∷ []) new) keeps.books_are h in
+            record {
+              accepted = keeps.accepted;
+              books_are = same ∙ keeps.books_are;
+              raise = keeps.raise;
+              taken = subst (λ (m : ℕ). HasTaken books m (parts ++ x ∷ []) new) keeps.taken.more_is by_books;
+            }
 
--- ---- why it stopped
+    pub part-breaks : IfErr r (StopsAtPart old.books.now old.more parts x new.lines.items) → IfErr r (StopsAtPart books n parts x new.lines.items)
+    part-breaks h =
+        let by_books = subst (λ (b : Books). IfErr r (StopsAtPart b old.more parts x new.lines.items)) keeps.books_are h in
+        subst (λ (m : ℕ). IfErr r (StopsAtPart books m parts x new.lines.items)) keeps.taken.more_is by_books
 
--- in a text that is the front of a page
-pub stops-on : (books : Books) (n : ℕ) (text left page lines : List ℕ) (why : ValueStop) → text ++ left ≡ page
-    → length text ≤ most_given → StopsInText books n text lines why → StopsOnPage books n page lines why
-stops-on books n text left page lines why e few h = subst (λ (p : List ℕ). StopsOnPage books n p lines why) e (own why h)
-  where
-    own : (w : ValueStop) → StopsInText books n text lines w → StopsOnPage books n (text ++ left) lines w
-    own (At (Invalid run number)) s =
-        let front = given-front text left few in
-        let there : HasPart (take most_given (text ++ left)) s.parts s.part = subst (λ (t : List ℕ). HasPart t s.parts s.part) front.1 (parts_stay text front.0 (s.parts ++ s.part ∷ []) s.there) in
-        AtPart s.parts s.part there s.fault s.states
-    own (At (OfText f)) s = record {
-      reported = fault-reported text left f few s.here;
-      parts = s.parts;
-      no_more = no_more text left s.parts f s.here s.no_more;
-      states = states-stay books n text left s.parts lines s.states;
-    }
-    own (At (Valid published unpublished)) s = absurd s
-    own (At (OfFetch why)) s = absurd s
-    own NoMemory s = tt
+-- ---- a page
 
--- and on any shelf
-pub stops-report : (books : Books) (n : ℕ) (text lines : List ℕ) (why : ValueStop) → StopsInText books n text lines why → StopStates books n lines why
-stops-report books n text lines (At (Invalid run number)) s = (s.parts, s.states)
-stops-report books n text lines (At (OfText f)) s = (s.parts, s.states.states)
-stops-report books n text lines (At (Valid published unpublished)) s = absurd s
-stops-report books n text lines (At (OfFetch why)) s = absurd s
-stops-report books n text lines NoMemory s = tt
+module _ (books : Books) (n : ℕ) (now : ValuesSoFar) where
+  abbrev pub Took : List Part → Type 0
+  Took parts = KeepsValues books n parts now
 
--- ---- as far as a page was read
+  abbrev pub Breaks : List Part → Part → ValueStop → Type 0
+  Breaks parts x stop = StopsAtPart books n parts x now.lines.items stop
 
--- all parts of what has come were taken
-pub record ReadsSome (books : Books) (n : ℕ) (s : ValueStream) (text : List ℕ) : Type 0 where
-  pub parts : List Part
-  pub read : TookParts books n text parts s
-  pub no_more : NoPart text parts
+  abbrev Ends : ReadStop ValueStop → Result (Unit {0}) (ReadStop ValueStop)
+  Ends stop = Err stop
 
-module _ (books : Books) (more : ℕ) (page rest : Option (List ℕ)) (given : ℕ) (s : ValueStream) (u : Under (ReadsSome books more s) page rest given) where
-  -- what is said so far holds of the page
-  so-far : (whole : List ℕ) → page ≡ Some whole → StatesPage books more whole u.known.parts s.lines.items
-  so-far whole is =
-      let t = u.reported whole is in
-      let states = states-stay books more u.text t.0 u.known.parts s.lines.items (read-states books more u.text u.known.parts s u.known.read) in
-      subst (λ (p : List ℕ). StatesPage books more p u.known.parts s.lines.items) t.2 states
+  -- it was read to its end
+  pub whole-of : (page : Option (List ℕ)) (done : Unit {0}) → ReadStates Took Breaks page (Ok done) → (text : List ℕ) × (page ≡ Some text) × (length text ≤ most_given) × TookWhole books n text now
+  whole-of None done h = absurd h
+  whole-of (Some page) done h = (page, refl, h.0, record { publication = h.1.publication; is = h.1.is; taken = h.1.took.taken })
 
-  -- the fetch of a piece failed
-  pub fetch-stops : (f : Fetch) → (f ≡ fetch.Missing → ⊥) → (f ≡ fetch.TooLong → IsOverlong rest given)
-      → (whole : List ℕ) → page ≡ Some whole → StopsOnPage books more whole s.lines.items (stop_of_fetch f)
-  fetch-stops fetch.Failed not over whole is = Midway u.known.parts (so-far whole is)
-  fetch-stops fetch.Missing not over whole is = absurd (not refl)
-  fetch-stops fetch.Memory not over whole is = tt
-  fetch-stops fetch.TooLong not over whole is =
-      let front = overlong-front _ _ _ _ u (over refl) whole is in
-      record {
-        too_long = overlong-page _ _ _ _ u (over refl) whole is;
-        parts = u.known.parts;
-        no_more = subst (λ (xs : List ℕ). NoPart xs u.known.parts) front u.known.no_more;
-        states = subst (λ (xs : List ℕ). StatesPage books more xs u.known.parts s.lines.items) front (read-states books more u.text u.known.parts s u.known.read);
-      }
+  pub whole-some : (done : Unit {0}) → SomeStates Took Breaks (Ok done) → (text : List ℕ) × TookWhole books n text now
+  whole-some done h = (h.0, record { publication = h.1.publication; is = h.1.is; taken = h.1.took.taken })
 
-  pub fetch-states : (f : Fetch) → StopStates books more s.lines.items (stop_of_fetch f)
-  fetch-states fetch.Failed = inr (u.known.parts, u.known.read.taken.states)
-  fetch-states fetch.Missing = inr (u.known.parts, u.known.read.taken.states)
-  fetch-states fetch.TooLong = inr (u.known.parts, u.known.read.taken.states)
-  fetch-states fetch.Memory = tt
+  unopened-states : (page : Option (List ℕ)) (f : Fetch) → ReadStates Took Breaks page (Ends (read.Unopened f)) → ValueStates books n page [] (OfFetch f)
+  unopened-states None fetch.Failed h = refl
+  unopened-states None fetch.Missing h = refl
+  unopened-states None fetch.TooLong h = absurd h
+  unopened-states None fetch.Memory h = absurd h
+  unopened-states (Some page) fetch.Failed h = Unopened refl
+  unopened-states (Some page) fetch.Missing h = absurd h
+  unopened-states (Some page) fetch.TooLong h = absurd h
+  unopened-states (Some page) fetch.Memory h = absurd h
 
-  module _ (piece : List ℕ) (n : ℕ) (many : length piece ≡ n) (within : given + n ≤ most_given) (is_piece : (left : List ℕ) → rest ≡ Some left → IsPiece left [] piece n) where
-    pub piece-stops : (whole : List ℕ) → page ≡ Some whole → (lines : List ℕ) (why : ValueStop) → StopsInText books more (u.text ++ piece) lines why → StopsOnPage books more whole lines why
-    piece-stops whole is lines why h =
-        stops-on books more (u.text ++ piece) (drop n (u.reported whole is).0) whole lines why
-        (all-of-it _ _ _ _ u piece n many within is_piece whole is) (with-piece _ _ _ _ u piece n many within is_piece) h
+  fetch-states : (page : Option (List ℕ)) (f : Fetch) → ReadStates Took Breaks page (Ends (read.Fetch f)) → ValueStates books n page now.lines.items (OfFetch f)
+  fetch-states None f h = absurd h
+  fetch-states (Some page) fetch.Failed h = Midway h.parts (record { holds = h.first; states = h.took.taken.states })
+  fetch-states (Some page) fetch.Missing h = absurd h
+  fetch-states (Some page) fetch.TooLong h = record { too_long = h.0; parts = h.1.parts; no_more = h.1.none; states = record { holds = h.1.first; states = h.1.took.taken.states } }
+  fetch-states (Some page) fetch.Memory h = absurd h
 
-    module _ (new : ValueStream) (read : TookAllParts books more (u.text ++ piece) new) where
-      -- there is more of it
-      pub more-read : (now : Option (List ℕ)) (total : ℕ) → now ≡ option_map (λ l. drop n l) rest → total ≡ given + n → Under (ReadsSome books more new) page now total
-      more-read now total left_is given_is =
-          one-piece _ _ _ _ u piece n many within is_piece (ReadsSome books more new)
-          (record { parts = read.parts; read = read.read; no_more = read.no_more }) read.no_fault now total left_is given_is
+  part-states : (page : Option (List ℕ)) (end : ValueEnd) → ReadStates Took Breaks page (Ends (read.Part (At end))) → ValueStates books n page now.lines.items end
+  part-states None end h = absurd h
+  part-states (Some page) (Invalid run number) h = AtPart h.parts h.part h.there h.broke.0 h.broke.1
+  part-states (Some page) (Valid published unpublished) h = absurd h.broke
+  part-states (Some page) (OfText f) h = absurd h.broke
+  part-states (Some page) (OfFetch f) h = absurd h.broke
 
-      -- that was its end
-      pub last-read : n ≡ 0 → (whole : List ℕ) → page ≡ Some whole → (length whole ≤ most_given) × TookAllParts books more whole new
-      last-read none whole is =
-          let l = last-piece _ _ _ _ u piece n many within is_piece none whole is in
-          (l.0, subst (λ (xs : List ℕ). TookAllParts books more xs new) l.1 read)
+  part-lines : (end : ValueEnd) → SomeStates Took Breaks (Ends (read.Part (At end))) → LinesReport books n now.lines.items end
+  part-lines (Invalid run number) h = (h.1.parts, h.1.broke.1)
+  part-lines (Valid published unpublished) h = absurd h.1.broke
+  part-lines (OfText f) h = absurd h.1.broke
+  part-lines (OfFetch f) h = absurd h.1.broke
 
--- ---- the parts of a text
+  fetch-lines : (f : Fetch) → SomeStates Took Breaks (Ends (read.Fetch f)) → LinesReport books n now.lines.items (OfFetch f)
+  fetch-lines fetch.Failed h = inr (h.1.parts, h.1.took.taken.states)
+  fetch-lines fetch.Missing h = absurd h
+  fetch-lines fetch.TooLong h = inr (h.1.parts, h.1.took.taken.states)
+  fetch-lines fetch.Memory h = inr (h.1.parts, h.1.took.taken.states)
 
--- no further part has come
-pub all-read : (books : Books) (n : ℕ) (text : List ℕ) (parts : List Part) (s : ValueStream) (o : Option Part)
-    → o ≡ None → IsNext text parts (Ok o) → ComesFrom s.reader.come text (with_part parts o)
-    → s.reader.waits ≡ found_none (Ok o) → HasTaken books n parts s → TookAllParts books n text s
-all-read books n text parts s (Some x) e h stands waits taken = absurd (cc e)
-all-read books n text parts s None e h stands waits taken = record { parts = parts; read = record { stands = stands; taken = taken }; waits = waits; no_fault = h.1; no_more = h.0 }
+  part-end : (X : ValueEnd → Type 0) (end : ValueEnd) → SomeStates Took Breaks (Ends (read.Part (At end))) → ((run number : ℕ) → X (Invalid run number)) → X end
+  part-end X (Invalid run number) h k = k run number
+  part-end X (Valid published unpublished) h k = absurd h.1.broke
+  part-end X (OfText f) h k = absurd h.1.broke
+  part-end X (OfFetch f) h k = absurd h.1.broke
 
--- a part has a fault of the check
-pub part-stops : (books : Books) (n : ℕ) (text : List ℕ) (parts : List Part) (x : Part) (lines : List ℕ) (why : ValueStop)
-    → HasPart text parts x → StopsAtPart books n parts x lines why → StopsInText books n text lines why
-part-stops books n text parts x lines (At (Invalid run number)) there h = record { parts = parts; part = x; there = there; fault = h.0; states = h.1 }
-part-stops books n text parts x lines (At (Valid published unpublished)) there h = absurd h
-part-stops books n text parts x lines (At (OfText f)) there h = absurd h
-part-stops books n text parts x lines (At (OfFetch why)) there h = absurd h
-part-stops books n text parts x lines NoMemory there h = tt
+  module _ {E : Type 0} where
+    -- where pages are reported
+    pub stop-states : (page : Option (List ℕ)) (stop : ReadStop ValueStop) (r : Result Valued E) → StopsValues stop now.lines.items r → ReadStates Took Breaks page (Ends stop)
+        → IfOk r (λ v. ValueStates books n page v.text v.end)
+    stop-states page stop (Err e) is h = tt
+    stop-states page (read.Unopened f) (Ok v) is h = rw (is.0, is.1) (unopened-states page f h)
+    stop-states page (read.Fetch f) (Ok v) is h = rw (is.0, is.1) (fetch-states page f h)
+    stop-states None (read.Text f) (Ok v) is h = absurd h
+    stop-states (Some page) (read.Text f) (Ok v) is h =
+        rw (is.0, is.1) (record { reported = h.0; parts = h.1.parts; no_more = h.1.none; states = record { holds = h.1.first; states = h.1.took.taken.states } })
+    stop-states page (read.Part (At end)) (Ok v) is h = rw (is.0, is.1) (part-states page end h)
+    stop-states page (read.Part NoMemory) (Ok v) is h = absurd is
+    stop-states page read.Memory (Ok v) is h = absurd is
 
--- a line has a fault
-pub line-stops : (books : Books) (n : ℕ) (text : List ℕ) (parts : List Part) (s : ValueStream) (f : TextFault)
-    → TookParts books n text parts s → IsNext text parts (Err f)
-    → StopsInText books n text s.lines.items (stop_of_text f)
-line-stops books n text parts s (fault.BadLine k) r h = record { here = h.0; parts = parts; no_more = h.1; states = read-states books n text parts s r }
-line-stops books n text parts s (fault.BadOrder k) r h = record { here = h.0; parts = parts; no_more = h.1; states = read-states books n text parts s r }
-line-stops books n text parts s (fault.Truncated k) r h = absurd h
-line-stops books n text parts s fault.Memory r h = tt
+    -- and on any shelf
+    pub stop-lines : (stop : ReadStop ValueStop) (r : Result Valued E) → StopsValues stop now.lines.items r → SomeStates Took Breaks (Ends stop) → IfOk r (λ v. LinesReport books n v.text v.end)
+    stop-lines stop (Err e) is h = tt
+    stop-lines (read.Unopened f) (Ok v) is h = rw (is.0, is.1) (inl refl)
+    stop-lines (read.Fetch f) (Ok v) is h = rw (is.0, is.1) (fetch-lines f h)
+    stop-lines (read.Text f) (Ok v) is h = rw (is.0, is.1) (h.1.parts, h.1.took.taken.states)
+    stop-lines (read.Part (At end)) (Ok v) is h = rw (is.0, is.1) (part-lines end h)
+    stop-lines (read.Part NoMemory) (Ok v) is h = absurd is
+    stop-lines read.Memory (Ok v) is h = absurd is
 
--- ---- the end of a text
+    -- out of memory is said as such
+    pub stop-never : (stop : ReadStop ValueStop) (r : Result Valued E) → StopsValues stop now.lines.items r → SomeStates Took Breaks (Ends stop) → (reading.IsWrapped (Ends stop) → ⊥) → IfOk r (λ v. IsWrapped v.end → ⊥)
+    stop-never stop (Err e) is h never = tt
+    stop-never (read.Unopened f) (Ok v) is h never = rw is.1 never
+    stop-never (read.Fetch f) (Ok v) is h never = rw is.1 never
+    stop-never (read.Text f) (Ok v) is h never = rw is.1 never
+    stop-never (read.Part (At end)) (Ok v) is h never = rw is.1 (part-end (λ e. IsWrapped e → ⊥) end h (λ run number w. w))
+    stop-never (read.Part NoMemory) (Ok v) is h never = absurd is
+    stop-never read.Memory (Ok v) is h never = absurd is
 
--- the totals have come with the other parts
-pub totals-found : (books : Books) (n : ℕ) (text : List ℕ) (s : ValueStream) (a : TookAllParts books n text s) (p : Publication) → a.parts ≡ parts_of p → is_some s.found ≡ true
-totals-found books n text s a p e = all-found books p a.parts s.day s.found e a.read.taken.found
+    -- it ends by a fault of the shelf where the reading does
+    pub stop-fetch : (g : Fetch) (stop : ReadStop ValueStop) (r : Result Valued E) → StopsValues stop now.lines.items r → SomeStates Took Breaks (Ends stop) → IsPageFault g r → IsReadFetch g (Ends stop)
+    stop-fetch g stop (Err e) is h w = absurd w
+    stop-fetch g (read.Unopened f) (Ok v) is h w = subst (λ (e : ValueEnd). IsPageEnd g e) is.1 w
+    stop-fetch g (read.Fetch f) (Ok v) is h w = subst (λ (e : ValueEnd). IsPageEnd g e) is.1 w
+    stop-fetch g (read.Text f) (Ok v) is h w = subst (λ (e : ValueEnd). IsPageEnd g e) is.1 w
+    stop-fetch g (read.Part (At end)) (Ok v) is h w = part-end (λ e. IsPageEnd g e → ⊥) end h (λ run number u. u) (subst (λ (e : ValueEnd). IsPageEnd g e) is.1 w)
+    stop-fetch g (read.Part NoMemory) (Ok v) is h w = absurd is
+    stop-fetch g read.Memory (Ok v) is h w = absurd is
 
--- a verdict that the totals settled is that on the publication whose text has come
-pub settled : (books : Books) (n : ℕ) (text : List ℕ) (s : ValueStream) (a : TookAllParts books n text s) (p : Publication)
-    → a.parts ≡ parts_of p → (v : Verdict) → s.found ≡ Some v → IsVerdict books p v
-settled books n text s a p e v found =
-    let own : SettlesVerdict books a.parts v = subst (λ (f : Option Verdict). IsVerdictSoFar books a.parts s.day f) found a.read.taken.found in
-    own p [] (sym e ∙ sym (append-nil a.parts))
+    -- a page that is missing wasn't opened
+    pub stop-missing : (stop : ReadStop ValueStop) (r : Result Valued E) → StopsValues stop now.lines.items r → SomeStates Took Breaks (Ends stop) → IsPageFault fetch.Missing r → IsUnopened (Ends stop)
+    stop-missing stop r is h w = by stop h (stop-fetch fetch.Missing stop r is h w)
+      where
+        by : (s : ReadStop ValueStop) → SomeStates Took Breaks (Ends s) → IsReadFetch fetch.Missing (Ends s) → IsUnopened (Ends s)
+        by (read.Unopened f) h w = tt
+        by (read.Fetch fetch.Missing) h w = h
+        by (read.Fetch fetch.Failed) h w = cc
+        by (read.Fetch fetch.TooLong) h w = cc
+        by (read.Fetch fetch.Memory) h w = cc
+        by (read.Text f) h w = w
+        by (read.Part s) h w = w
+        by read.Memory h w = w
 
--- and the lines state of its blocks
-pub whole-lines : (books : Books) (n : ℕ) (text : List ℕ) (s : ValueStream) (a : TookAllParts books n text s) (p : Publication) → a.parts ≡ parts_of p → IsValueText books n p.blocks s.lines.items
-whole-lines books n text s a p e = subst (λ (bs : List Block). IsValueText books n bs s.lines.items) (ap blocks_in e ∙ blocks_in-parts p) a.read.taken.states.lines
+-- what is said by the books and the limits with which it began
+module _ (first : ValuesSoFar) (books : Books) (n : ℕ) (now : ValuesSoFar) (books_are : first.books.now ≡ books) (more_is : first.more ≡ n) where
+  pub reads-as : (page : Option (List ℕ)) (r : Result (Unit {0}) (ReadStop ValueStop)) → ReadStates (Took first.books.now first.more now) (Breaks first.books.now first.more now) page r
+      → ReadStates (Took books n now) (Breaks books n now) page r
+  reads-as page r h =
+      let by_books : ReadStates (Took books first.more now) (Breaks books first.more now) page r = subst (λ (b : Books). ReadStates (Took b first.more now) (Breaks b first.more now) page r) books_are h in
+      subst (λ (m : ℕ). ReadStates (Took books m now) (Breaks books m now) page r) more_is by_books
 
-pub whole-checked : (books : Books) (n : ℕ) (text : List ℕ) (s : ValueStream) (a : TookAllParts books n text s) (p : Publication)
-    → a.parts ≡ parts_of p → HasHead books p.date p.quarters × AreFree books p.budget p.blocks
-whole-checked books n text s a p e =
-    let own : AreChecked books (parts_of p) = subst (λ (ps : List Part). AreChecked books ps) e a.read.taken.states.checked in
-    (own.0, subst (λ (bs : List Block). AreFree books p.budget bs) (blocks_in-parts p) own.1)
+  pub some-as : (r : Result (Unit {0}) (ReadStop ValueStop)) → SomeStates (Took first.books.now first.more now) (Breaks first.books.now first.more now) r → SomeStates (Took books n now) (Breaks books n now) r
+  some-as r h =
+      let by_books : SomeStates (Took books first.more now) (Breaks books first.more now) r = subst (λ (b : Books). SomeStates (Took b first.more now) (Breaks b first.more now) r) books_are h in
+      subst (λ (m : ℕ). SomeStates (Took books m now) (Breaks books m now) r) more_is by_books
 
--- ---- before the first piece
-
-pub nothing-read : (books : Books) (n : ℕ) (rest : Option (List ℕ)) (given : ℕ) (s : ValueStream) → given ≡ 0 → TookParts books n [] [] s → Under (ReadsSome books n s) rest rest given
-nothing-read books n rest given s none read = record {
-  text = [];
-  known = record { parts = []; read = read; no_more = nothing-held };
-  given_is = none;
-  few = omega (arith, none);
-  no_fault = no-fault-of-nothing;
-  reported = λ whole is. (whole, is, refl);
-}
-
--- ---- by how many MW limits are raised
-
-pub all-as : (books : Books) (n m : ℕ) (text : List ℕ) (s : ValueStream) → n ≡ m → TookAllParts books n text s → TookAllParts books m text s
-all-as books n m text s e a = subst (λ (k : ℕ). TookAllParts books k text s) e a
-
-pub under-as : (books : Books) (n m : ℕ) (page rest : Option (List ℕ)) (given : ℕ) (s : ValueStream) → n ≡ m → Under (ReadsSome books n s) page rest given → Under (ReadsSome books m s) page rest given
-under-as books n m page rest given s e u = subst (λ (k : ℕ). Under (ReadsSome books k s) page rest given) e u
+-- it ends by no fault of the shelf
+pub no-page-fault : {E : Type 0} (g : Fetch) (r : Result Valued E) → IfOk r (λ v. IsPageEnd g v.end → ⊥) → IsPageFault g r → ⊥
+no-page-fault g (Ok v) h w = h w
+no-page-fault g (Err why) h w = w

@@ -23,7 +23,7 @@ use Rattle.mari_check.specs.Streams.{Comes, IsVerdictSoFar, IsOpen}
 use Rattle.mari_check.specs.Verdicts.{IsVerdict}
 use Rattle.mari_check.proofs.Streaming.{IsLater, Way, block-found, first, head-found, totals-settle, way}
 use Rattle.mari_capacity.specs.declared.ending.ValueStop.{ValueStop}
-use Rattle.mari_capacity.specs.declared.stream.ValueStream.{ValueStream}
+use Rattle.mari_capacity.specs.declared.stream.ValuesSoFar.{ValuesSoFar}
 use Rattle.mari_capacity.specs.Ends.{AreChecked, HasFault, blocks_in, budget_in}
 use Rattle.mari_capacity.specs.Streams.{StatesChecked}
 use Rattle.mari_capacity.specs.Taking.{HasTaken, HaveEnded, IsSameButDay, IsStopAt, StopsAtPart}
@@ -58,14 +58,14 @@ none-after parts x (front, o, a, is) c =
 -- ---- parts that were checked
 
 -- as long as a part comes no verdict is settled
-pub not-settled : (books : Books) (more : ℕ) (parts : List Part) (s : ValueStream) (x : Part) → HasTaken books more parts s → Comes parts x → s.found ≡ None
+pub not-settled : (books : Books) (more : ℕ) (parts : List Part) (s : ValuesSoFar) (x : Part) → HasTaken books more parts s → Comes parts x → s.found ≡ None
 not-settled books more parts s x t c = by s.found t.ended
   where
     by : (found : Option Verdict) → IfSome found (λ v. HaveEnded parts) → found ≡ None
     by None e = refl
     by (Some v) e = absurd (none-after parts x e c)
 
-pub still-open : (books : Books) (more : ℕ) (parts : List Part) (s : ValueStream) (x : Part) → HasTaken books more parts s → Comes parts x → IsOpen books parts s.day
+pub still-open : (books : Books) (more : ℕ) (parts : List Part) (s : ValuesSoFar) (x : Part) → HasTaken books more parts s → Comes parts x → IsOpen books parts s.day
 still-open books more parts s x t c = subst (λ (f : Option Verdict). IsVerdictSoFar books parts s.day f) (not-settled books more parts s x t c) t.found
 
 pub open-blocks : (books : Books) (parts : List Part) (day : DayCheck) → IsOpen books parts day → IsChecked books (blocks_in parts) day
@@ -105,7 +105,7 @@ with-totals books parts day w os ps checked =
 -- ---- one part more
 
 -- parts that settle nothing were taken
-pub open-taken : (books : Books) (more : ℕ) (parts : List Part) (s : ValueStream) → IsOpen books parts s.day
+pub open-taken : (books : Books) (more : ℕ) (parts : List Part) (s : ValuesSoFar) → IsOpen books parts s.day
     → s.found ≡ None → IsValueText books more (blocks_in parts) s.lines.items → s.more ≡ more
     → HasTaken books more parts s
 open-taken books more parts s fine none lines same = record {
@@ -115,7 +115,7 @@ open-taken books more parts s fine none lines same = record {
   more_is = same;
 }
 
-module _ (books : Books) (more : ℕ) (parts : List Part) (old new : ValueStream) (x : Part) (t : HasTaken books more parts old) (c : Comes parts x) where
+module _ (books : Books) (more : ℕ) (parts : List Part) (old new : ValuesSoFar) (x : Part) (t : HasTaken books more parts old) (c : Comes parts x) where
   -- the head is that of the books
   pub head-taken : (date : List ℕ) (quarters budget : ℕ) → x ≡ part.Head date quarters budget
       → HasHead books date quarters → IsChecked books [] new.day → new.day.budget ≡ budget → new.found ≡ old.found
@@ -177,7 +177,7 @@ module _ (books : Books) (more : ℕ) (parts : List Part) (old new : ValueStream
 
 -- ---- what a part comes to
 
-module _ (books : Books) (more : ℕ) (parts : List Part) (old new : ValueStream) (x : Part) (t : HasTaken books more parts old) (c : Comes parts x) where
+module _ (books : Books) (more : ℕ) (parts : List Part) (old new : ValuesSoFar) (x : Part) (t : HasTaken books more parts old) (c : Comes parts x) where
   module _ (date : List ℕ) (quarters budget : ℕ) (is : x ≡ part.Head date quarters budget) (stated : new.day.budget ≡ budget) (checked : IsChecked books [] new.day) (found : new.found ≡ old.found) (lines : new.lines ≡ old.lines) (same : new.more ≡ old.more) where
     pub head-goes-on : {T : Type 0} (number : Option ℕ) (r : Res T ValueStop) → FindsHead (HasHead books date quarters) number → IsStopAt 0 (Ok number) r
         → OnOk r (HasTaken books more (parts ++ x ∷ []) new)

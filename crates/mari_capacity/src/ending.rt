@@ -1,12 +1,10 @@
 //! How the valuing of a publication ends, and why no more of it is taken.
 
-ghost use Rattle.std.specs.Prelude.{◌≡◌};
-ghost use Rattle.mari_capacity.specs.Taking.{IsStopAt, IsUnopened, stop_of_fetch, stop_of_text};
+ghost use Rattle.mari_capacity.specs.Taking.{IsStopAt};
 
 use mari_io::Fetch;
 use mari_publish::TextFault;
 use mari_units::{Items, Memory};
-use std::alloc::Global;
 
 /// How the valuing of a publication ends.
 #[derive(Clone, Copy, Debug, PartialEq, Eq)]
@@ -49,26 +47,6 @@ pub enum ValueStop {
     Memory,
 }
 
-/// What a fault of the shelf is reported as. One of memory is reported as that alone.
-pub(crate) fn stop_of_shelf(fault: Fetch) -> ValueStop
-    ensures { result ≡ stop_of_fetch fault }
-{
-    match fault {
-        Fetch::Memory => ValueStop::Memory,
-        other => ValueStop::At(ValueEnd::Fetch(other)),
-    }
-}
-
-/// What a fault of the text is reported as. One of memory is reported as that alone.
-pub(crate) fn stop_of_reader(fault: TextFault) -> ValueStop
-    ensures { result ≡ stop_of_text fault }
-{
-    match fault {
-        TextFault::Memory => ValueStop::Memory,
-        other => ValueStop::At(ValueEnd::Text(other)),
-    }
-}
-
 /// Stops where a fault was found, of a run.
 pub(crate) fn stop_at(run: u32, found: Result<Option<u8>, Memory>) -> Result<(), ValueStop>
     ensures { IsStopAt run found result }
@@ -77,18 +55,5 @@ pub(crate) fn stop_at(run: u32, found: Result<Option<u8>, Memory>) -> Result<(),
         Ok(None) => Ok(()),
         Ok(Some(fault)) => Err(ValueStop::At(ValueEnd::Invalid { run, fault })),
         Err(Memory) => Err(ValueStop::Memory),
-    }
-}
-
-/// What there is where no page was opened: no lines.
-pub(crate) fn unopened(alloc: Global, fault: Fetch) -> Result<Valued, Memory>
-    ensures { IsUnopened fault result }
-{
-    match fault {
-        Fetch::Memory => Err(Memory),
-        other => Ok(Valued {
-            text: Items::of(Vec::new(alloc)),
-            end: ValueEnd::Fetch(other),
-        }),
     }
 }

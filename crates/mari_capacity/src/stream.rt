@@ -1,9 +1,10 @@
 //! What limits are worth in a publication that is read in pieces.
 
-ghost use Rattle.std.specs.Prelude.{◌≡◌, ◌≤◌, ◌++◌, ◌∷◌, [], ℕ, List, Some, None, Ok, true, IfErr, IfOk, IsSome, OnOk, length};
+ghost use Rattle.std.specs.Prelude.{◌≡◌, ◌≤◌, ◌⊎◌, ◌++◌, ◌∷◌, [], ℕ, List, Some, Ok, IfErr, IfOk, IsSome, OnOk, length};
 ghost use Rattle.mari_io.specs.Outside.{Counts, Pages, most_given, page_of};
 ghost use Rattle.mari_io.specs.declared.shelf.Fetch.{Fetch as TheFetch};
 ghost use Rattle.mari_io.specs.declared.shelf.Fetch.TheVariants as fetch;
+ghost use Rattle.mari_publish.specs.Streams.{AsksForPage};
 ghost use Rattle.mari_publish.specs.declared.publication.Block.{Block as PrintedBlock};
 ghost use Rattle.mari_publish.specs.declared.publication.Part.{Part as ThePart};
 ghost use Rattle.mari_remain.specs.Accepted.{IsAccepted};
@@ -16,49 +17,44 @@ ghost use Rattle.mari_check.specs.Streams.{Comes};
 ghost use Rattle.mari_capacity.specs.Ends.{IsEndOf};
 ghost use Rattle.mari_capacity.specs.Values.{IsValueText};
 ghost use Rattle.mari_capacity.specs.Streams.{EndsAs, EndsPage, IsPageEnd, IsPageFault, IsWrapped, LinesReport, ValueStates};
-ghost use Rattle.mari_capacity.specs.Taking.{HasTaken, IsSameButDay, IsStopFetch, IsWrappedStop, PiecesReport, PushStates, StopStates, StopsAtPart, TookAllParts, TookParts};
 ghost use Rattle.mari_capacity.specs.declared.ending.ValueEnd.{ValueEnd as TheEnd};
 
-use crate::ending::{
-    ValueEnd, ValueStop, Valued, stop_at, stop_of_reader, stop_of_shelf, unopened,
-};
+use crate::ending::{ValueEnd, ValueStop, Valued, stop_at};
 use crate::lines::{put_opening, put_run, put_unpublished};
 use crate::worth::worths_of;
 use mari_check::{DayCheck, Verdict};
-use mari_io::{Fetch, Shelf};
+use mari_io::Shelf;
 use mari_lines::put_done;
 use mari_progress::run_count;
-use mari_publish::{Block, FullBlock, Part, TextReader};
+use mari_publish::{Block, FullBlock, Part, PartsSoFar, ReadStop, read_parts};
 use mari_remain::Books;
 use mari_units::{Items, MOST_RAISE, Memory};
 use std::alloc::Global;
 
-/// A publication as far as it has come.
+/// The values of the parts that have come.
 #[derive(Drop)]
-pub struct ValueStream {
-    /// The reader of its text.
-    pub reader: TextReader,
-    /// The check of its day.
-    pub day: DayCheck,
-    /// By how many MW limits are raised.
-    pub more: u32,
-    /// The lines so far.
-    pub lines: Vec<u8>,
-    /// The verdict, once the totals have come.
-    pub found: Option<Verdict>,
+struct ValuesSoFar<'a> {
+    books: &'a Books,
+    day: DayCheck,
+    more: u32,
+    lines: Vec<u8>,
+    found: Option<Verdict>,
 }
 
-impl ValueStream {
-    /// What there is before the first piece.
-    fn start(alloc: Global, books: &Books, more: u32) -> Result<ValueStream, Memory>
+impl<'a> ValuesSoFar<'a> {
+    ghost use Rattle.mari_capacity.specs.Taking.{HasTaken, IsSameButDay, StopsAtPart, StopsValues, TookWhole};
+
+    /// What there is before the first part.
+    fn start(alloc: Global, books: &'a Books, more: u32) -> Result<Self, Memory>
         requires accepted { IsAccepted books.now }
-        ensures { IfOk result (TookParts books.now more [] []) }
+        ensures books { IfOk result (λ so_far. so_far.books.now ≡ books.now) }
+        ensures taken { IfOk result (HasTaken books.now more []) }
     {
         let day = DayCheck::start(alloc, books)?;
         let mut lines = Vec::new(alloc);
         put_opening(alloc, &mut lines, more)?;
-        Ok(ValueStream {
-            reader: TextReader::start(alloc),
+        Ok(ValuesSoFar {
+            books,
             day,
             more,
             lines,
@@ -137,7 +133,7 @@ impl ValueStream {
         requires comes { (parts : List ThePart) × HasTaken books.now self.old.more parts self.old × Comes parts part.now }
         ensures taken { (parts : List ThePart) → HasTaken books.now self.old.more parts self.old → Comes parts part.now → OnOk result (HasTaken books.now self.old.more (parts ++ part.now ∷ []) self.new) }
         ensures stops { (parts : List ThePart) → HasTaken books.now self.old.more parts self.old → Comes parts part.now → IfErr result (StopsAtPart books.now self.old.more parts part.now self.new.lines.items) }
-        ensures reader { self.new.reader ≡ self.old.reader }
+        ensures books { self.new.books.now ≡ self.old.books.now }
         ensures more { self.new.more ≡ self.old.more }
     {
         match part {
@@ -161,103 +157,55 @@ impl ValueStream {
         }
     }
 
-    /// Takes a part, which isn't kept.
-    fn take(&mut self, alloc: Global, books: &Books, part: Part) -> Result<(), ValueStop>
-        requires accepted { IsAccepted books.now }
-        requires more { self.old.more ≤ MOST_RAISE }
-        requires comes { (parts : List ThePart) × HasTaken books.now self.old.more parts self.old × Comes parts part }
-        ensures taken { (parts : List ThePart) → HasTaken books.now self.old.more parts self.old → Comes parts part → OnOk result (HasTaken books.now self.old.more (parts ++ part ∷ []) self.new) }
-        ensures stops { (parts : List ThePart) → HasTaken books.now self.old.more parts self.old → Comes parts part → IfErr result (StopsAtPart books.now self.old.more parts part self.new.lines.items) }
-        ensures reader { self.new.reader ≡ self.old.reader }
-        ensures more { self.new.more ≡ self.old.more }
+    /// The lines so far, and how they end where the page isn't read to its end.
+    fn stopped(self, alloc: Global, stop: ReadStop<ValueStop>) -> Result<Valued, Memory>
+        ensures { StopsValues stop self.entry.lines.items result }
     {
-        self.take_part(alloc, books, &part)
-    }
-
-    /// Takes all parts that have come, up to a fault of the check or of the text.
-    fn take_parts(&mut self, alloc: Global, books: &Books) -> Result<(), ValueStop>
-        requires accepted { IsAccepted books.now }
-        requires more { self.old.more ≤ MOST_RAISE }
-        requires read { (text : List ℕ) × (parts : List ThePart) × TookParts books.now self.old.more text parts self.old }
-        ensures states { (text : List ℕ) (parts : List ThePart) → TookParts books.now self.old.more text parts self.old → PushStates books.now self.old.more text self.new result }
-        ensures more { self.new.more ≡ self.old.more }
-    {
-        'parts: loop {
-            match self.reader.next(alloc) {
-                Ok(Some(part)) => match self.take(alloc, books, part) {
-                    Ok(()) => {}
-                    Err(stop) => return Err(stop),
-                },
-                Ok(None) => return Ok(()),
-                Err(fault) => return Err(stop_of_reader(fault)),
-            }
-        }
-    }
-
-    /// Takes a piece of the text, and all parts that have come with it.
-    fn push(&mut self, alloc: Global, books: &Books, piece: &[u8]) -> Result<(), ValueStop>
-        requires accepted { IsAccepted books.now }
-        requires more { self.old.more ≤ MOST_RAISE }
-        requires read { (text : List ℕ) × (parts : List ThePart) × TookParts books.now self.old.more text parts self.old }
-        ensures states { (text : List ℕ) (parts : List ThePart) → TookParts books.now self.old.more text parts self.old → PushStates books.now self.old.more (text ++ piece.now) self.new result }
-        ensures more { self.new.more ≡ self.old.more }
-    {
-        match self.reader.push(piece) {
-            Ok(()) => self.take_parts(alloc, books),
-            Err(_) => Err(ValueStop::Memory),
-        }
-    }
-
-    /// The lines so far, and how they end.
-    fn stopped(self, end: ValueEnd) -> Valued
-        ensures text { result.text ≡ self.lines.items }
-        ensures end { result.end ≡ end }
-    {
-        let ValueStream {
-            reader,
-            day,
-            lines,
-            ..
-        } = self;
-        drop(reader);
+        let ValuesSoFar { day, lines, .. } = self;
         drop(day);
-        Valued {
-            text: Items::of(lines),
+        let (text, end) = match stop {
+            ReadStop::Unopened(fault) => {
+                drop(lines);
+                (Vec::new(alloc), ValueEnd::Fetch(fault))
+            }
+            ReadStop::Fetch(fault) => (lines, ValueEnd::Fetch(fault)),
+            ReadStop::Text(fault) => (lines, ValueEnd::Text(fault)),
+            ReadStop::Part(ValueStop::At(end)) => (lines, end),
+            ReadStop::Part(ValueStop::Memory) | ReadStop::Memory => return Err(Memory),
+        };
+        Ok(Valued {
+            text: Items::of(text),
             end,
-        }
+        })
     }
 
-    /// The lines of a text that has come as far as its page goes, and how they end.
+    /// The lines of a whole publication, and how they end.
     fn end(self, alloc: Global) -> Result<Valued, Memory>
-        requires read { (books : TheBooks) × (text : List ℕ) × TookAllParts books self.more text self }
-        ensures reported { (books : TheBooks) (text : List ℕ) → TookAllParts books self.more text self → length text ≤ most_given → IfOk result (λ v. EndsPage books self.more text v.text v.end) }
-        ensures lines { (books : TheBooks) (text : List ℕ) → TookAllParts books self.more text self → IfOk result (λ v. LinesReport books self.more v.text v.end) }
+        requires read { (books : TheBooks) × (more : ℕ) × (text : List ℕ) × TookWhole books more text self }
+        ensures reported { (books : TheBooks) (more : ℕ) (text : List ℕ) → TookWhole books more text self.entry → length text ≤ most_given → IfOk result (λ v. EndsPage books more text v.text v.end) }
+        ensures lines { (books : TheBooks) (more : ℕ) (text : List ℕ) → TookWhole books more text self.entry → IfOk result (λ v. LinesReport books more v.text v.end) }
         ensures memory { IfOk result (λ v. IsWrapped v.end → ⊥) }
         ensures page { (why : TheFetch) → IfOk result (λ v. IsPageEnd why v.end → ⊥) }
     {
-        let ValueStream {
-            reader,
+        let ValuesSoFar {
             day,
             mut lines,
             found,
             ..
         } = self;
         drop(day);
-        let end = match reader.end() {
-            Err(fault) => ValueEnd::Text(fault),
-            Ok(()) => match found.unwrap() {
-                Verdict::Invalid { run, fault } => ValueEnd::Invalid { run, fault },
-                Verdict::Valid {
+        let end = match found.unwrap() {
+            Verdict::Invalid { run, fault } => ValueEnd::Invalid { run, fault },
+            Verdict::Valid {
+                published,
+                unpublished,
+            } => {
+                put_done(alloc, &mut lines, published, unpublished)?;
+                ValueEnd::Valid {
                     published,
                     unpublished,
-                } => {
-                    put_done(alloc, &mut lines, published, unpublished)?;
-                    ValueEnd::Valid {
-                        published,
-                        unpublished,
-                    }
                 }
-            },
+            }
         };
         Ok(Valued {
             text: Items::of(lines),
@@ -266,47 +214,23 @@ impl ValueStream {
     }
 }
 
-/// Reads the page that is open to its end, piece by piece, up to a fault of the shelf, of the text or of the check.
-fn read_pieces<S: Shelf>(
-    alloc: Global,
-    books: &Books,
-    shelf: &mut S,
-    stream: &mut ValueStream,
-) -> Result<(), ValueStop>
-    // Nothing of the publication is read yet.
-    requires accepted { IsAccepted books.now }
-    requires open { S.is_open shelf.old ≡ true }
-    requires given { S.given shelf.old ≡ 0 }
-    requires more { stream.old.more ≤ MOST_RAISE }
-    requires read { TookParts books.now stream.old.more [] [] stream.old }
+impl<'a> PartsSoFar<()> for ValuesSoFar<'a> {
+    ghost use Rattle.mari_capacity.specs.Taking.{KeepsValues, StopsAtPart};
 
-    // What was read, and where what was left is reported, how far.
-    ensures same { S.pages shelf.new ≡ S.pages shelf.old }
-    ensures more { stream.new.more ≡ stream.old.more }
-    ensures read { OnOk result ((text : List ℕ) × TookAllParts books.now stream.old.more text stream.new) }
-    ensures reported { (page : List ℕ) → S.rest shelf.old ≡ Some page → PiecesReport books.now stream.old.more page stream.new result }
-    ensures lines { IfErr result (StopStates books.now stream.old.more stream.new.lines.items) }
+    type Stop = ValueStop;
 
-    // Why it wasn't read to its end. Out of memory is reported as such.
-    ensures memory { IfErr result (λ stop. IsWrappedStop stop → ⊥) }
-    ensures failed { Counts (IsStopFetch fetch.Failed result) (S.faults shelf.old) (S.faults shelf.new) }
-    ensures missing { Counts (IsStopFetch fetch.Missing result) (S.misses shelf.old) (S.misses shelf.new) }
-    ensures too_long { Counts (IsStopFetch fetch.TooLong result) (S.overs shelf.old) (S.overs shelf.new) }
-{
-    let mut piece = Vec::new(alloc);
-    'pieces: loop {
-        piece.clear();
-        let count = match shelf.next_piece(&mut piece) {
-            Ok(count) => count,
-            Err(fault) => return Err(stop_of_shelf(fault)),
-        };
-        match stream.push(alloc, books, piece.as_slice()) {
-            Ok(()) => {}
-            Err(stop) => return Err(stop),
-        }
-        if count == 0 {
-            return Ok(());
-        }
+    ghost Took = { λ first lent now left parts. KeepsValues first.books.now first.more parts now };
+
+    ghost Breaks = { λ first lent now left parts part stop. StopsAtPart first.books.now first.more parts part now.lines.items stop };
+
+    ghost faults = { λ lent. 0 };
+
+    ghost IsFault = { λ stop. ⊥ };
+
+    /// Takes a part, which isn't kept.
+    fn take(&mut self, alloc: Global, part: Part, _with: &mut ()) -> Result<(), ValueStop> {
+        let books = self.books;
+        self.take_part(alloc, books, &part)
     }
 }
 
@@ -338,26 +262,19 @@ pub fn value_stream<S: Shelf>(
     // It ends as the page does and in no other way, unless a call of the shelf failed.
     ensures exact { (reported : Pages) (end : TheEnd) → S.pages shelf.old ≡ Some reported → IsEndOf books.now (page_of reported name.now) end → IfOk result (EndsAs end) }
 
+    // The shelf is asked for nothing else: one call opens that page, and further ones are for pieces of it. Where there is
+    // no memory for the first line, it isn't asked.
+    ensures fetched { (S.fetches shelf.new ≡ S.fetches shelf.old) ⊎ AsksForPage (IsPageFault fetch.Missing result) (S.fetches shelf.old) (S.fetches shelf.new) (S.given shelf.new) }
+
     // Why the page wasn't had. Out of memory is reported as such.
     ensures memory { IfOk result (λ v. IsWrapped v.end → ⊥) }
     ensures failed { Counts (IsPageFault fetch.Failed result) (S.faults shelf.old) (S.faults shelf.new) }
     ensures missing { Counts (IsPageFault fetch.Missing result) (S.misses shelf.old) (S.misses shelf.new) }
     ensures too_long { Counts (IsPageFault fetch.TooLong result) (S.overs shelf.old) (S.overs shelf.new) }
 {
-    let mut stream = ValueStream::start(alloc, books, more)?;
-    match shelf.open_page(name) {
-        Ok(()) => {}
-        Err(fault) => {
-            drop(stream);
-            return unopened(alloc, fault);
-        }
-    }
-    match read_pieces(alloc, books, shelf, &mut stream) {
-        Ok(()) => stream.end(alloc),
-        Err(ValueStop::At(end)) => Ok(stream.stopped(end)),
-        Err(ValueStop::Memory) => {
-            drop(stream);
-            Err(Memory)
-        }
+    let mut so_far = ValuesSoFar::start(alloc, books, more)?;
+    match read_parts(alloc, shelf, name, &mut so_far, &mut ()) {
+        Ok(()) => so_far.end(alloc),
+        Err(stop) => so_far.stopped(alloc, stop),
     }
 }

@@ -1,5 +1,5 @@
 -- The parts of a publication, one after the other, and what they settle.
-use Rattle.std.proofs.Common.{◌≡◌, ◌∙◌, ℕ, true, List, [], ◌∷◌, ◌++◌, map, length, take, get_or, Option, Some, None, refl, sym, ap, subst, arith, append_assoc, length-append}
+use Rattle.std.proofs.Common.{◌≡◌, ◌∙◌, ℕ, true, false, List, [], ◌∷◌, ◌++◌, map, length, take, get_or, Option, Some, None, refl, sym, ap, subst, arith, append_assoc, length-append}
 use Rattle.std.specs.Prelude.{is_some, Result as Res, Ok, Err, IfOk, ⊤}
 use Rattle.std.proofs.Math.Seq.{take-append_seam}
 use Rattle.std.proofs.lemmas.List.{append-nil, map_push}
@@ -61,6 +61,15 @@ comes text parts x h =
     record { whole = p; more = rest.0; are = rest.1 ∙ ap (λ (ps : List Part). ps ++ rest.0) (sym h.gives.given) ∙ append_assoc parts (x ∷ []) rest.0 }
 
 -- ---- what is settled stays so
+
+pub settled-stays : (books : Books) (parts : List Part) (x : Part) (day : DayCheck) (found : Option Verdict) → is_some found ≡ true → IsVerdictSoFar books parts day found → IsVerdictSoFar books (parts ++ x ∷ []) day found
+settled-stays books parts x day None e h = absurd cc
+settled-stays books parts x day (Some v) e h = λ p more same. h p (x ∷ more) (same ∙ append_assoc parts (x ∷ []) more)
+
+-- and where nothing is, it is open
+pub still-open : (books : Books) (parts : List Part) (day : DayCheck) (found : Option Verdict) → is_some found ≡ false → IsVerdictSoFar books parts day found → IsOpen books parts day
+still-open books parts day None e h = h
+still-open books parts day (Some v) e h = absurd cc
 
 -- ---- what a part settles
 

@@ -11,3 +11,4 @@ pub mod Shown
 pub mod Checked
 pub mod Verdicts
 pub mod Streams
+pub mod SoFar

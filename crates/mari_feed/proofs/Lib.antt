@@ -9,4 +9,3 @@ pub mod SameValue
 pub mod ByKey
 pub mod Outcomes
 pub mod Feeding
-pub mod Piecemeal

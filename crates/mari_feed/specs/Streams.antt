@@ -1,17 +1,19 @@
 -- The feed of a page that is read in pieces: what is printed of it, by how the printing ends.
-use Rattle.std.specs.Prelude.{◌≡◌, ◌≤◌, ◌⊎◌, ℕ, true, List, [], ◌∷◌, ◌++◌, length, Option, Some, None, Result, Ok, Err, ⊤}
+use Rattle.std.specs.Prelude.{◌≡◌, ◌≤◌, ◌⊎◌, ℕ, List, [], ◌∷◌, ◌++◌, length, Option, Some, None, Result, Ok, Err, ⊤}
 use Rattle.std.specs.List.{AllByRecursion, flat_map}
 use Rattle.mari_io.specs.Taken.{TookPart, then_took}
 use Rattle.mari_io.specs.declared.shelf.Fetch.{Fetch}
 use Rattle.mari_io.specs.declared.shelf.Fetch.TheVariants as fetch
 use Rattle.mari_io.specs.Outside.{most_given}
 use Rattle.mari_publish.specs.Faults.{IsText}
-use Rattle.mari_publish.specs.Paged.{IsLineFault, IsReportedFault, IsTooLong}
-use Rattle.mari_publish.specs.Pieces.{ComeState, ComesFrom, HoldsParts, NoFault, NoPart, ReaderState, parts_of}
+use Rattle.mari_publish.specs.Paged.{IsReportedFault, IsTooLong}
+use Rattle.mari_publish.specs.Pieces.{HoldsParts, NoPart, parts_of}
 use Rattle.mari_publish.specs.declared.fault.TextFault.{TextFault}
 use Rattle.mari_publish.specs.declared.fault.TextFault.TheVariants as text_fault
 use Rattle.mari_publish.specs.declared.publication.Part.{Part}
 use Rattle.mari_publish.specs.declared.publication.Publication.{Publication}
+use Rattle.mari_publish.specs.declared.stream.ReadStop.{ReadStop}
+use Rattle.mari_publish.specs.declared.stream.ReadStop.TheVariants as read
 use Rattle.mari_feed.specs.Texts.{IsLineOf, json_of}
 use Rattle.mari_feed.specs.declared.stream.FeedStop.{FeedStop}
 use Rattle.mari_feed.specs.declared.stream.FeedStop.TheVariants.{Fetch as OfFetch, Text as OfText, Sink as OfSink, Memory as NoMemory}
@@ -114,18 +116,13 @@ IsWrapped (Err OfSink) = ⊥
 IsWrapped (Err NoMemory) = ⊥
 IsWrapped (Ok x) = ⊥
 
--- how a fault of the shelf is reported, and one of the text
-abbrev pub stop_of_fetch : Fetch → FeedStop
-stop_of_fetch fetch.Failed = OfFetch fetch.Failed
-stop_of_fetch fetch.Missing = OfFetch fetch.Missing
-stop_of_fetch fetch.TooLong = OfFetch fetch.TooLong
-stop_of_fetch fetch.Memory = NoMemory
-
-abbrev pub stop_of_text : TextFault → FeedStop
-stop_of_text (text_fault.BadLine n) = OfText (text_fault.BadLine n)
-stop_of_text (text_fault.BadOrder n) = OfText (text_fault.BadOrder n)
-stop_of_text (text_fault.Truncated n) = OfText (text_fault.Truncated n)
-stop_of_text text_fault.Memory = NoMemory
+-- by why the reading of the page does
+abbrev pub feed_stop : ReadStop FeedStop → FeedStop
+feed_stop (read.Unopened f) = OfFetch f
+feed_stop (read.Fetch f) = OfFetch f
+feed_stop (read.Text f) = OfText f
+feed_stop (read.Part stop) = stop
+feed_stop read.Memory = NoMemory
 
 -- ---- what has come
 
@@ -137,28 +134,10 @@ WroteLine x before after (Err (OfText f)) = ⊥
 WroteLine x before after (Err OfSink) = TookPart before after (line_of x)
 WroteLine x before after (Err NoMemory) = after ≡ before
 
--- a text has come, and the lines of these parts of it were taken from the start on
-pub record HasFed (start : Option (List ℕ)) (text : List ℕ) (parts : List Part) (come : ComeState) (now : Option (List ℕ)) : Type 0 where
-  pub stands : ComesFrom come text parts
-  pub took : now ≡ then_took start (feed_of parts)
+-- the lines of these parts were taken
+abbrev pub PrintedLines : (before after : Option (List ℕ)) → List Part → Type 0
+PrintedLines before after parts = after ≡ then_took before (feed_of parts)
 
--- the lines of all parts that have come were taken, and no whole line has a fault
-pub record AllFed (start : Option (List ℕ)) (text : List ℕ) (reader : ReaderState) (now : Option (List ℕ)) : Type 0 where
-  pub parts : List Part
-  pub fed : HasFed start text parts reader.come now
-  pub waits : reader.waits ≡ true
-  pub none : NoPart text parts
-  pub no_fault : NoFault text
-
--- how far the text that has come is printed
-abbrev pub PartsReport : {T : Type 0} → Option (List ℕ) → List ℕ → ReaderState → Option (List ℕ) → Result T FeedStop → Type 0
-PartsReport start text reader now (Ok done) = AllFed start text reader now
-PartsReport start text reader now (Err (OfFetch f)) = ⊥
-PartsReport start text reader now (Err (OfText f)) = IsLineFault text f × TookAll text start now
-PartsReport start text reader now (Err OfSink) = TookSome text start now
-PartsReport start text reader now (Err NoMemory) = TookFirst text start now
-
--- how far a page is printed that is read to its end, or as far as could be
-abbrev pub PiecesReport : {T : Type 0} → List ℕ → Option (List ℕ) → ReaderState → Option (List ℕ) → Result T FeedStop → Type 0
-PiecesReport page start reader now (Ok done) = (length page ≤ most_given) × AllFed start page reader now
-PiecesReport page start reader now (Err why) = StopStates page start now why
+-- and that of the next part wasn't, or a first part of it
+abbrev pub BrokeLine : (before after : Option (List ℕ)) → List Part → Part → FeedStop → Type 0
+BrokeLine before after parts x stop = WroteLine {T = Unit {0}} x (then_took before (feed_of parts)) after (Err stop)

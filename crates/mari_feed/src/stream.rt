@@ -1,18 +1,18 @@
 //! The feed of a page that is read in pieces.
 
-ghost use Rattle.std.specs.Prelude.{◌≡◌, ℕ, List, [], Option as Opt, Result as Res, Some, Err, true, OnOk};
+ghost use Rattle.std.specs.Prelude.{◌≡◌, ℕ, List, Result as Res, Some, Err};
 ghost use Rattle.mari_io.specs.Outside.{Counts, Pages, page_of};
 ghost use Rattle.mari_io.specs.declared.shelf.Fetch.TheVariants as fetch;
 ghost use Rattle.mari_publish.specs.Faults.{IsOutcome};
 ghost use Rattle.mari_publish.specs.declared.fault.TextFault.{TextFault as TheTextFault};
-ghost use Rattle.mari_publish.specs.declared.publication.Part.{Part as ThePart};
 ghost use Rattle.mari_publish.specs.declared.publication.Publication.{Publication as ThePublication};
 ghost use Rattle.mari_publish.specs.Ranges.{PartFits};
-ghost use Rattle.mari_feed.specs.Streams.{FeedStates, HasFed, IsFeedFetch, IsWrapped, PartsReport, PiecesReport, SameAsRead, WroteLine, stop_of_fetch, stop_of_text};
+ghost use Rattle.mari_publish.specs.Streams.{AsksForPage};
+ghost use Rattle.mari_feed.specs.Streams.{FeedStates, IsFeedFetch, IsWrapped, SameAsRead, WroteLine, feed_stop};
 
 use crate::part::part_text;
 use mari_io::{Fetch, Shelf, Sink, write_all};
-use mari_publish::{Part, TextFault, TextReader};
+use mari_publish::{Part, PartsSoFar, ReadStop, TextFault, read_parts};
 use mari_units::put;
 use std::alloc::Global;
 
@@ -27,26 +27,6 @@ pub enum FeedStop {
     Sink,
     /// Out of memory, for a piece, a part or a line.
     Memory,
-}
-
-/// What a fault of the shelf is reported as.
-fn stop_of_shelf(fault: Fetch) -> FeedStop
-    ensures { result ≡ stop_of_fetch fault }
-{
-    match fault {
-        Fetch::Memory => FeedStop::Memory,
-        other => FeedStop::Fetch(other),
-    }
-}
-
-/// What a fault of the text is reported as.
-fn stop_of_reader(fault: TextFault) -> FeedStop
-    ensures { result ≡ stop_of_text fault }
-{
-    match fault {
-        TextFault::Memory => FeedStop::Memory,
-        other => FeedStop::Text(other),
-    }
 }
 
 /// Prints the line of a part.
@@ -69,70 +49,40 @@ fn print_part<K: Sink>(alloc: Global, part: Part, sink: &mut K) -> Result<(), Fe
     }
 }
 
-/// Prints all parts that have come, up to a fault of the text.
-fn print_parts<K: Sink>(
-    alloc: Global,
-    reader: &mut TextReader,
-    sink: &mut K,
-) -> Result<(), FeedStop>
-    requires fed { (start : Opt (List ℕ)) × (text : List ℕ) × (parts : List ThePart) × HasFed start text parts reader.old.come (K.taken sink.old) }
-    ensures fed { (start : Opt (List ℕ)) (text : List ℕ) (parts : List ThePart) → HasFed start text parts reader.old.come (K.taken sink.old) → PartsReport start text reader.new (K.taken sink.new) result }
-    ensures cause { Counts (result ≡ Err FeedStop.Sink) (K.faults sink.old) (K.faults sink.new) }
-{
-    'parts: loop {
-        match reader.next(alloc) {
-            Ok(Some(part)) => match print_part(alloc, part, sink) {
-                Ok(()) => {}
-                Err(stop) => return Err(stop),
-            },
-            Ok(None) => return Ok(()),
-            Err(fault) => return Err(stop_of_reader(fault)),
-        }
+/// What prints the line of each part.
+#[derive(Drop)]
+struct FeedSoFar;
+
+impl<K: Sink> PartsSoFar<K> for FeedSoFar {
+    ghost use Rattle.std.specs.Prelude.{◌≡◌};
+    ghost use Rattle.mari_feed.specs.Streams.{BrokeLine, PrintedLines};
+    ghost use Rattle.mari_feed.specs.declared.stream.FeedStop.TheVariants.{Sink as SinkFailed};
+
+    type Stop = FeedStop;
+
+    ghost Took = { λ first lent now sink parts. PrintedLines (K.taken lent) (K.taken sink) parts };
+
+    ghost Breaks = { λ first lent now sink parts part stop. BrokeLine (K.taken lent) (K.taken sink) parts part stop };
+
+    ghost faults = { K.faults };
+
+    ghost IsFault = { λ stop. stop ≡ SinkFailed };
+
+    fn take(&mut self, alloc: Global, part: Part, sink: &mut K) -> Result<(), FeedStop> {
+        print_part(alloc, part, sink)
     }
 }
 
-/// Prints the parts of the page that is open, piece by piece, up to a fault.
-fn print_pieces<S: Shelf, K: Sink>(
-    alloc: Global,
-    shelf: &mut S,
-    reader: &mut TextReader,
-    sink: &mut K,
-) -> Result<(), FeedStop>
-    // Nothing of the page is read yet.
-    requires open { S.is_open shelf.old ≡ true }
-    requires given { S.given shelf.old ≡ 0 }
-    requires fed { HasFed (K.taken sink.old) [] [] reader.old.come (K.taken sink.old) }
-
-    // What was read and printed.
-    ensures same { S.pages shelf.new ≡ S.pages shelf.old }
-    ensures waits { OnOk result (reader.new.waits ≡ true) }
-    ensures reported { (page : List ℕ) → S.rest shelf.old ≡ Some page → PiecesReport page (K.taken sink.old) reader.new (K.taken sink.new) result }
-
-    // Why it wasn't printed to its end.
-    ensures memory { IsWrapped result → ⊥ }
-    ensures failed { Counts (IsFeedFetch fetch.Failed result) (S.faults shelf.old) (S.faults shelf.new) }
-    ensures missing { Counts (IsFeedFetch fetch.Missing result) (S.misses shelf.old) (S.misses shelf.new) }
-    ensures too_long { Counts (IsFeedFetch fetch.TooLong result) (S.overs shelf.old) (S.overs shelf.new) }
-    ensures written { Counts (result ≡ Err FeedStop.Sink) (K.faults sink.old) (K.faults sink.new) }
+/// Why the printing stops, by why the reading does.
+fn stop_of(stop: ReadStop<FeedStop>) -> FeedStop
+    ensures { result ≡ feed_stop stop }
 {
-    let mut piece = Vec::new(alloc);
-    'pieces: loop {
-        piece.clear();
-        let count = match shelf.next_piece(&mut piece) {
-            Ok(count) => count,
-            Err(fault) => return Err(stop_of_shelf(fault)),
-        };
-        match reader.push(piece.as_slice()) {
-            Ok(()) => {}
-            Err(_) => return Err(FeedStop::Memory),
-        }
-        match print_parts(alloc, reader, sink) {
-            Ok(()) => {}
-            Err(stop) => return Err(stop),
-        }
-        if count == 0 {
-            return Ok(());
-        }
+    match stop {
+        ReadStop::Unopened(fault) => FeedStop::Fetch(fault),
+        ReadStop::Fetch(fault) => FeedStop::Fetch(fault),
+        ReadStop::Text(fault) => FeedStop::Text(fault),
+        ReadStop::Part(stop) => stop,
+        ReadStop::Memory => FeedStop::Memory,
     }
 }
 
@@ -155,6 +105,9 @@ pub fn print_feed<S: Shelf, K: Sink>(
     // Nothing else is said of that page than of the page read whole.
     ensures whole { (reported : Pages) (page : List ℕ) (answer : Res ThePublication TheTextFault) → S.pages shelf.old ≡ Some reported → page_of reported name.now ≡ Some page → IsOutcome page answer → SameAsRead answer result }
 
+    // The shelf is asked for nothing else: one call opens that page, and further ones are for pieces of it.
+    ensures fetched { AsksForPage (IsFeedFetch fetch.Missing result) (S.fetches shelf.old) (S.fetches shelf.new) (S.given shelf.new) }
+
     // Why it stopped. That there is no memory is said as such.
     ensures memory { IsWrapped result → ⊥ }
     ensures failed { Counts (IsFeedFetch fetch.Failed result) (S.faults shelf.old) (S.faults shelf.new) }
@@ -162,19 +115,8 @@ pub fn print_feed<S: Shelf, K: Sink>(
     ensures too_long { Counts (IsFeedFetch fetch.TooLong result) (S.overs shelf.old) (S.overs shelf.new) }
     ensures written { Counts (result ≡ Err FeedStop.Sink) (K.faults sink.old) (K.faults sink.new) }
 {
-    match shelf.open_page(name) {
-        Ok(()) => {}
-        Err(fault) => return Err(stop_of_shelf(fault)),
-    }
-    let mut reader = TextReader::start(alloc);
-    match print_pieces(alloc, shelf, &mut reader, sink) {
-        Ok(()) => match reader.end() {
-            Ok(()) => Ok(()),
-            Err(fault) => Err(stop_of_reader(fault)),
-        },
-        Err(stop) => {
-            drop(reader);
-            Err(stop)
-        }
+    match read_parts(alloc, shelf, name, &mut FeedSoFar, sink) {
+        Ok(()) => Ok(()),
+        Err(stop) => Err(stop_of(stop)),
     }
 }

@@ -15,3 +15,4 @@ pub mod PartCounts
 pub mod Paging
 pub mod Refusals
 pub mod Bids
+pub mod Streaming

@@ -8,3 +8,4 @@ pub mod Bids
 pub mod Pieces
 pub mod Handling
 pub mod Paged
+pub mod Streams

@@ -13,6 +13,7 @@ mod held;
 mod publication;
 mod reader;
 mod reading;
+mod stream;
 mod taking;
 mod write;
 
@@ -21,6 +22,7 @@ pub use mari_lines::{AmountLine, BidLine, BorderLine, Heading, MoneyLine, ZoneLi
 pub use publication::{Block, FullBlock, Part, Publication};
 pub use reader::TextReader;
 pub use reading::read_text;
+pub use stream::{PartsSoFar, ReadStop, read_parts};
 pub use write::{
     block_text, closing_text, head_text, put_market, put_market_lines, put_opening, put_tree_lines,
     total_text, write_text,

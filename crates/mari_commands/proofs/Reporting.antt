@@ -8,13 +8,13 @@ use Rattle.std.proofs.lemmas.List.{take-append-le, take_all}
 use Rattle.mari_io.specs.declared.shelf.Fetch.{Fetch}
 use Rattle.mari_io.specs.declared.shelf.Fetch.TheVariants as fetch
 use Rattle.mari_io.specs.Taken.{TookPart, then_took}
-use Rattle.mari_io.proofs.Taken.{took_both}
+use Rattle.mari_io.proofs.Taken.{took_both, took_nothing}
 use Rattle.mari_units.specs.declared.faults.Refusal.{Refusal}
 use Rattle.mari_publish.specs.declared.fault.TextFault.{TextFault}
 use Rattle.mari_publish.specs.declared.fault.TextFault.TheVariants as text_fault
 use Rattle.mari_feed.specs.Streams.{FeedStates}
 use Rattle.mari_feed.specs.declared.stream.FeedStop.TheVariants as stop
-use Rattle.mari_feed.proofs.Piecemeal.{took_none}
+use Rattle.mari_feed.proofs.Feeding.{took_none}
 use Rattle.mari_commands.specs.declared.status.Status.{Status}
 use Rattle.mari_commands.specs.declared.status.Status.TheVariants as status
 use Rattle.mari_commands.specs.Commands.{text_refusal}
@@ -70,4 +70,4 @@ cut_after before between after text line whole cut =
 -- nothing is printed yet of a page
 pub nothing_fed : (page : Option (List ℕ)) (before : Option (List ℕ)) → FeedStates {T = Unit {0}} page before before (Err stop.Memory)
 nothing_fed None before = refl
-nothing_fed (Some page) before = took_none page before before refl
+nothing_fed (Some page) before = took_none before before page (took_nothing before)

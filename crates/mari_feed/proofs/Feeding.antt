@@ -55,7 +55,7 @@ module _ (before after : Option (List ℕ)) where
   nothing_taken took = took ∙ sym (took_nothing before)
 
   -- of the page, where nothing was taken
-  took_none : (page : List ℕ) → Took [] → TookFirst page before after
+  pub took_none : (page : List ℕ) → Took [] → TookFirst page before after
   took_none page took = record {
     parts = [];
     first = record { lines = []; after = page; is = refl; in_range = tt; kept = nothing_kept; gives = gives_nothing };

@@ -1,4 +1,4 @@
-use Rattle.std.proofs.Common.{◌∙◌, Option, ◌⊎◌, arith, inl, inr}
+use Rattle.std.proofs.Common.{◌∙◌, Option, ◌⊎◌, arith, inl, inr, sym}
 use Rattle.std.specs.Prelude.{string_bytes}
 use Rattle.mari_commands.specs.Commands.{AsksForBlocks, AsksForFeed}
 use Rattle.mari_commands.specs.Outcome.{IsOfWords, IsOwn}

@@ -107,7 +107,7 @@ abbrev pub AreQuarters : Outcome → Type 0
 AreQuarters (Joins quarters) = ⊤
 AreQuarters _ = ⊥
 
--- the shelf is asked for nothing, or for one page alone: a call opens it, and each further one is for a piece of it
+-- the shelf is asked for nothing; or by one call, and after it by at most one for each byte that was given, and one
 abbrev pub AsksForOne : (before now given : ℕ) → Type 0
 AsksForOne before now given = (now ≡ before) ⊎ AsksForPage ⊥ before now given
 

@@ -6,7 +6,7 @@ ghost use Rattle.mari_units.specs.declared.limits.TheConstants.{LAST_NUMBER, MOS
 ghost use Rattle.mari_units.specs.declared.numbers.TheConstants.{CAP};
 ghost use Rattle.mari_words.specs.declared.command.TheConstants.{USUAL_NODES, USUAL_WORKERS};
 
-/// Each limit that definitions and clauses name is this number. Elsewhere a clause cites the constant of the code alone,
+/// Each limit of the profile is this number. Elsewhere a clause cites the constant of the code alone,
 /// and would hold at any other value of it.
 pub fn profile_is_kept()
     // Prices, in cents per MWh, and quantities, in MW.

@@ -162,7 +162,7 @@ pub fn run_program<S: Shelf, K: Sink, G: Turnstile, R: Threads + Wait + Sync>(
     ensures answers { AnswersOf (command_at (map string_bytes words.now)) (S.pages shelf.old) (Rose (S.faults shelf.old) (S.faults shelf.new)) (K.taken sink.old) (K.taken sink.new) result }
     ensures same { S.pages shelf.new ≡ S.pages shelf.old }
 
-    // Where the words read no page, nothing is fetched; a feed asks for the publication alone.
+    // Where the words read no page, nothing is fetched; a feed makes one call and at most one a byte, and one, after it.
     ensures untouched { (AsksForPages (command_at (map string_bytes words.now)) → ⊥) → S.fetches shelf.new ≡ S.fetches shelf.old }
     ensures alone { AsksForFeed (command_at (map string_bytes words.now)) → AsksForOne (S.fetches shelf.old) (S.fetches shelf.new) (S.given shelf.new) }
 

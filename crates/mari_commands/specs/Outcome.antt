@@ -107,7 +107,8 @@ abbrev pub AreQuarters : Outcome → Type 0
 AreQuarters (Joins quarters) = ⊤
 AreQuarters _ = ⊥
 
--- the shelf is asked for nothing; or by one call, and after it by at most one for each byte that was given, and one
+-- so many calls that they may be for one page in pieces: none; or one, and then at most one for each byte that was
+-- given, and one
 abbrev pub AsksForOne : (before now given : ℕ) → Type 0
 AsksForOne before now given = (now ≡ before) ⊎ AsksForPage ⊥ before now given
 

@@ -1,8 +1,8 @@
 //! The top call.
 
-ghost use Rattle.std.specs.Prelude.{◌≡◌, ℕ, List, None, Some, map, string_bytes, ◌⊎◌};
+ghost use Rattle.std.specs.Prelude.{◌≡◌, ◌≤◌, ℕ, List, None, Some, map, string_bytes, ◌⊎◌};
 ghost use Rattle.mari_units.specs.declared.faults.Refusal.{Refusal};
-ghost use Rattle.mari_io.specs.Outside.{Counts, Pages, Rose};
+ghost use Rattle.mari_io.specs.Outside.{Counts, Pages, Rose, counted};
 ghost use Rattle.mari_io.specs.declared.shelf.Fetch.TheVariants as fetch;
 ghost use Rattle.mari_publish.specs.declared.fault.TextFault.{TextFault};
 ghost use Rattle.mari_day.specs.Files.{Gap};
@@ -47,6 +47,7 @@ fn outcome_of<S: Shelf, G: Turnstile, R: Threads + Wait + Sync>(
 
     // Where the words read no folder, nothing is fetched.
     ensures untouched { (AsksForFiles (command_at (map string_bytes words.now)) → ⊥) → S.fetches shelf.new ≡ S.fetches shelf.old }
+    ensures unnamed { (AsksForFiles (command_at (map string_bytes words.now)) → ⊥) → S.named shelf.new ≡ S.named shelf.old }
 
     // What comes of the words on any shelf.
     ensures words { IsOfWords (command_at (map string_bytes words.now)) result }
@@ -112,6 +113,7 @@ fn finish<S: Shelf, K: Sink, G: Turnstile, R: Threads + Wait + Sync>(
     ensures same { S.pages shelf.new ≡ S.pages shelf.old }
     ensures untouched { (IsOwn outcome.now → ⊥) → S.fetches shelf.new ≡ S.fetches shelf.old }
     ensures alone { (AreQuarters outcome.now → ⊥) → AsksForOne (S.fetches shelf.old) (S.fetches shelf.new) (S.given shelf.new) }
+    ensures named { (AreQuarters outcome.now → ⊥) → S.named shelf.new ≤ counted (S.named shelf.old) }
     ensures reported { Reported (S.pages shelf.old) (Rose (S.faults shelf.old) (S.faults shelf.new)) outcome.now (K.taken sink.old) (K.taken sink.new) result }
 
     // Why a page wasn't had, or a text not written.
@@ -162,9 +164,10 @@ pub fn run_program<S: Shelf, K: Sink, G: Turnstile, R: Threads + Wait + Sync>(
     ensures answers { AnswersOf (command_at (map string_bytes words.now)) (S.pages shelf.old) (Rose (S.faults shelf.old) (S.faults shelf.new)) (K.taken sink.old) (K.taken sink.new) result }
     ensures same { S.pages shelf.new ≡ S.pages shelf.old }
 
-    // Where the words read no page, nothing is fetched; a feed makes one call and at most one a byte, and one, after it.
+    // Where the words read no page, nothing is fetched; a feed names one page at most, and asks for pieces of it alone.
     ensures untouched { (AsksForPages (command_at (map string_bytes words.now)) → ⊥) → S.fetches shelf.new ≡ S.fetches shelf.old }
     ensures alone { AsksForFeed (command_at (map string_bytes words.now)) → AsksForOne (S.fetches shelf.old) (S.fetches shelf.new) (S.given shelf.new) }
+    ensures named { AsksForFeed (command_at (map string_bytes words.now)) → S.named shelf.new ≤ counted (S.named shelf.old) }
 
     // Why a page wasn't had, or a text not written.
     ensures read_fault { Counts (result ≡ Status.ReadFault) (S.faults shelf.old) (S.faults shelf.new) }

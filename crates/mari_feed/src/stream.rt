@@ -1,7 +1,7 @@
 //! The feed of a page that is read in pieces.
 
 ghost use Rattle.std.specs.Prelude.{◌≡◌, ℕ, List, Result as Res, Some, Err};
-ghost use Rattle.mari_io.specs.Outside.{Counts, Pages, page_of};
+ghost use Rattle.mari_io.specs.Outside.{Counts, Pages, counted, page_of};
 ghost use Rattle.mari_io.specs.declared.shelf.Fetch.TheVariants as fetch;
 ghost use Rattle.mari_publish.specs.Faults.{IsOutcome};
 ghost use Rattle.mari_publish.specs.declared.fault.TextFault.{TextFault as TheTextFault};
@@ -105,8 +105,9 @@ pub fn print_feed<S: Shelf, K: Sink>(
     // Nothing else is said of that page than of the page read whole.
     ensures whole { (reported : Pages) (page : List ℕ) (answer : Res ThePublication TheTextFault) → S.pages shelf.old ≡ Some reported → page_of reported name.now ≡ Some page → IsOutcome page answer → SameAsRead answer result }
 
-    // The shelf is asked for nothing else: one call opens that page, and further ones are for pieces of it.
+    // The shelf is asked for nothing else: one call names a page, and each further one is for a piece of it.
     ensures fetched { AsksForPage (IsFeedFetch fetch.Missing result) (S.fetches shelf.old) (S.fetches shelf.new) (S.given shelf.new) }
+    ensures named { S.named shelf.new ≡ counted (S.named shelf.old) }
 
     // Why it stopped. That there is no memory is said as such.
     ensures memory { IsWrapped result → ⊥ }

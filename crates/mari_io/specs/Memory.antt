@@ -25,12 +25,13 @@ abbrev pub left_of : List Page → Option ℕ → ℕ → List ℕ
 left_of pages None given = []
 left_of pages (Some place) given = drop given (bytes_of pages place)
 
--- a shelf in memory: its pages, its plan, how many calls were made, and its counts; the most bytes of a piece, whether
+-- a shelf in memory: its pages, its plan, how many calls were made and how many of them named a page, and its counts; the most bytes of a piece, whether
 -- a page was opened, what is left of it, and how many bytes of it were given
 pub record ShelfState : Type 0 where
   pub pages : Pages
   pub plan : FaultPlan
   pub calls : ℕ
+  pub named : ℕ
   pub faults : ℕ
   pub misses : ℕ
   pub overs : ℕ
@@ -45,6 +46,7 @@ new_shelf pages plan piece = record {
   pages = pages;
   plan = plan;
   calls = 0;
+  named = 0;
   faults = 0;
   misses = 0;
   overs = 0;
@@ -62,18 +64,22 @@ fetch_fails s = is_planned s.plan (counted s.calls)
 abbrev pub refusal : Fetch → Result ℕ Fetch
 refusal fault = Err fault
 
--- the shelf after a fetch
-abbrev pub after_fetch : {T : Type 0} → ShelfState → Result T Fetch → ShelfState
-after_fetch s result = record s {
+-- the shelf after a call that names no page
+abbrev pub after_call : {T : Type 0} → ShelfState → Result T Fetch → ShelfState
+after_call s result = record s {
   calls = counted s.calls;
   faults = counted_if (is_failed result) s.faults;
   misses = counted_if (is_missing result) s.misses;
   overs = counted_if (is_too_long result) s.overs;
 }
 
+-- the shelf after a fetch
+abbrev pub after_fetch : {T : Type 0} → ShelfState → Result T Fetch → ShelfState
+after_fetch s result = record (after_call s result) { named = counted s.named }
+
 -- the shelf after a page was opened or not
 abbrev pub after_open : {T : Type 0} → ShelfState → List ℕ → Result T Fetch → ShelfState
-after_open s name (Ok done) = record s { calls = counted s.calls; is_open = true; left = unwrap_or (page_of s.pages name) []; given = 0 }
+after_open s name (Ok done) = record s { calls = counted s.calls; named = counted s.named; is_open = true; left = unwrap_or (page_of s.pages name) []; given = 0 }
 after_open s name (Err fault) = after_fetch s (refusal fault)
 
 -- how many bytes the next piece has: the least of what a piece may have, what is left, and what may still be given
@@ -83,7 +89,7 @@ piece_length s = min s.piece (min (length s.left) (most_given - s.given))
 -- the shelf after a piece was given or not
 abbrev pub after_piece : ShelfState → Result ℕ Fetch → ShelfState
 after_piece s (Ok count) = record s { calls = counted s.calls; left = drop count s.left; given = s.given + count }
-after_piece s (Err fault) = after_fetch s (refusal fault)
+after_piece s (Err fault) = after_call s (refusal fault)
 
 -- a sink in memory: what it took, how much it takes in a call and in all, its plan, how many writes were made, and its
 -- count

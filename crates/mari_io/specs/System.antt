@@ -16,11 +16,12 @@ abbrev pub fault_of_reading : ErrorKind → Fetch
 fault_of_reading ErrorKind.OutOfMemory = Memory
 fault_of_reading _ = Failed
 
--- what a shelf of real files counted: its calls, and those that failed, found no file, or found one that is too long;
+-- what a shelf of real files counted: its calls, those that named a page, and those that failed, found no file, or found one that is too long;
 -- whether a file was opened to be given in pieces, and how many bytes of it were given
 -- It counts as a shelf in memory does, whose record (`ShelfState`) has its pages and plan beside the counts.
 pub record DiskCounts : Type 0 where
   pub calls : ℕ
+  pub named : ℕ
   pub faults : ℕ
   pub misses : ℕ
   pub overs : ℕ
@@ -29,7 +30,7 @@ pub record DiskCounts : Type 0 where
 
 -- a shelf of which nothing was asked yet
 abbrev pub new_disk : DiskCounts
-new_disk = record { calls = 0; faults = 0; misses = 0; overs = 0; is_open = false; given = 0 }
+new_disk = record { calls = 0; named = 0; faults = 0; misses = 0; overs = 0; is_open = false; given = 0 }
 
 -- the counts after a call: that of calls goes up, and that of its answer, if it has one
 abbrev pub after_disk_call : {T : Type 0} → DiskCounts → Result T Fetch → DiskCounts
@@ -39,6 +40,10 @@ after_disk_call s result = record s {
   misses = counted_if (is_missing result) s.misses;
   overs = counted_if (is_too_long result) s.overs;
 }
+
+-- a call named a page
+abbrev pub page_named : DiskCounts → DiskCounts
+page_named s = record s { named = counted s.named }
 
 -- a file was opened, of which nothing was given yet, or none was
 abbrev pub opened : {T : Type 0} → DiskCounts → Result T Fetch → DiskCounts

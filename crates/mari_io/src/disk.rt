@@ -7,7 +7,7 @@ ghost use Rattle.mari_units.specs.declared.limits.TheConstants.{MOST_PAGE};
 ghost use Rattle.mari_io.specs.declared.shelf.TheConstants.{MOST_PIECE};
 ghost use Rattle.mari_io.specs.declared.shelf.Fetch.TheVariants.{Failed, Missing, TooLong, Memory};
 ghost use Rattle.mari_io.specs.Outside.{Counts, Pages, counted, page_of, FetchStates, AppendsAtMost, OpenStates, AppendsExactly, IsPiece, rest_after, IsOverlong, most_given, taken_count};
-ghost use Rattle.mari_io.specs.System.{fault_of_opening, fault_of_reading, after_disk_call, new_disk, opened, more_given};
+ghost use Rattle.mari_io.specs.System.{fault_of_opening, fault_of_reading, after_disk_call, new_disk, opened, more_given, page_named};
 
 use crate::shelf::MOST_GIVEN;
 use crate::{Fetch, Shelf};
@@ -25,6 +25,7 @@ const BUFFER: usize = 8192;
 pub struct DiskShelf<R: Files + Drop> {
     rt: R,
     calls: u64,
+    named: u64,
     faults: u64,
     misses: u64,
     overs: u64,
@@ -39,7 +40,7 @@ impl<R: Files + Drop> Model for DiskShelf<R> {
 
     ghost Value = { DiskCounts };
 
-    ghost view = { λ s. record { calls = s.calls; faults = s.faults; misses = s.misses; overs = s.overs; is_open = is_some s.file; given = s.given } };
+    ghost view = { λ s. record { calls = s.calls; named = s.named; faults = s.faults; misses = s.misses; overs = s.overs; is_open = is_some s.file; given = s.given } };
 
     ghost invariant = { λ s. s.given ≤ MOST_GIVEN };
 }
@@ -52,6 +53,7 @@ impl<R: Files + Drop> DiskShelf<R> {
         DiskShelf {
             rt,
             calls: 0,
+            named: 0,
             faults: 0,
             misses: 0,
             overs: 0,
@@ -267,6 +269,8 @@ impl<R: Files + Drop> Shelf for DiskShelf<R> {
 
     ghost fetches = { λ s. s.calls };
 
+    ghost named = { λ s. s.named };
+
     ghost faults = { λ s. s.faults };
 
     ghost misses = { λ s. s.misses };
@@ -281,6 +285,7 @@ impl<R: Files + Drop> Shelf for DiskShelf<R> {
 
     fn fetch(&mut self, name: &str, into: &mut Vec<u8>) -> Result<(), Fetch>
         ensures fetched { self.new.calls ≡ counted self.old.calls }
+        ensures named { self.new.named ≡ counted self.old.named }
 
         // What was read; no page is reported.
         ensures ok { OnOk result (AppendsAtMost MOST_PAGE into.old.items into.new.items) }
@@ -296,9 +301,10 @@ impl<R: Files + Drop> Shelf for DiskShelf<R> {
         ensures open_stays { self.new.is_open ≡ self.old.is_open }
         ensures given_stays { self.new.given ≡ self.old.given }
 
-        // The counts of calls and of the answer go up by one, and nothing else changes.
-        ensures counts { self.new ≡ after_disk_call self.old result }
+        // The counts of calls, of pages named and of the answer go up by one, and nothing else changes.
+        ensures counts { self.new ≡ after_disk_call (page_named self.old) result }
     {
+        self.named = self.named.saturating_add(1);
         let answer = fetch_opened(fs::open(&self.rt, name), into);
         self.count(&answer);
         answer
@@ -306,6 +312,7 @@ impl<R: Files + Drop> Shelf for DiskShelf<R> {
 
     fn open_page(&mut self, name: &str) -> Result<(), Fetch>
         ensures fetched { self.new.calls ≡ counted self.old.calls }
+        ensures named { self.new.named ≡ counted self.old.named }
 
         // What is open: that file, of which nothing was given; no page is reported.
         ensures open { OnOk result (self.new.is_open ≡ true) }
@@ -322,9 +329,10 @@ impl<R: Files + Drop> Shelf for DiskShelf<R> {
         ensures too_long { Counts (IsErrOf result TooLong) self.old.overs self.new.overs }
         ensures not_too_long { IsErrOf result TooLong → ⊥ }
 
-        // The counts of calls and of the answer go up by one, and only what is open changes with them.
-        ensures counts { self.new ≡ after_disk_call (opened self.old result) result }
+        // The counts of calls, of pages named and of the answer go up by one, and only what is open changes with them.
+        ensures counts { self.new ≡ after_disk_call (opened (page_named self.old) result) result }
     {
+        self.named = self.named.saturating_add(1);
         let answer = self.open_file(name);
         self.count(&answer);
         answer
@@ -333,6 +341,7 @@ impl<R: Files + Drop> Shelf for DiskShelf<R> {
     fn next_piece(&mut self, into: &mut Vec<u8>) -> Result<u32, Fetch>
         requires open { self.old.is_open ≡ true }
         ensures fetched { self.new.calls ≡ counted self.old.calls }
+        ensures named { self.new.named ≡ self.old.named }
 
         // What was given; what was left isn't reported.
         ensures ok { IfOk result (λ n. AppendsExactly n into.old.items into.new.items) }

@@ -20,6 +20,7 @@ pub struct MemoryShelf {
     pages: Vec<Page>,
     plan: FaultPlan,
     calls: u64,
+    named: u64,
     faults: u64,
     misses: u64,
     overs: u64,
@@ -35,7 +36,7 @@ impl Model for MemoryShelf {
 
     ghost Value = { ShelfState };
 
-    ghost view = { λ s. record { pages = pages_of s.pages.items; plan = s.plan; calls = s.calls; faults = s.faults; misses = s.misses; overs = s.overs; piece = s.piece; is_open = is_some s.opened; left = left_of s.pages.items s.opened s.given; given = s.given } };
+    ghost view = { λ s. record { pages = pages_of s.pages.items; plan = s.plan; calls = s.calls; named = s.named; faults = s.faults; misses = s.misses; overs = s.overs; piece = s.piece; is_open = is_some s.opened; left = left_of s.pages.items s.opened s.given; given = s.given } };
 
     ghost invariant = { λ s. (1 ≤ s.piece) × (s.piece ≤ MOST_PIECE) × (s.given ≤ MOST_GIVEN) × IfSome s.opened (λ place. (place < length s.pages.items) × (s.given ≤ length (bytes_of s.pages.items place))) };
 }
@@ -59,6 +60,7 @@ impl MemoryShelf {
             pages,
             plan,
             calls: 0,
+            named: 0,
             faults: 0,
             misses: 0,
             overs: 0,
@@ -73,6 +75,8 @@ impl Shelf for MemoryShelf {
     ghost pages = { λ s. Some s.pages };
 
     ghost fetches = { λ s. s.calls };
+
+    ghost named = { λ s. s.named };
 
     ghost faults = { λ s. s.faults };
 
@@ -90,6 +94,7 @@ impl Shelf for MemoryShelf {
     fn fetch(&mut self, name: &str, into: &mut Vec<u8>) -> Result<(), Fetch>
         ensures same { self.new.pages ≡ self.old.pages }
         ensures fetched { self.new.calls ≡ counted self.old.calls }
+        ensures named { self.new.named ≡ counted self.old.named }
 
         // What was read.
         ensures ok { OnOk result (AppendsAtMost MOST_PAGE into.old.items into.new.items) }
@@ -111,6 +116,7 @@ impl Shelf for MemoryShelf {
         ensures counts { self.new ≡ after_fetch self.old result }
     {
         self.calls = self.calls.saturating_add(1);
+        self.named = self.named.saturating_add(1);
         if self.plan.names(self.calls) {
             self.faults = self.faults.saturating_add(1);
             return Err(Fetch::Failed);
@@ -133,6 +139,7 @@ impl Shelf for MemoryShelf {
     fn open_page(&mut self, name: &str) -> Result<(), Fetch>
         ensures same { self.new.pages ≡ self.old.pages }
         ensures fetched { self.new.calls ≡ counted self.old.calls }
+        ensures named { self.new.named ≡ counted self.old.named }
 
         // What is open: that page, and all of it is left.
         ensures open { OnOk result (self.new.is_open ≡ true) }
@@ -155,6 +162,7 @@ impl Shelf for MemoryShelf {
         ensures counts { self.new ≡ after_open self.old name.now result }
     {
         self.calls = self.calls.saturating_add(1);
+        self.named = self.named.saturating_add(1);
         if self.plan.names(self.calls) {
             self.faults = self.faults.saturating_add(1);
             return Err(Fetch::Failed);
@@ -173,6 +181,7 @@ impl Shelf for MemoryShelf {
         requires open { self.old.is_open ≡ true }
         ensures same { self.new.pages ≡ self.old.pages }
         ensures fetched { self.new.calls ≡ counted self.old.calls }
+        ensures named { self.new.named ≡ self.old.named }
 
         // What was given: the first bytes of what was left.
         ensures ok { IfOk result (λ n. AppendsExactly n into.old.items into.new.items) }

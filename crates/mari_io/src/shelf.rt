@@ -34,6 +34,9 @@ pub trait Shelf {
     /// How many calls were made, of all its functions together.
     ghost fetches: { Self → ℕ };
 
+    /// How many of them named a page: all but those for a further piece.
+    ghost named: { Self → ℕ };
+
     /// How often a call failed.
     ghost faults: { Self → ℕ };
 
@@ -56,6 +59,7 @@ pub trait Shelf {
     fn fetch(&mut self, name: &str, into: &mut Vec<u8>) -> Result<(), Fetch>
         ensures same { pages self.new ≡ pages self.old }
         ensures fetched { fetches self.new ≡ counted (fetches self.old) }
+        ensures named { named self.new ≡ counted (named self.old) }
 
         // What was read.
         ensures ok { OnOk result (AppendsAtMost MOST_PAGE into.old.items into.new.items) }
@@ -77,6 +81,7 @@ pub trait Shelf {
     fn open_page(&mut self, name: &str) -> Result<(), Fetch>
         ensures same { pages self.new ≡ pages self.old }
         ensures fetched { fetches self.new ≡ counted (fetches self.old) }
+        ensures named { named self.new ≡ counted (named self.old) }
 
         // What is open: that page, and all of it is left.
         ensures open { OnOk result (is_open self.new ≡ true) }
@@ -101,6 +106,7 @@ pub trait Shelf {
         requires open { is_open self.old ≡ true }
         ensures same { pages self.new ≡ pages self.old }
         ensures fetched { fetches self.new ≡ counted (fetches self.old) }
+        ensures named { named self.new ≡ named self.old }
 
         // What was given: `n` bytes, and where what was left is reported, its first ones.
         ensures ok { IfOk result (λ n. AppendsExactly n into.old.items into.new.items) }

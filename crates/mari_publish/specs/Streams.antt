@@ -119,13 +119,13 @@ ReadStops rest calls page shelf NoMemory = ⊤
 
 -- ---- which calls the shelf gets
 
--- calls for pieces of the page that is open, of which each but the last gave a byte or more
+-- so many calls that they may be for pieces of a page, of which each but the last gave a byte or more
 pub record AsksForPieces (before now given : ℕ) : Type 0 where
   pub pieces : ℕ
   pub few : pieces ≤ given + 1
   pub asked : now ≡ counted_by pieces before
 
--- one call opens the page, and where it is open each further call is for a piece of it
+-- one call, and where it opened a page so many more that they may be for pieces of it
 pub record AsksForPage (unopened : Type 0) (before now given : ℕ) : Type 0 where
   pub pieces : ℕ
   pub few : pieces ≤ given + 1

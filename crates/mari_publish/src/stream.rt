@@ -3,7 +3,7 @@
 //! What takes parts is an `impl` of `PartsSoFar`; `read_parts` reads a page for any of them.
 
 ghost use Rattle.std.specs.Prelude.{◌≡◌, ◌++◌, ◌∷◌, [], ℕ, List, Result as Res, Some, true, IfErr, IsErrAnd, OnOk};
-ghost use Rattle.mari_io.specs.Outside.{Counts, Pages, page_of};
+ghost use Rattle.mari_io.specs.Outside.{Counts, Pages, counted, page_of};
 ghost use Rattle.mari_io.specs.declared.shelf.Fetch.TheVariants as fetch;
 ghost use Rattle.mari_publish.specs.Pieces.{ComesFrom, HasPart};
 ghost use Rattle.mari_publish.specs.declared.publication.Part.{Part as ThePart};
@@ -133,6 +133,7 @@ fn read_pieces<W, S: Shelf, P: PartsSoFar<W>>(
         → PiecesReport (P.Took so_far.old with.old so_far.new with.new) (P.Breaks so_far.old with.old so_far.new with.new) page reader.new result }
     ensures stops { (page : List ℕ) → S.rest shelf.old ≡ Some page → IfErr result (ReadStops S.rest S.fetches page shelf.new) }
     ensures fetched { AsksForPieces (S.fetches shelf.old) (S.fetches shelf.new) (S.given shelf.new) }
+    ensures named { S.named shelf.new ≡ S.named shelf.old }
 
     // Why it wasn't read to its end. Out of memory is reported as such.
     ensures opened { IsUnopened result → ⊥ }
@@ -185,8 +186,9 @@ pub fn read_parts<W, S: Shelf, P: PartsSoFar<W>>(
     ensures stops { (reported : Pages) (page : List ℕ) → S.pages shelf.old ≡ Some reported → page_of reported name.now ≡ Some page
         → IfErr result (ReadStops S.rest S.fetches page shelf.new) }
 
-    // The shelf is asked for that page, and for nothing else.
+    // The shelf is asked for nothing else: one call names a page, and each further one is for a piece of it.
     ensures fetched { AsksForPage (IsUnopened result) (S.fetches shelf.old) (S.fetches shelf.new) (S.given shelf.new) }
+    ensures named { S.named shelf.new ≡ counted (S.named shelf.old) }
 
     // Why it wasn't read to its end. Out of memory is reported as such.
     ensures memory { IsWrapped result → ⊥ }

@@ -178,6 +178,7 @@ pieces-preserved g c =
       pieces = i.pieces + 1;
       few = omega (arith, i.few, c.in-Ok.ensures.given, c.if-count-eq0.false);
       asked = one-more i.pieces _ _ _ i.asked c.in-Ok.ensures.fetched;
+      named = c.in-Ok.ensures.named ∙ i.named;
       faults = omega (arith, i.faults, c.in-Ok.ensures.failed.later);
       misses = omega (arith, i.misses, c.in-Ok.ensures.missing.later);
       overs = omega (arith, i.overs, c.in-Ok.ensures.too_long.later);

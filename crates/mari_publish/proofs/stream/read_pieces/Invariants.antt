@@ -17,6 +17,7 @@ invariant-pieces g l =
       pieces : ℕ;
       few : pieces ≤ shelf.given l.shelf;
       asked : shelf.fetches l.shelf ≡ counted_by pieces (shelf.fetches l.fn.shelf);
+      named : shelf.named l.shelf ≡ shelf.named l.fn.shelf;
       faults : shelf.faults l.fn.shelf ≤ shelf.faults l.shelf;
       misses : shelf.misses l.fn.shelf ≤ shelf.misses l.shelf;
       overs : shelf.overs l.fn.shelf ≤ shelf.overs l.shelf;

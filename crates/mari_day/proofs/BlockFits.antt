@@ -17,7 +17,7 @@ use Rattle.mari_market.specs.declared.clearing.Clearing.{Clearing}
 use Rattle.mari_market.specs.Price.{IsCapped}
 use Rattle.mari_units.specs.Numbers.{Within}
 use Rattle.mari_lines.specs.Ranges.{Between, InRange, IsAmountLine, IsMoney, IsMoneyLine, Listed}
-use Rattle.mari_publish.specs.Ranges.{FullFits, MarketFits}
+use Rattle.mari_publish.specs.Ranges.{EndingFits, FullFits, MarketFits}
 use Rattle.mari_lines.specs.declared.line.Line.TheVariants as line
 use Rattle.mari_lines.specs.declared.line.BidLine.{BidLine}
 use Rattle.mari_lines.specs.declared.line.BorderLine.{BorderLine}
@@ -127,6 +127,9 @@ module _ (books : Books) (ok : IsAccepted books) (dated : IsDated books) (budget
 
   pub market-fits : length b.demands ≡ made.demands → MarketFits b
   market-fits many = record { borders = borders-fit; demands = demands-fit many }
+
+  pub ending-fits : EndingFits b
+  ending-fits = record { operators = operators-fit; providers = providers-fit }
 
   pub block-fits : 1 ≤ run → run ≤ length books.runs.runs → clearing.welfare < 2 ^ 63 → budget ≤ 50000 → IsClearing made.market budget clearing
       → length b.demands ≡ made.demands → FullFits b

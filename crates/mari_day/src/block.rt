@@ -4,9 +4,9 @@ ghost use Rattle.std.specs.Prelude.{◌≡◌, ◌≤◌, ◌<◌, [], ℕ, IfOk
 ghost use Rattle.std.specs.List.{All};
 ghost use Rattle.mari_units.specs.Names.{IsName};
 ghost use Rattle.mari_market.specs.Clearing.{IsClearing};
-ghost use Rattle.mari_market.specs.Optimal.{IsAdmissible, IsOptimal};
+ghost use Rattle.mari_market.specs.Optimal.{IsAdmissible};
 ghost use Rattle.mari_market.specs.Price.{ArePrices};
-ghost use Rattle.mari_publish.specs.Ranges.{FullFits, MarketFits};
+ghost use Rattle.mari_publish.specs.Ranges.{EndingFits, FullFits, MarketFits};
 ghost use Rattle.mari_remain.specs.Accepted.{IsAccepted};
 ghost use Rattle.mari_progress.specs.Money.{amount_line, providers_among};
 ghost use Rattle.mari_progress.specs.Runs.{IsMarketOf, IsRunOf};
@@ -184,13 +184,14 @@ pub fn published_run(
     requires dated { IsDated books.now }
     requires run { (1 ≤ run) × (run ≤ length books.now.runs.runs) }
 
-    // Its market and an optimum of it, with the scheduled prices if there are any.
+    // Its market and an admissible activation of it, with the scheduled prices if there are any.
     requires made { IsMarketOf books.now made }
-    requires optimal { IsOptimal made.market clearing.activation }
+    requires admissible { IsAdmissible made.market clearing.activation }
     requires also { IfSome also (λ scheduled. ArePrices made.market scheduled.now.cents) }
 
     // What the block says of the clearing, of which nothing but the activation is asked.
     ensures market_fits { IfOk result (λ p. MarketFits p.block) }
+    ensures ending_fits { IfOk result (λ p. EndingFits p.block) }
     ensures reported { IfOk result (λ p. IsReportedOf books.now run made (option_map (λ scheduled. scheduled.now.cents) also.entry) clearing p.block) }
 
     // The block, by whatever budget the market was cleared.

@@ -36,6 +36,11 @@ pub record MarketFits (b : FullBlock) : Type 0 where
   pub borders : Listed 0 MOST_BORDERS (λ x. InRange (line.Border x)) b.borders
   pub demands : Listed 0 MOST_DEMANDS (λ mw. mw ≤ MOST_MW) b.demands
 
+-- and of its last lines: its operators and its providers
+pub record EndingFits (b : FullBlock) : Type 0 where
+  pub operators : Listed 1 MOST_ZONES IsMoneyLine b.operators
+  pub providers : Listed 0 MOST_BIDS IsAmountLine b.providers
+
 abbrev pub BlockFits : Block → Type 0
 BlockFits (block.Published b) = FullFits b
 BlockFits (block.Unpublished heading count) = InRange (line.Unpublished heading count)

@@ -1,9 +1,9 @@
 -- The texts of a publication and of its parts: those of their lines.
-use Rattle.std.specs.Prelude.{ℕ, List, [], ◌∷◌}
+use Rattle.std.specs.Prelude.{ℕ, List, [], ◌∷◌, ◌++◌}
 use Rattle.std.specs.List.{flat_map}
 use Rattle.mari_lines.specs.declared.line.Line.{Line}
 use Rattle.mari_lines.specs.declared.line.Line.TheVariants as line
-use Rattle.mari_lines.specs.Spelling.{line_text}
+use Rattle.mari_lines.specs.Spelling.{line_text, spaced}
 use Rattle.mari_publish.specs.declared.publication.Block.{Block}
 use Rattle.mari_publish.specs.declared.publication.Publication.{Publication}
 use Rattle.mari_publish.specs.Lines.{block_lines, closing_lines, lines_of}
@@ -11,6 +11,10 @@ use Rattle.mari_publish.specs.Lines.{block_lines, closing_lines, lines_of}
 -- the texts of lines, one after the other
 abbrev pub text_of_lines : List Line → List ℕ
 text_of_lines lines = flat_map line_text lines
+
+-- a line of a first word and fields, in forms of text that are no publication of the first form
+abbrev pub words_line : (keyword : List ℕ) → (fields : List (List ℕ)) → List ℕ
+words_line keyword fields = keyword ++ spaced fields ++ 10 ∷ []
 
 -- the text of the first line
 abbrev pub head_text_of : List ℕ → ℕ → ℕ → List ℕ

@@ -24,6 +24,6 @@ pub use reader::TextReader;
 pub use reading::read_text;
 pub use stream::{PartsSoFar, ReadStop, read_parts};
 pub use write::{
-    block_text, closing_text, head_text, put_market, put_market_lines, put_opening, put_tree_lines,
-    total_text, write_text,
+    block_text, closing_text, head_text, put_ending, put_market, put_market_lines, put_opening,
+    put_tree_lines, total_text, write_text,
 };

@@ -8,7 +8,7 @@ ghost use Rattle.std.specs.Prelude.{◌≡◌, ◌++◌, ◌+◌, ◌≤◌, ◌
 ghost use Rattle.std.specs.List.{All, flat_map};
 ghost use Rattle.mari_publish.specs.Lines.{demand_lines, opening_lines, market_lines, market_lines_by, ending_lines, full_lines, block_lines, closing_lines_by, published_in as published_of, unpublished_in as unpublished_of};
 ghost use Rattle.mari_lines.specs.Ranges.{InRange, IsMoney, IsMoneyLine, IsAmountLine};
-ghost use Rattle.mari_publish.specs.Ranges.{BlockFits, FullFits, HasText, MarketFits, TotalsFit};
+ghost use Rattle.mari_publish.specs.Ranges.{BlockFits, EndingFits, FullFits, HasText, MarketFits, TotalsFit};
 ghost use Rattle.mari_publish.specs.Texts.{text_of_lines, head_text_of, block_text_of, total_text_of, text_of};
 ghost use Rattle.mari_lines.specs.declared.line.Line.TheVariants as line;
 
@@ -161,8 +161,8 @@ pub fn put_opening(alloc: Global, out: &mut Vec<u8>, block: &FullBlock) -> Resul
 }
 
 /// Appends a block's lines after its tree.
-fn put_ending(alloc: Global, out: &mut Vec<u8>, block: &FullBlock) -> Result<(), Memory>
-    requires { FullFits block.now }
+pub fn put_ending(alloc: Global, out: &mut Vec<u8>, block: &FullBlock) -> Result<(), Memory>
+    requires { EndingFits block.now }
     ensures { OnOk result (out.new.items ≡ out.old.items ++ text_of_lines (ending_lines block.now)) }
 {
     put_operators(alloc, out, block.operators.as_slice())?;

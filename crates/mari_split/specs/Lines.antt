@@ -9,17 +9,13 @@ use Rattle.mari_lines.specs.Spelling.{heading_fields, published_text, spaced}
 use Rattle.mari_lines.specs.declared.line.Heading.{Heading}
 use Rattle.mari_lines.specs.declared.line.Line.TheVariants as line
 use Rattle.mari_publish.specs.Lines.{market_lines, opening_lines, published_in, tree_lines, unpublished_in}
-use Rattle.mari_publish.specs.Texts.{text_of_lines}
+use Rattle.mari_publish.specs.Texts.{text_of_lines, words_line}
 use Rattle.mari_remain.specs.declared.books.Books.{Books}
 use Rattle.mari_islands.specs.declared.islands.Island.{Island}
 use Rattle.mari_split.specs.declared.split.SplitBlock.{SplitBlock}
 use Rattle.mari_split.specs.declared.split.SplitBlock.TheVariants as split
 use Rattle.mari_split.specs.declared.split.SplitRun.{SplitRun}
 use Rattle.mari_split.specs.Split.{blocks_of}
-
--- a line of a first word and fields
-abbrev pub words_line : (keyword : List ℕ) → (fields : List (List ℕ)) → List ℕ
-words_line keyword fields = keyword ++ spaced fields ++ 10 ∷ []
 
 -- the first line: the form, the date, the quarters and the budget
 abbrev pub split_head : (date : List ℕ) → (quarters budget : ℕ) → List ℕ

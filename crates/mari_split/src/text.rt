@@ -7,8 +7,8 @@ ghost use Rattle.mari_market.specs.declared.clearing.Clearing.{Clearing as Clear
 ghost use Rattle.mari_rows.specs.Names.{name_at};
 ghost use Rattle.mari_lines.specs.Spelling.{published_text, spaced};
 ghost use Rattle.mari_lines.specs.declared.line.Line.TheVariants as line;
-ghost use Rattle.mari_publish.specs.Texts.{text_of_lines};
-ghost use Rattle.mari_split.specs.Lines.{island_text, islands_text, split_block_text, split_head, split_run_text, unpublished_text, words_line};
+ghost use Rattle.mari_publish.specs.Texts.{text_of_lines, words_line};
+ghost use Rattle.mari_split.specs.Lines.{island_text, islands_text, split_block_text, split_head, split_run_text, unpublished_text};
 ghost use Rattle.mari_split.specs.Steps.{RunFits, SplitFits};
 
 use crate::split::{SplitBlock, SplitRun};

@@ -6,7 +6,7 @@ use Rattle.mari_market.specs.declared.clearing.Clearing.{Clearing}
 use Rattle.mari_market.specs.declared.market.Market.{Market}
 use Rattle.mari_market.proofs.Sizes.{as_many, welfare_at_most}
 use Rattle.mari_day.proofs.Assembles.{published, run-of, reported}
-use Rattle.mari_day.proofs.BlockFits.{block-fits, market-fits}
+use Rattle.mari_day.proofs.BlockFits.{block-fits, ending-fits, market-fits}
 use Rattle.mari_day.proofs.Shapes.{shapes}
 use Rattle.mari_day.proofs.block.published_run.Goals as goal
 
@@ -19,31 +19,36 @@ assemble-requires-clause-there c = rw c.as_slice.ensures c.requires.made.there
 
 pub assemble-requires-clause-shapes : goal.assemble-requires-clause-shapes
 assemble-requires-clause-shapes c =
-    rw c.as_slice.ensures (shapes c.args.books.now c.args.made c.requires.made _ c.args.clearing c.in-Ok.priced c.in-Ok.ensures c.requires.optimal.admissible.feasible)
+    rw c.as_slice.ensures (shapes c.args.books.now c.args.made c.requires.made _ c.args.clearing c.in-Ok.priced c.in-Ok.ensures c.requires.admissible.feasible)
 
 pub returns-clause-market_fits : goal.returns-clause-market_fits
 returns-clause-market_fits c =
-    let feasible = c.requires.optimal.admissible.feasible in
+    let feasible = c.requires.admissible.feasible in
     let is = rw c.as_slice.ensures at c.in-Ok-assemble.ensures.block in
     let long = as_many c.args.made.market c.args.clearing.activation feasible ∙ c.requires.made.orders in
     let whole = reported c.args.books.now 0 c.args.run c.args.made _ c.args.clearing c.in-Ok.priced c.in-Ok-assemble.done.block is c.in-Ok.ensures long in
     market-fits c.args.books.now c.requires.accepted c.requires.dated 0 c.args.run c.args.made _ c.requires.made c.args.clearing c.in-Ok.priced c.in-Ok-assemble.done.block is
     (shapes c.args.books.now c.args.made c.requires.made _ c.args.clearing c.in-Ok.priced c.in-Ok.ensures feasible) c.in-Ok.ensures feasible whole.names.demands
 
+pub returns-clause-ending_fits : goal.returns-clause-ending_fits
+returns-clause-ending_fits c =
+    ending-fits c.args.books.now c.requires.accepted c.requires.dated 0 c.args.run c.args.made _ c.requires.made c.args.clearing c.in-Ok.priced c.in-Ok-assemble.done.block (rw c.as_slice.ensures at c.in-Ok-assemble.ensures.block)
+    (shapes c.args.books.now c.args.made c.requires.made _ c.args.clearing c.in-Ok.priced c.in-Ok.ensures c.requires.admissible.feasible) c.in-Ok.ensures c.requires.admissible.feasible
+
 pub returns-clause-reported : goal.returns-clause-reported
 returns-clause-reported c =
     reported c.args.books.now 0 c.args.run c.args.made _ c.args.clearing c.in-Ok.priced c.in-Ok-assemble.done.block (rw c.as_slice.ensures at c.in-Ok-assemble.ensures.block) c.in-Ok.ensures
-    (as_many c.args.made.market c.args.clearing.activation c.requires.optimal.admissible.feasible ∙ c.requires.made.orders)
+    (as_many c.args.made.market c.args.clearing.activation c.requires.admissible.feasible ∙ c.requires.made.orders)
 
 pub returns-clause-published : goal.returns-clause-published
 returns-clause-published c = λ budget clears.
     published c.args.books.now budget c.args.run c.args.made _ c.args.clearing c.in-Ok.priced c.in-Ok-assemble.done.block
     (rw c.as_slice.ensures at c.in-Ok-assemble.ensures.block) clears c.in-Ok.ensures
-    (as_many c.args.made.market c.args.clearing.activation c.requires.optimal.admissible.feasible ∙ c.requires.made.orders)
+    (as_many c.args.made.market c.args.clearing.activation c.requires.admissible.feasible ∙ c.requires.made.orders)
 
 pub returns-clause-fits : goal.returns-clause-fits
 returns-clause-fits c = λ budget small clears.
-    let feasible = c.requires.optimal.admissible.feasible in
+    let feasible = c.requires.admissible.feasible in
     let is = rw c.as_slice.ensures at c.in-Ok-assemble.ensures.block in
     let long = as_many c.args.made.market c.args.clearing.activation feasible ∙ c.requires.made.orders in
     let whole = published c.args.books.now budget c.args.run c.args.made _ c.args.clearing c.in-Ok.priced c.in-Ok-assemble.done.block is clears c.in-Ok.ensures long in
@@ -53,6 +58,6 @@ returns-clause-fits c = λ budget small clears.
 
 pub returns-clause-settled : goal.returns-clause-settled
 returns-clause-settled c =
-    let feasible = c.requires.optimal.admissible.feasible in
+    let feasible = c.requires.admissible.feasible in
     run-of c.args.books.now 0 c.args.run c.args.made _ c.args.clearing c.in-Ok.priced c.in-Ok-assemble.done.block (rw c.as_slice.ensures at c.in-Ok-assemble.ensures.block) _ c.in-Ok.ensures
     (shapes c.args.books.now c.args.made c.requires.made _ c.args.clearing c.in-Ok.priced c.in-Ok.ensures feasible) refl c.in-Ok-assemble.ensures.activation refl refl

@@ -121,8 +121,8 @@ pub fn check_stream<S: Shelf>(
     // After a fault of a line nothing more is read.
     ensures stops { (reported : Pages) (page : List ℕ) → S.pages shelf.old ≡ Some reported → page_of reported name.now ≡ Some page → IfErr result (FaultStops S.rest S.fetches page shelf.new) }
 
-    // The shelf is asked for nothing else: one call names a page, and each further one is for a piece of it. Where there is
-    // no memory for the check, it isn't asked.
+    // The shelf is asked for no other page: one call names a page, and each further one is for a piece, at most one for
+    // each byte that was given, and one. Where there is no memory for the check, it isn't asked.
     ensures fetched { (S.fetches shelf.new ≡ S.fetches shelf.old) ⊎ AsksForPage (IsStreamFetch fetch.Missing result) (S.fetches shelf.old) (S.fetches shelf.new) (S.given shelf.new) }
     ensures named { S.named shelf.new ≤ counted (S.named shelf.old) }
 

@@ -25,8 +25,8 @@ abbrev pub left_of : List Page → Option ℕ → ℕ → List ℕ
 left_of pages None given = []
 left_of pages (Some place) given = drop given (bytes_of pages place)
 
--- a shelf in memory: its pages, its plan, how many calls were made and how many of them named a page, and its counts; the most bytes of a piece, whether
--- a page was opened, what is left of it, and how many bytes of it were given
+-- a shelf in memory: its pages, its plan, how many calls were made and how many of them named a page, and its counts;
+-- the most bytes of a piece, whether a page was opened, what is left of it, and how many bytes of it were given
 pub record ShelfState : Type 0 where
   pub pages : Pages
   pub plan : FaultPlan

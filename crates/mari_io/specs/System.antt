@@ -16,8 +16,8 @@ abbrev pub fault_of_reading : ErrorKind → Fetch
 fault_of_reading ErrorKind.OutOfMemory = Memory
 fault_of_reading _ = Failed
 
--- what a shelf of real files counted: its calls, those that named a page, and those that failed, found no file, or found one that is too long;
--- whether a file was opened to be given in pieces, and how many bytes of it were given
+-- what a shelf of real files counted: its calls, those that named a page, and those that failed, found no file, or found
+-- one that is too long; whether a file was opened to be given in pieces, and how many bytes of it were given
 -- It counts as a shelf in memory does, whose record (`ShelfState`) has its pages and plan beside the counts.
 pub record DiskCounts : Type 0 where
   pub calls : ℕ

@@ -58,11 +58,20 @@ returns-in-Ok-Feed-clause-words g c = c.in-Ok-Feed.ensures ∙ ap (λ (x : Comma
 pub returns-in-Ok-Clear-clause-untouched : goal.returns-in-Ok-Clear-clause-untouched
 returns-in-Ok-Clear-clause-untouched g c = λ none. absurd (none (reads-files _ _ _ _ c.in-Ok-Clear.ensures c.in-Ok-Clear.field-0-is refl))
 
+pub returns-in-Ok-Clear-clause-unnamed : goal.returns-in-Ok-Clear-clause-unnamed
+returns-in-Ok-Clear-clause-unnamed g c = λ none. absurd (none (reads-files _ _ _ _ c.in-Ok-Clear.ensures c.in-Ok-Clear.field-0-is refl))
+
 pub returns-in-Ok-Check-clause-untouched : goal.returns-in-Ok-Check-clause-untouched
 returns-in-Ok-Check-clause-untouched g c = λ none. absurd (none (reads-files _ _ _ _ c.in-Ok-Check.ensures c.in-Ok-Check.field-0-is refl))
 
+pub returns-in-Ok-Check-clause-unnamed : goal.returns-in-Ok-Check-clause-unnamed
+returns-in-Ok-Check-clause-unnamed g c = λ none. absurd (none (reads-files _ _ _ _ c.in-Ok-Check.ensures c.in-Ok-Check.field-0-is refl))
+
 pub returns-in-Ok-Migrate-clause-untouched : goal.returns-in-Ok-Migrate-clause-untouched
 returns-in-Ok-Migrate-clause-untouched g c = λ none. absurd (none (reads-files _ _ _ _ c.in-Ok-Migrate.ensures c.in-Ok-Migrate.field-0-is refl))
+
+pub returns-in-Ok-Migrate-clause-unnamed : goal.returns-in-Ok-Migrate-clause-unnamed
+returns-in-Ok-Migrate-clause-unnamed g c = λ none. absurd (none (reads-files _ _ _ _ c.in-Ok-Migrate.ensures c.in-Ok-Migrate.field-0-is refl))
 
 pub to_clear-requires-in-Ok-Split-clause-nodes : goal.to_clear-requires-in-Ok-Split-clause-nodes
 to_clear-requires-in-Ok-Split-clause-nodes g c =
@@ -80,6 +89,9 @@ returns-in-Ok-Split-clause-words g c = rw (c.in-Ok-Split.ensures, c.in-Ok-Split.
 
 pub returns-in-Ok-Split-clause-untouched : goal.returns-in-Ok-Split-clause-untouched
 returns-in-Ok-Split-clause-untouched g c = λ none. absurd (none (reads-files _ _ _ _ c.in-Ok-Split.ensures c.in-Ok-Split.field-0-is refl))
+
+pub returns-in-Ok-Split-clause-unnamed : goal.returns-in-Ok-Split-clause-unnamed
+returns-in-Ok-Split-clause-unnamed g c = λ none. absurd (none (reads-files _ _ _ _ c.in-Ok-Split.ensures c.in-Ok-Split.field-0-is refl))
 
 pub generated-requires-after_bounds : goal.generated-requires-after_bounds
 generated-requires-after_bounds g c κs met =
@@ -100,6 +112,9 @@ returns-in-Ok-Value-clause-words g c = rw (c.in-Ok-Value.ensures, c.in-Ok-Value.
 
 pub returns-in-Ok-Value-clause-untouched : goal.returns-in-Ok-Value-clause-untouched
 returns-in-Ok-Value-clause-untouched g c = λ none. absurd (none (reads-files _ _ _ _ c.in-Ok-Value.ensures c.in-Ok-Value.field-0-is refl))
+
+pub returns-in-Ok-Value-clause-unnamed : goal.returns-in-Ok-Value-clause-unnamed
+returns-in-Ok-Value-clause-unnamed g c = λ none. absurd (none (reads-files _ _ _ _ c.in-Ok-Value.ensures c.in-Ok-Value.field-0-is refl))
 
 -- the quarters of the words
 abbrev quarters_of : (folder : String Global) (first last nodes workers : ℕ) → JointJob

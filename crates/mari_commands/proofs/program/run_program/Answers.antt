@@ -114,3 +114,8 @@ pub returns-clause-alone : goal.returns-clause-alone
 returns-clause-alone g c = λ feed.
     let none = c.outcome_of-outcome.ensures.untouched (λ files. files-no-feed _ files feed) in
     rw (sym none) (c.finish.ensures.alone (feed-no-quarters _ c.outcome_of-outcome.result feed c.outcome_of-outcome.ensures.words))
+
+pub returns-clause-named : goal.returns-clause-named
+returns-clause-named g c = λ feed.
+    let none = c.outcome_of-outcome.ensures.unnamed (λ files. files-no-feed _ files feed) in
+    rw (sym none) (c.finish.ensures.named (feed-no-quarters _ c.outcome_of-outcome.result feed c.outcome_of-outcome.ensures.words))

@@ -1,7 +1,7 @@
 -- The program's exit codes.
 use Rattle.std.specs.Prelude.{ℕ}
-use Rattle.mari_commands.specs.declared.status.Status.{Status}
-use Rattle.mari_commands.specs.declared.status.Status.TheVariants.{Done, Unpublished, Usage, Refused, ReadFault, WriteFault, Memory, Invalid, Missing, TooLong}
+use Rattle.mari_answers.specs.declared.status.Status.{Status}
+use Rattle.mari_answers.specs.declared.status.Status.TheVariants.{Done, Unpublished, Usage, Refused, ReadFault, WriteFault, Memory, Invalid, Missing, TooLong}
 
 abbrev pub code_of : Status → ℕ
 code_of Done = 0

@@ -1,6 +1,6 @@
 //! The checks of the program's own: of a publication's text, and of a folder that is migrated.
 
-ghost use Rattle.mari_commands.specs.Checks.{migration_check_name, migration_check_number, text_check_name, text_check_number};
+ghost use Rattle.mari_answers.specs.Checks.{migration_check_name, migration_check_number, text_check_name, text_check_number};
 
 use mari_rows::FileCheck;
 

@@ -1,7 +1,7 @@
 //! The names of the checks by which a file may be refused, which are those of its readers.
 
 ghost use Rattle.std.specs.Prelude.{◌≡◌, ◌≢◌, [], Some, option_map};
-ghost use Rattle.mari_commands.specs.Refusals.{border_name as border_named, check_name as check_named, name_among as named_among, name_or_joint as named_or_joint, own_name as own_named, HasName};
+ghost use Rattle.mari_answers.specs.Refusals.{border_name as border_named, check_name as check_named, name_among as named_among, name_or_joint as named_or_joint, own_name as own_named, HasName};
 
 use crate::checks::{MigrationCheck, TextCheck};
 use mari_bids::BidCheck;

@@ -1,5 +1,5 @@
 -- The names of the checks by which a file may be refused.
-use Rattle.std.specs.Prelude.{ℕ, ◌==◌, ◌≢◌, List, [], ◌∷◌, Option, Some, None, IsSomeAnd, if◌then◌else◌, option_map}
+use Rattle.std.specs.Prelude.{ℕ, ◌==◌, ◌≢◌, List, [], ◌∷◌, Option, Some, None, IsSomeAnd, option_map}
 use Rattle.std.specs.List.{find}
 use Rattle.std.specs.Option.{option_or}
 use Rattle.mari_units.specs.declared.faults.Refusal.{Refusal}
@@ -40,11 +40,11 @@ use Rattle.mari_blocks.specs.declared.blocks.BlockCheck.{BlockCheck}
 use Rattle.mari_blocks.specs.declared.blocks.BlockCheck.TheVariants as block
 use Rattle.mari_blocks.specs.declared.checks.JointCheck.{JointCheck}
 use Rattle.mari_blocks.specs.declared.checks.JointCheck.TheVariants as joint
-use Rattle.mari_commands.specs.Checks.{migration_check_name, migration_check_number, text_check_name, text_check_number}
-use Rattle.mari_commands.specs.declared.checks.MigrationCheck.{MigrationCheck}
-use Rattle.mari_commands.specs.declared.checks.MigrationCheck.TheVariants as migration
-use Rattle.mari_commands.specs.declared.checks.TextCheck.{TextCheck}
-use Rattle.mari_commands.specs.declared.checks.TextCheck.TheVariants as text
+use Rattle.mari_answers.specs.Checks.{migration_check_name, migration_check_number, text_check_name, text_check_number}
+use Rattle.mari_answers.specs.declared.checks.MigrationCheck.{MigrationCheck}
+use Rattle.mari_answers.specs.declared.checks.MigrationCheck.TheVariants as migration
+use Rattle.mari_answers.specs.declared.checks.TextCheck.{TextCheck}
+use Rattle.mari_answers.specs.declared.checks.TextCheck.TheVariants as text
 
 -- the name of the check of this number, where one of these has it
 abbrev pub name_among : {C : Type 0} → (number : C → ℕ) (name : C → List ℕ) → List C → ℕ → Option (List ℕ)

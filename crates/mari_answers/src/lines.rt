@@ -1,10 +1,10 @@
-//! The lines that the program prints where it prints no day.
+//! The lines of a status.
 
 ghost use Rattle.std.specs.Prelude.{◌≡◌, ◌≢◌, IfOk};
 ghost use Rattle.mari_day.specs.Files.{IsNamed};
-ghost use Rattle.mari_commands.specs.Printing.{usage_line as usage_text, file_line as file_text, invalid_line as invalid_text, pair_line as pair_text, refused_line as refused_text};
-ghost use Rattle.mari_commands.specs.Outcome.{IsPageLine};
-ghost use Rattle.mari_commands.specs.Refusals.{HasName};
+ghost use Rattle.mari_answers.specs.Lines.{file_line as file_text, invalid_line as invalid_text, pair_line as pair_text, refused_line as refused_text};
+ghost use Rattle.mari_answers.specs.Reports.{IsPageLine};
+ghost use Rattle.mari_answers.specs.Refusals.{HasName};
 
 use crate::refusals::check_name;
 use crate::status::Status;
@@ -12,14 +12,6 @@ use mari_day::file_name;
 use mari_io::Fetch;
 use mari_units::{Memory, Refusal, put, put_number};
 use std::alloc::Global;
-
-/// The line that says how the program is called.
-#[tactic(auto, unfolding(crate::specs::Printing::usage_line))]
-pub fn usage_line() -> &'static [u8]
-    ensures { result.now ≡ usage_text }
-{
-    b"usage: mari clear FOLDER [--nodes N] [--workers K] | mari check FOLDER | mari generate NUMBER | mari migrate FOLDER borders | mari migrate FOLDER limits | mari feed FOLDER | mari split FOLDER [--nodes N] [--workers K] | mari blocks FOLDER FIRST LAST [--nodes N] [--workers K] | mari value FOLDER K\n"
-}
 
 /// The line of a word and a file, by its number from 1.
 fn file_line(alloc: Global, word: &[u8], file: u8) -> Result<Vec<u8>, Memory>

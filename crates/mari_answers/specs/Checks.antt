@@ -1,9 +1,9 @@
 -- The checks of the program's own: of a publication's text, and of a folder that is migrated.
 use Rattle.std.specs.Prelude.{ℕ, List, codes}
-use Rattle.mari_commands.specs.declared.checks.MigrationCheck.{MigrationCheck}
-use Rattle.mari_commands.specs.declared.checks.MigrationCheck.TheVariants.{AlreadyTwo}
-use Rattle.mari_commands.specs.declared.checks.TextCheck.{TextCheck}
-use Rattle.mari_commands.specs.declared.checks.TextCheck.TheVariants.{BadLine, BadOrder, Truncated}
+use Rattle.mari_answers.specs.declared.checks.MigrationCheck.{MigrationCheck}
+use Rattle.mari_answers.specs.declared.checks.MigrationCheck.TheVariants.{AlreadyTwo}
+use Rattle.mari_answers.specs.declared.checks.TextCheck.{TextCheck}
+use Rattle.mari_answers.specs.declared.checks.TextCheck.TheVariants.{BadLine, BadOrder, Truncated}
 
 -- their numbers
 abbrev pub text_check_number : TextCheck → ℕ

@@ -2,7 +2,7 @@
 
 ghost use Rattle.std.specs.Prelude.{◌≡◌};
 ghost use Rattle.std.specs.Process.{exit_status};
-ghost use Rattle.mari_commands.specs.Status.{code_of};
+ghost use Rattle.mari_answers.specs.Status.{code_of};
 
 use mari_units::Refusal;
 use std::process::ExitCode;

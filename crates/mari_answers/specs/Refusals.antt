@@ -1,5 +1,5 @@
 -- The names of the checks by which a file may be refused.
-use Rattle.std.specs.Prelude.{ℕ, ◌==◌, ◌≢◌, List, [], ◌∷◌, Option, Some, None, IsSomeAnd, option_map}
+use Rattle.std.specs.Prelude.{ℕ, ◌==◌, ◌≢◌, List, [], ◌∷◌, Option, Some, None, IsSomeAnd, option_map, if◌then◌else◌}
 use Rattle.std.specs.List.{find}
 use Rattle.std.specs.Option.{option_or}
 use Rattle.mari_units.specs.declared.faults.Refusal.{Refusal}

@@ -119,13 +119,13 @@ ReadStops rest calls page shelf NoMemory = ⊤
 
 -- ---- which calls the shelf gets
 
--- so many calls that they may be for pieces of a page, of which each but the last gave a byte or more
+-- so many calls that they may all be for pieces of a page: at most one for each byte that was given, and one
 pub record AsksForPieces (before now given : ℕ) : Type 0 where
   pub pieces : ℕ
   pub few : pieces ≤ given + 1
   pub asked : now ≡ counted_by pieces before
 
--- one call, and where it opened a page so many more that they may be for pieces of it
+-- one call, and then so many that they may all be for pieces of a page; none where no page was opened
 pub record AsksForPage (unopened : Type 0) (before now given : ℕ) : Type 0 where
   pub pieces : ℕ
   pub few : pieces ≤ given + 1

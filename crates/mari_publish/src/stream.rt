@@ -164,8 +164,8 @@ fn read_pieces<W, S: Shelf, P: PartsSoFar<W>>(
     }
 }
 
-/// Reads the publication whose text is the page of that name, in pieces, and has each part taken as soon as it is there.
-/// A fault of the text is reported after all parts that are whole before it were taken.
+/// Reads the publication whose text is the page of that name, in pieces, and has its parts taken. Where pages are reported,
+/// a fault of the text is reported after all parts that are whole before it were taken.
 pub fn read_parts<W, S: Shelf, P: PartsSoFar<W>>(
     alloc: Global,
     shelf: &mut S,
@@ -186,7 +186,8 @@ pub fn read_parts<W, S: Shelf, P: PartsSoFar<W>>(
     ensures stops { (reported : Pages) (page : List ℕ) → S.pages shelf.old ≡ Some reported → page_of reported name.now ≡ Some page
         → IfErr result (ReadStops S.rest S.fetches page shelf.new) }
 
-    // The shelf is asked for nothing else: one call names a page, and each further one is for a piece of it.
+    // The shelf is asked for no other page: one call names a page, and each further one is for a piece, at most one for
+    // each byte that was given, and one.
     ensures fetched { AsksForPage (IsUnopened result) (S.fetches shelf.old) (S.fetches shelf.new) (S.given shelf.new) }
     ensures named { S.named shelf.new ≡ counted (S.named shelf.old) }
 

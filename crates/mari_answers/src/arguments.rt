@@ -1,8 +1,8 @@
-//! The words that the program was called with.
+//! The words that a program was called with.
 
 ghost use Rattle.std.specs.Prelude.{◌≡◌, drop};
 
-use mari_commands::Status;
+use crate::status::Status;
 use std::env;
 use std::io::ErrorKind;
 use std::rt::Env;

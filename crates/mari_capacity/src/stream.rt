@@ -1,7 +1,7 @@
 //! What limits are worth in a publication that is read in pieces.
 
-ghost use Rattle.std.specs.Prelude.{◌≡◌, ◌≤◌, ◌⊎◌, ◌++◌, ◌∷◌, [], ℕ, List, Some, Ok, IfErr, IfOk, IsSome, OnOk, length};
-ghost use Rattle.mari_io.specs.Outside.{Counts, Pages, counted, most_given, page_of};
+ghost use Rattle.std.specs.Prelude.{◌≡◌, ◌≤◌, ◌+◌, ◌⊎◌, ◌++◌, ◌∷◌, [], ℕ, List, Some, Ok, IfErr, IfOk, IsSome, OnOk, length};
+ghost use Rattle.mari_io.specs.Outside.{Counts, Pages, most_given, page_of};
 ghost use Rattle.mari_io.specs.declared.shelf.Fetch.{Fetch as TheFetch};
 ghost use Rattle.mari_io.specs.declared.shelf.Fetch.TheVariants as fetch;
 ghost use Rattle.mari_publish.specs.Streams.{AsksForPage};
@@ -262,10 +262,10 @@ pub fn value_stream<S: Shelf>(
     // It ends as the page does and in no other way, unless a call of the shelf failed.
     ensures exact { (reported : Pages) (end : TheEnd) → S.pages shelf.old ≡ Some reported → IsEndOf books.now (page_of reported name.now) end → IfOk result (EndsAs end) }
 
-    // The shelf is asked for nothing else: one call names a page, and each further one is for a piece of it. Where there is
-    // no memory for the first line, it isn't asked.
+    // The shelf is asked for no other page: one call names a page, and each further one is for a piece, at most one for
+    // each byte that was given, and one. Where there is no memory for the first line, it isn't asked.
     ensures fetched { (S.fetches shelf.new ≡ S.fetches shelf.old) ⊎ AsksForPage (IsPageFault fetch.Missing result) (S.fetches shelf.old) (S.fetches shelf.new) (S.given shelf.new) }
-    ensures named { S.named shelf.new ≤ counted (S.named shelf.old) }
+    ensures named { S.named shelf.new ≤ S.named shelf.old + 1 }
 
     // Why the page wasn't had. Out of memory is reported as such.
     ensures memory { IfOk result (λ v. IsWrapped v.end → ⊥) }

@@ -1,7 +1,7 @@
 //! The check of a publication that is read in pieces.
 
-ghost use Rattle.std.specs.Prelude.{◌≡◌, ◌≤◌, ◌⊎◌, ◌++◌, ◌∷◌, [], ℕ, List, Result as Res, Some, IfErr, IfOk};
-ghost use Rattle.mari_io.specs.Outside.{Counts, Pages, counted, page_of};
+ghost use Rattle.std.specs.Prelude.{◌≡◌, ◌≤◌, ◌+◌, ◌⊎◌, ◌++◌, ◌∷◌, [], ℕ, List, Result as Res, Some, IfErr, IfOk};
+ghost use Rattle.mari_io.specs.Outside.{Counts, Pages, page_of};
 ghost use Rattle.mari_io.specs.declared.shelf.Fetch.TheVariants as fetch;
 ghost use Rattle.mari_publish.specs.Faults.{IsOutcome};
 ghost use Rattle.mari_publish.specs.declared.fault.TextFault.{TextFault as TheTextFault};
@@ -121,10 +121,10 @@ pub fn check_stream<S: Shelf>(
     // After a fault of a line nothing more is read.
     ensures stops { (reported : Pages) (page : List ℕ) → S.pages shelf.old ≡ Some reported → page_of reported name.now ≡ Some page → IfErr result (FaultStops S.rest S.fetches page shelf.new) }
 
-    // The shelf is asked for nothing else: one call names a page, and each further one is for a piece of it. Where there is
-    // no memory for the check, it isn't asked.
+    // The shelf is asked for no other page: one call names a page, and each further one is for a piece, at most one for
+    // each byte that was given, and one. Where there is no memory for the check, it isn't asked.
     ensures fetched { (S.fetches shelf.new ≡ S.fetches shelf.old) ⊎ AsksForPage (IsStreamFetch fetch.Missing result) (S.fetches shelf.old) (S.fetches shelf.new) (S.given shelf.new) }
-    ensures named { S.named shelf.new ≤ counted (S.named shelf.old) }
+    ensures named { S.named shelf.new ≤ S.named shelf.old + 1 }
 
     // Why there is no verdict. Out of memory is reported as such.
     ensures memory { IsWrapped result → ⊥ }

@@ -1,7 +1,7 @@
 //! `feed FOLDER`: a folder's publication as JSON, a line for each of its parts.
 
-ghost use Rattle.std.specs.Prelude.{◌≡◌, ◌≤◌};
-ghost use Rattle.mari_io.specs.Outside.{Counts, Rose, counted};
+ghost use Rattle.std.specs.Prelude.{◌≡◌, ◌≤◌, ◌+◌};
+ghost use Rattle.mari_io.specs.Outside.{Counts, Rose};
 ghost use Rattle.mari_commands.specs.Outcome.{AsksForOne, ReportsParts, ReportsText};
 
 use crate::checking::text_refusal;
@@ -29,7 +29,7 @@ fn say_fault<K: Sink>(alloc: Global, sink: &mut K, fault: TextFault) -> Status
 pub fn fed<S: Shelf, K: Sink>(alloc: Global, shelf: &mut S, sink: &mut K, folder: &str) -> Status
     ensures same { S.pages shelf.new ≡ S.pages shelf.old }
     ensures fetched { AsksForOne (S.fetches shelf.old) (S.fetches shelf.new) (S.given shelf.new) }
-    ensures named { S.named shelf.new ≤ counted (S.named shelf.old) }
+    ensures named { S.named shelf.new ≤ S.named shelf.old + 1 }
     ensures reported { ReportsParts (S.pages shelf.old) (Rose (S.faults shelf.old) (S.faults shelf.new)) folder.now (K.taken sink.old) (K.taken sink.new) result }
 
     // Why the page wasn't had, or a text not written.

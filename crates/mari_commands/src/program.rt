@@ -1,8 +1,8 @@
 //! The top call.
 
-ghost use Rattle.std.specs.Prelude.{◌≡◌, ◌≤◌, ℕ, List, None, Some, map, string_bytes, ◌⊎◌};
+ghost use Rattle.std.specs.Prelude.{◌≡◌, ◌≤◌, ◌+◌, ℕ, List, None, Some, map, string_bytes, ◌⊎◌};
 ghost use Rattle.mari_units.specs.declared.faults.Refusal.{Refusal};
-ghost use Rattle.mari_io.specs.Outside.{Counts, Pages, Rose, counted};
+ghost use Rattle.mari_io.specs.Outside.{Counts, Pages, Rose};
 ghost use Rattle.mari_io.specs.declared.shelf.Fetch.TheVariants as fetch;
 ghost use Rattle.mari_publish.specs.declared.fault.TextFault.{TextFault};
 ghost use Rattle.mari_day.specs.Files.{Gap};
@@ -113,7 +113,7 @@ fn finish<S: Shelf, K: Sink, G: Turnstile, R: Threads + Wait + Sync>(
     ensures same { S.pages shelf.new ≡ S.pages shelf.old }
     ensures untouched { (IsOwn outcome.now → ⊥) → S.fetches shelf.new ≡ S.fetches shelf.old }
     ensures alone { (AreQuarters outcome.now → ⊥) → AsksForOne (S.fetches shelf.old) (S.fetches shelf.new) (S.given shelf.new) }
-    ensures named { (AreQuarters outcome.now → ⊥) → S.named shelf.new ≤ counted (S.named shelf.old) }
+    ensures named { (AreQuarters outcome.now → ⊥) → S.named shelf.new ≤ S.named shelf.old + 1 }
     ensures reported { Reported (S.pages shelf.old) (Rose (S.faults shelf.old) (S.faults shelf.new)) outcome.now (K.taken sink.old) (K.taken sink.new) result }
 
     // Why a page wasn't had, or a text not written.
@@ -164,10 +164,11 @@ pub fn run_program<S: Shelf, K: Sink, G: Turnstile, R: Threads + Wait + Sync>(
     ensures answers { AnswersOf (command_at (map string_bytes words.now)) (S.pages shelf.old) (Rose (S.faults shelf.old) (S.faults shelf.new)) (K.taken sink.old) (K.taken sink.new) result }
     ensures same { S.pages shelf.new ≡ S.pages shelf.old }
 
-    // Where the words read no page, nothing is fetched; a feed names one page at most, and asks for pieces of it alone.
+    // Where the words read no page, nothing is fetched. On a feed at most one call names a page, and each further one is for
+    // a piece, at most one for each byte that was given, and one.
     ensures untouched { (AsksForPages (command_at (map string_bytes words.now)) → ⊥) → S.fetches shelf.new ≡ S.fetches shelf.old }
     ensures alone { AsksForFeed (command_at (map string_bytes words.now)) → AsksForOne (S.fetches shelf.old) (S.fetches shelf.new) (S.given shelf.new) }
-    ensures named { AsksForFeed (command_at (map string_bytes words.now)) → S.named shelf.new ≤ counted (S.named shelf.old) }
+    ensures named { AsksForFeed (command_at (map string_bytes words.now)) → S.named shelf.new ≤ S.named shelf.old + 1 }
 
     // Why a page wasn't had, or a text not written.
     ensures read_fault { Counts (result ≡ Status.ReadFault) (S.faults shelf.old) (S.faults shelf.new) }

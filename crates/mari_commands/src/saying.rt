@@ -1,7 +1,7 @@
 //! What is printed of an outcome, and the status that it ends with.
 
-ghost use Rattle.std.specs.Prelude.{◌≡◌, ◌≤◌};
-ghost use Rattle.mari_io.specs.Outside.{Counts, Rose, counted};
+ghost use Rattle.std.specs.Prelude.{◌≡◌, ◌≤◌, ◌+◌};
+ghost use Rattle.mari_io.specs.Outside.{Counts, Rose};
 ghost use Rattle.mari_commands.specs.Outcome.{AreQuarters, AsksForOne, IsOwn, IsReportable, Reported};
 
 use crate::clearing::clear_alone;
@@ -27,7 +27,7 @@ pub fn report<S: Shelf, K: Sink>(
     ensures same { S.pages shelf.new ≡ S.pages shelf.old }
     ensures untouched { (IsOwn outcome.now → ⊥) → S.fetches shelf.new ≡ S.fetches shelf.old }
     ensures alone { (AreQuarters outcome.now → ⊥) → AsksForOne (S.fetches shelf.old) (S.fetches shelf.new) (S.given shelf.new) }
-    ensures named { (AreQuarters outcome.now → ⊥) → S.named shelf.new ≤ counted (S.named shelf.old) }
+    ensures named { (AreQuarters outcome.now → ⊥) → S.named shelf.new ≤ S.named shelf.old + 1 }
     ensures reported { Reported (S.pages shelf.old) (Rose (S.faults shelf.old) (S.faults shelf.new)) outcome.now (K.taken sink.old) (K.taken sink.new) result }
 
     // Why a page wasn't had, or a text not written.

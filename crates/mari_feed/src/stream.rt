@@ -105,7 +105,8 @@ pub fn print_feed<S: Shelf, K: Sink>(
     // Nothing else is said of that page than of the page read whole.
     ensures whole { (reported : Pages) (page : List ℕ) (answer : Res ThePublication TheTextFault) → S.pages shelf.old ≡ Some reported → page_of reported name.now ≡ Some page → IsOutcome page answer → SameAsRead answer result }
 
-    // The shelf is asked for nothing else: one call names a page, and each further one is for a piece of it.
+    // The shelf is asked for no other page: one call names a page, and each further one is for a piece, at most one for
+    // each byte that was given, and one.
     ensures fetched { AsksForPage (IsFeedFetch fetch.Missing result) (S.fetches shelf.old) (S.fetches shelf.new) (S.given shelf.new) }
     ensures named { S.named shelf.new ≡ counted (S.named shelf.old) }
 

@@ -21,7 +21,7 @@ use Rattle.mari_lines.specs.declared.line.MoneyLine.{MoneyLine}
 use Rattle.mari_lines.specs.Ranges.{Between, IsAmountLine, IsHeading, IsMoneyLine, Listed}
 use Rattle.mari_publish.specs.declared.publication.Block.{Block}
 use Rattle.mari_publish.specs.declared.publication.Publication.{Publication}
-use Rattle.mari_publish.specs.Lines.{block_lines, closing_lines, closing_lines_by, published_in, unpublished_in}
+use Rattle.mari_publish.specs.Lines.{block_lines, closing_lines, closing_lines_by, unpublished_in}
 use Rattle.mari_publish.specs.Ranges.{BlockFits}
 use Rattle.mari_publish.specs.Texts.{block_text_of, head_text_of, text_of, text_of_lines, total_text_of}
 use Rattle.mari_publish.proofs.Counts.{both_kinds}
@@ -53,12 +53,10 @@ day-text p =
     ∙ ap (λ (t : List ℕ). head ++ t) (sym (flat_map-append line_text (flat_map block_lines p.blocks) (closing_lines p)))
 
 -- the closing lines, by what they are made of
-pub closing-text : (p : Publication) (operators : List MoneyLine) (providers : List AmountLine) (published unpublished : ℕ)
-    → operators ≡ p.operators → providers ≡ p.providers → published ≡ published_in p.blocks
-    → unpublished ≡ unpublished_in p.blocks → text_of_lines (closing_lines_by operators providers published unpublished) ≡ total_text_of p
-closing-text p operators providers published unpublished e f g h =
-    ap (λ xs. text_of_lines (closing_lines_by xs providers published unpublished)) e ∙ ap (λ xs. text_of_lines (closing_lines_by p.operators xs published unpublished)) f
-    ∙ ap (λ n. text_of_lines (closing_lines_by p.operators p.providers n unpublished)) g ∙ ap (λ n. text_of_lines (closing_lines_by p.operators p.providers (published_in p.blocks) n)) h
+pub same-closing : (operators operators' : List MoneyLine) (providers providers' : List AmountLine) (published published' unpublished unpublished' : ℕ)
+    → operators ≡ operators' → providers ≡ providers' → published ≡ published' → unpublished ≡ unpublished'
+    → text_of_lines (closing_lines_by operators providers published unpublished) ≡ text_of_lines (closing_lines_by operators' providers' published' unpublished')
+same-closing operators operators' providers providers' published published' unpublished unpublished' e f g h = rw (e, f, g, h) refl
 
 module _ {X : Type 0} where
   -- where each item has one of n numbers, and at most c have the same, there are at most c * n

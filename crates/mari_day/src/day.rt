@@ -1,13 +1,18 @@
 //! The day of books: its head, a block for each run, and the totals.
 
-ghost use Rattle.std.specs.Prelude.{◌≡◌, IfOk, length, map};
+ghost use Rattle.std.specs.Prelude.{◌≡◌, List, IfOk, length, map};
 ghost use Rattle.std.specs.List.{All, range_with_len};
 ghost use Rattle.mari_units.specs.Names.{IsName};
 ghost use Rattle.mari_io.specs.Outside.{Counts};
+ghost use Rattle.mari_publish.specs.Lines.{closing_lines_by};
+ghost use Rattle.mari_publish.specs.Texts.{text_of_lines};
+ghost use Rattle.mari_publish.specs.declared.publication.Block.{Block as PrintedBlock};
 ghost use Rattle.mari_remain.specs.Accepted.{IsAccepted};
 ghost use Rattle.mari_day.specs.Dated.{IsDated};
 ghost use Rattle.mari_day.specs.Day.{EndsDay};
 ghost use Rattle.mari_progress.specs.Money.{amount_line};
+ghost use Rattle.mari_progress.specs.Progress.{IsProgress};
+ghost use Rattle.mari_progress.specs.Totals.{operator_totals, provider_totals};
 ghost use Rattle.mari_market.specs.Clearing.{IsBudget};
 
 use crate::frame::{DaySoFar, Stop, write_day};
@@ -61,6 +66,27 @@ fn all_places(alloc: Global, count: u32) -> Result<Vec<u32>, Memory>
         places.push(place)?;
     }
     Ok(places)
+}
+
+/// The text after the last block of a day, in any form of text that has these lines: the totals over its published blocks,
+/// and how many of its runs are of either kind.
+pub fn end_text(
+    alloc: Global,
+    books: &Books,
+    progress: &Progress,
+    first: u32,
+    others: u32,
+) -> Result<Vec<u8>, Memory>
+    requires accepted { IsAccepted books.now }
+    requires dated { IsDated books.now }
+    requires kept { (blocks : List PrintedBlock) × IsProgress books.now blocks progress.now }
+    ensures { (blocks : List PrintedBlock) → IsProgress books.now blocks progress.now
+        → IfOk result (λ text. text.items ≡ text_of_lines (closing_lines_by (operator_totals books.now blocks) (provider_totals books.now blocks) first others)) }
+{
+    let totals = &progress.totals;
+    let operators = money_lines(alloc, &books.zones.operators, totals.operators.as_slice())?;
+    let providers = total_lines(alloc, &books.bids, totals.providers.as_slice())?;
+    closing_text(alloc, &operators, &providers, first, others)
 }
 
 /// What is kept of a day of books between its blocks.
@@ -123,16 +149,9 @@ impl<'a, C: Clearer> DaySoFar<C> for PublicationSoFar<'a> {
     }
 
     fn end(&self, alloc: Global) -> Result<Vec<u8>, Memory> {
-        let totals = &self.progress.totals;
-        let operators = money_lines(
-            alloc,
-            &self.books.zones.operators,
-            totals.operators.as_slice(),
-        )?;
-        let providers = total_lines(alloc, &self.books.bids, totals.providers.as_slice())?;
         let published = self.progress.published;
         let unpublished = run_count(self.books) - published;
-        closing_text(alloc, &operators, &providers, published, unpublished)
+        end_text(alloc, self.books, &self.progress, published, unpublished)
     }
 }
 

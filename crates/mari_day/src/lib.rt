@@ -18,7 +18,7 @@ mod text;
 
 pub use block::{PublishedRun, published_run};
 pub use calendar_page::DateCheck;
-pub use day::{DayEnd, run_day};
+pub use day::{DayEnd, end_text, run_day};
 pub use files::{BLOCKS, File, PUBLICATION, file_name, path_in};
 pub use frame::{DaySoFar, Stop, write_day};
 pub use laws::{days_keep, migration_keeps_days};

@@ -1,0 +1,4 @@
+pub mod Reach
+pub mod Lines
+pub mod Days
+pub mod Steps

@@ -1,0 +1,27 @@
+//! The blocks of a day of the second form.
+
+use mari_publish::FullBlock;
+use mari_reach::ReachItem;
+use mari_units::{Items, Quarters};
+
+/// What a block says of its activation.
+#[derive(Clone, Copy, Debug, Drop, PartialEq, Eq)]
+pub enum Claim {
+    /// It is the first activation of the market.
+    First,
+    /// No admissible activation is better by more than this many quarter-cents.
+    Within(Quarters),
+}
+
+/// A run's block.
+#[derive(Drop)]
+pub struct ReachBlock {
+    /// What it says of the market, as a block of the first form does. It has no certificate tree of that form.
+    pub block: FullBlock,
+    /// What it says of the activation.
+    pub claim: Claim,
+    /// The tree that shows it, in which zones and gates have their numbers.
+    pub tree: Items<ReachItem>,
+    /// The number of the bid of each gate.
+    pub gated: Items<u32>,
+}

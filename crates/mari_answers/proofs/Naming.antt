@@ -21,13 +21,6 @@ use Rattle.mari_demands.specs.declared.limits.LimitCheck.TheVariants as limit
 use Rattle.mari_demands.specs.declared.runs.RunCheck.TheVariants as run
 use Rattle.mari_day.specs.DateChecks.{date_check_name}
 use Rattle.mari_day.specs.Files.{IsFileNumber, IsNamed, file_number}
-use Rattle.mari_day.specs.declared.files.TheConstants.{BLOCKS}
-use Rattle.mari_blocks.specs.BlockChecks.{block_check_name, block_check_number}
-use Rattle.mari_blocks.specs.JointChecks.{joint_check_name, refusal_by}
-use Rattle.mari_blocks.specs.declared.blocks.BlockCheck.{BlockCheck}
-use Rattle.mari_blocks.specs.declared.blocks.BlockCheck.TheVariants as block
-use Rattle.mari_blocks.specs.declared.checks.JointCheck.{JointCheck}
-use Rattle.mari_blocks.specs.declared.checks.JointCheck.TheVariants as joint
 use Rattle.mari_day.specs.Refusals.{IsByCheck, IsCheckNumber, OwnCheck, own_number}
 use Rattle.mari_day.specs.Refusals.IsCheckNumber.{OfRows, Own}
 use Rattle.mari_day.specs.declared.calendar_page.DateCheck.TheVariants as date
@@ -92,67 +85,6 @@ own-named Limits limit.UnknownRun = λ e. cc e
 own-named Limits limit.UnknownBorder = λ e. cc e
 own-named Limits limit.Repeated = λ e. cc e
 own-named Limits limit.Range = λ e. cc e
-
-named : (file : File) (check : OwnCheck file) → IsNamedCheck (file_number file) (own_number file check)
-unfolding check_name date_check_name zone_check_name border_check_name bid_check_name link_check_name run_check_name demand_check_name limit_check_name
-own-named Day date.NotOneRecord = λ e. cc e
-own-named Day date.BadDate = λ e. cc e
-own-named Day date.BadZoneText = λ e. cc e
-own-named Day date.OutOfRange = λ e. cc e
-own-named Day date.NotWholeQuarters = λ e. cc e
-own-named Zones zone.TooManyZones = λ e. cc e
-own-named Zones zone.BadField = λ e. cc e
-own-named Zones zone.Repeated = λ e. cc e
-own-named Zones zone.NoZone = λ e. cc e
-own-named Borders border.TooManyBorders = λ e. cc e
-own-named Borders border.Unknown = λ e. cc e
-own-named Borders border.SelfBorder = λ e. cc e
-own-named Borders border.Repeated = λ e. cc e
-own-named Borders border.Range = λ e. cc e
-own-named Bids bid.BadField = λ e. cc e
-own-named Bids bid.Repeated = λ e. cc e
-own-named Bids bid.UnknownZone = λ e. cc e
-own-named Bids bid.Quarter = λ e. cc e
-own-named Bids bid.Range = λ e. cc e
-own-named Bids bid.LeastAboveGreatest = λ e. cc e
-own-named Bids bid.TooMany = λ e. cc e
-own-named Links link.BadKind = λ e. cc e
-own-named Links link.UnknownBid = λ e. cc e
-own-named Links link.WrongQuarter = λ e. cc e
-own-named Links link.ParentNotEarlier = λ e. cc e
-own-named Links link.Repeated = λ e. cc e
-own-named Links link.BadField = λ e. cc e
-own-named Links link.TooManyGates = λ e. cc e
-own-named Runs run.BadField = λ e. cc e
-own-named Runs run.RunsOutOfOrder = λ e. cc e
-own-named Runs run.Quarter = λ e. cc e
-own-named Runs run.Range = λ e. cc e
-own-named Runs run.TooMany = λ e. cc e
-own-named Demands demand.BadField = λ e. cc e
-own-named Demands demand.UnknownRun = λ e. cc e
-own-named Demands demand.UnknownZone = λ e. cc e
-own-named Demands demand.Range = λ e. cc e
-own-named Demands demand.TooMany = λ e. cc e
-own-named Limits limit.BadField = λ e. cc e
-own-named Limits limit.UnknownRun = λ e. cc e
-own-named Limits limit.UnknownBorder = λ e. cc e
-own-named Limits limit.Repeated = λ e. cc e
-own-named Limits limit.Range = λ e. cc e
-
--- and those of blocks.csv, and of what can't be one market
-block-named : (check : BlockCheck) → IsNamedCheck BLOCKS (block_check_number check)
-unfolding check_name block_check_name
-block-named block.BadField = λ e. cc e
-block-named block.UnknownBid = λ e. cc e
-block-named block.Quarter = λ e. cc e
-block-named block.Repeated = λ e. cc e
-block-named block.Linked = λ e. cc e
-
-joint-named : (check : JointCheck) → HasName (refusal_by check)
-unfolding check_name joint_check_name
-joint-named joint.NoScheduled = λ e. cc e
-joint-named joint.AcrossQuarters = λ e. cc e
-joint-named joint.TooLarge = λ e. cc e
 
 named : (file : File) (number : ℕ) → IsCheckNumber file number → IsNamedCheck (file_number file) number
 named file number (OfRows check e) = rw e (row-named (file_number file) check)

@@ -6,6 +6,12 @@ use Rattle.mari_publish.specs.declared.fault.TextFault.TheVariants as text_fault
 use Rattle.mari_remain.specs.declared.books.Books.{Books}
 use Rattle.mari_day.specs.Files.{IsNamed}
 use Rattle.mari_day.specs.declared.files.TheConstants.{BLOCKS}
+use Rattle.mari_blocks.specs.BlockChecks.{block_check_name, block_check_number}
+use Rattle.mari_blocks.specs.JointChecks.{joint_check_name, refusal_by}
+use Rattle.mari_blocks.specs.declared.blocks.BlockCheck.{BlockCheck}
+use Rattle.mari_blocks.specs.declared.blocks.BlockCheck.TheVariants as block
+use Rattle.mari_blocks.specs.declared.checks.JointCheck.{JointCheck}
+use Rattle.mari_blocks.specs.declared.checks.JointCheck.TheVariants as joint
 use Rattle.mari_blocks.specs.declared.clearing.JointText.{JointText}
 use Rattle.mari_quarters.specs.Quarters.{IsQuartersCheck, IsQuartersFile, NamesQuartersFile, RefusesQuartersByCheck}
 use Rattle.mari_quarters.specs.Quarters.IsQuartersCheck.{OfFiles, OfRows as OfBlockRows, OfBlocks, OfMarket}
@@ -18,9 +24,24 @@ use Rattle.mari_answers.specs.Checks.{migration_check_name, text_check_name}
 use Rattle.mari_commands.specs.Commands.{already_two, text_refusal}
 use Rattle.mari_commands.specs.Outcome.{IsMigrated, IsReportable, IsSayable, no_books, refusal_of, text_outcome}
 use Rattle.mari_answers.specs.Refusals.{HasName, check_name}
-use Rattle.mari_answers.proofs.Naming.{by-name, named-file, row-named}
 use Rattle.mari_commands.specs.declared.outcome.Outcome.{Outcome}
 use Rattle.mari_commands.specs.declared.outcome.Outcome.TheVariants as outcome
+use Rattle.mari_answers.proofs.Naming.{IsNamedCheck, by-name, named-file, row-named}
+
+-- and those of blocks.csv, and of what can't be one market
+block-named : (check : BlockCheck) → IsNamedCheck BLOCKS (block_check_number check)
+unfolding check_name block_check_name
+block-named block.BadField = λ e. cc e
+block-named block.UnknownBid = λ e. cc e
+block-named block.Quarter = λ e. cc e
+block-named block.Repeated = λ e. cc e
+block-named block.Linked = λ e. cc e
+
+joint-named : (check : JointCheck) → HasName (refusal_by check)
+unfolding check_name joint_check_name
+joint-named joint.NoScheduled = λ e. cc e
+joint-named joint.AcrossQuarters = λ e. cc e
+joint-named joint.TooLarge = λ e. cc e
 
 -- a folder that has no books
 pub fault-reportable : (fault : BooksFault) → NamesAFile {T = Books} (Err fault) → RefusesByCheck {T = Books} (Err fault) → IsReportable (no_books fault)

@@ -48,6 +48,7 @@ use Rattle.mari_commands.specs.Splits.{EndsBy, command_by}
 use Rattle.mari_commands.specs.Summary.{IsGenerated}
 use Rattle.mari_commands.specs.Printing.{usage_line, valid_line}
 use Rattle.mari_answers.specs.Lines.{invalid_line}
+use Rattle.mari_answers.specs.Reports.{Reports, ReportsNoPage, ReportsRefusal}
 use Rattle.mari_answers.specs.Refusals.{HasName}
 use Rattle.mari_commands.specs.Values.{value_line, value_status}
 

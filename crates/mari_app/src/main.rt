@@ -2,9 +2,7 @@
 //! with.
 #![tactic(auto)]
 
-mod arguments;
-
-use arguments::words_of;
+use mari_answers::words_of;
 use mari_commands::run_program;
 use mari_io::{DiskShelf, StdSink};
 use mari_workers::FreeTurnstile;

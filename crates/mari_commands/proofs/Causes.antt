@@ -10,10 +10,11 @@ use Rattle.mari_day.specs.declared.day.DayEnd.{DayEnd}
 use Rattle.mari_day.specs.declared.day.DayEnd.TheVariants as end
 use Rattle.mari_commands.specs.declared.outcome.Outcome.{Outcome}
 use Rattle.mari_commands.specs.declared.outcome.Outcome.TheVariants.{NoCommand, Day, Feed as Feeds, Blocks as Joins, Values, Text, Invalid, NoPage, Refused, Memory as NoMemory}
-use Rattle.mari_commands.specs.declared.status.Status.{Status}
-use Rattle.mari_commands.specs.declared.status.Status.TheVariants as status
-use Rattle.mari_commands.specs.Outcome.{IsNoPage, IsOwn, Reported, Reports, ReportsValues, day_status}
-use Rattle.mari_commands.specs.Outcome.Reports.{Printed, CutOff, Starved}
+use Rattle.mari_answers.specs.declared.status.Status.{Status}
+use Rattle.mari_answers.specs.declared.status.Status.TheVariants as status
+use Rattle.mari_commands.specs.Outcome.{IsNoPage, IsOwn, Reported, ReportsValues, day_status}
+use Rattle.mari_answers.specs.Reports.{Reports}
+use Rattle.mari_answers.specs.Reports.Reports.{Printed, CutOff, Starved}
 
 module _ (wanted : Status) (no_write : status.WriteFault ≡ wanted → ⊥) (no_memory : status.Memory ≡ wanted → ⊥) where
   -- a text that is reported with another status

@@ -34,13 +34,14 @@ use Rattle.mari_commands.specs.declared.outcome.Way.{Way}
 use Rattle.mari_commands.specs.declared.outcome.Way.TheVariants.{Whole, Islands}
 use Rattle.mari_commands.specs.declared.outcome.Outcome.{Outcome}
 use Rattle.mari_commands.specs.declared.outcome.Outcome.TheVariants.{NoCommand, Day, Feed as Feeds, Blocks as Joins, Values, Text, Invalid, NoPage, Refused, Memory as NoMemory}
-use Rattle.mari_commands.specs.declared.status.Status.{Status}
-use Rattle.mari_commands.specs.declared.status.Status.TheVariants as status
+use Rattle.mari_answers.specs.declared.status.Status.{Status}
+use Rattle.mari_answers.specs.declared.status.Status.TheVariants as status
 use Rattle.mari_commands.specs.Commands.{EndsValues, HasBooksToClear, IsFeedable, IsMigratable, IsReadable, LacksPage, RefusesFeed, RefusesFiles, RefusesText, fetch_of, publication_path, text_refusal}
 use Rattle.mari_commands.specs.Headline.{HasBudget}
-use Rattle.mari_commands.specs.Outcome.{IsOfWords, IsReportedValues, Reported, Reports, ReportsFeed, ReportsParts, ReportsText, Says, day_status}
-use Rattle.mari_commands.specs.Outcome.Reports.{Printed, CutOff, Starved}
-use Rattle.mari_commands.specs.Printing.{file_line, invalid_line, refused_line}
+use Rattle.mari_commands.specs.Outcome.{IsOfWords, IsReportedValues, Reported, ReportsFeed, ReportsParts, ReportsText, Says, day_status}
+use Rattle.mari_answers.specs.Reports.{Reports}
+use Rattle.mari_answers.specs.Reports.Reports.{Printed, CutOff, Starved}
+use Rattle.mari_answers.specs.Lines.{file_line, invalid_line, refused_line}
 use Rattle.mari_commands.specs.Program.{IsDayStatus, IsStatus, IsVerdictStatus, OrFault, gap_status}
 use Rattle.mari_commands.specs.Splits.{EndsBy, HasIslandBudget, IsSplittable}
 use Rattle.mari_commands.specs.Values.{value_line, value_status}

@@ -25,13 +25,14 @@ use Rattle.mari_words.specs.Asked.Asked.{Blocks}
 use Rattle.mari_commands.specs.declared.outcome.JointJob.{JointJob}
 use Rattle.mari_commands.specs.declared.outcome.Outcome.{Outcome}
 use Rattle.mari_commands.specs.declared.outcome.Outcome.TheVariants.{Blocks as Joins}
-use Rattle.mari_commands.specs.declared.status.Status.{Status}
-use Rattle.mari_commands.specs.declared.status.Status.TheVariants as status
+use Rattle.mari_answers.specs.declared.status.Status.{Status}
+use Rattle.mari_answers.specs.declared.status.Status.TheVariants as status
 use Rattle.mari_commands.specs.Joint.{Decides, IsJoinable}
-use Rattle.mari_commands.specs.Outcome.{Reported, Reports, ReportsBlocks, ReportsQuarters, Says, joint_command}
-use Rattle.mari_commands.specs.Outcome.Reports.{Printed, CutOff, Starved}
+use Rattle.mari_commands.specs.Outcome.{Reported, ReportsBlocks, ReportsQuarters, Says, joint_command}
+use Rattle.mari_answers.specs.Reports.{Reports}
+use Rattle.mari_answers.specs.Reports.Reports.{Printed, CutOff, Starved}
 use Rattle.mari_commands.specs.Outcome.Says.{OfUsage, OfRefusal, OfGap, OfClear, OfCheck, OfMigrate, OfGenerate, OfValues, OfFeed, OfBlocks, Fails, Starves}
-use Rattle.mari_commands.specs.Printing.{file_line, refused_line}
+use Rattle.mari_answers.specs.Lines.{file_line, refused_line}
 use Rattle.mari_commands.specs.Program.{IsDayStatus, IsStatus, OrFault, gap_status}
 use Rattle.mari_commands.proofs.Comes.{IsExcused}
 use Rattle.mari_commands.proofs.Complete.{day-end, excused, same-report}

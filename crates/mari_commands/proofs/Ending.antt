@@ -20,13 +20,15 @@ use Rattle.mari_commands.specs.declared.outcome.Way.{Way}
 use Rattle.mari_commands.specs.declared.outcome.Way.TheVariants.{Whole, Islands}
 use Rattle.mari_commands.specs.declared.outcome.Outcome.{Outcome}
 use Rattle.mari_commands.specs.declared.outcome.Outcome.TheVariants.{NoCommand, Day, Feed as Feeds, Blocks as Joins, Values, Text, Invalid, NoPage, Refused, Memory as NoMemory}
-use Rattle.mari_commands.specs.declared.status.Status.{Status}
-use Rattle.mari_commands.specs.declared.status.Status.TheVariants as status
+use Rattle.mari_answers.specs.declared.status.Status.{Status}
+use Rattle.mari_answers.specs.declared.status.Status.TheVariants as status
 use Rattle.mari_commands.specs.Commands.{AreCleared, AsksForBlocks, AsksForFeed, AsksToClear}
 use Rattle.mari_commands.specs.Headline.{WroteDay}
-use Rattle.mari_commands.specs.Outcome.{IsNoPage, IsOfWords, IsReady, IsReportable, Reported, Reports, ReportsDay, Says, WhereReported, day_status}
-use Rattle.mari_commands.specs.Outcome.Reports.{Printed, CutOff, Starved}
-use Rattle.mari_commands.specs.Printing.{file_line, invalid_line, refused_line, usage_line}
+use Rattle.mari_commands.specs.Outcome.{IsNoPage, IsOfWords, IsReady, IsReportable, Reported, ReportsDay, Says, WhereReported, day_status}
+use Rattle.mari_answers.specs.Reports.{Reports}
+use Rattle.mari_answers.specs.Reports.Reports.{Printed, CutOff, Starved}
+use Rattle.mari_commands.specs.Printing.{usage_line}
+use Rattle.mari_answers.specs.Lines.{file_line, invalid_line, refused_line}
 use Rattle.mari_commands.specs.Program.{Answers, IsFailedEnd, IsGapEnd, IsInvalidEnd, IsLine, IsRefusedEnd, TookFirstPart}
 use Rattle.mari_commands.specs.Program.IsDone.{Cleared as done-cleared, Printed as done-printed, Split as done-split}
 use Rattle.mari_commands.specs.Program.IsLine.{OfUsage as line-usage, OfRefusal as line-refusal, OfFault as line-fault, OfMissing as line-missing, OfTooLong as line-too-long, OfInvalid as line-invalid, OfText as line-text}

@@ -15,20 +15,21 @@ use Rattle.mari_feed.specs.declared.stream.FeedStop.{FeedStop}
 use Rattle.mari_feed.specs.declared.stream.FeedStop.TheVariants as stop
 use Rattle.mari_words.specs.Asked.{Asked}
 use Rattle.mari_words.specs.Asked.Asked.{Feed}
-use Rattle.mari_commands.specs.declared.status.Status.{Status}
-use Rattle.mari_commands.specs.declared.status.Status.TheVariants as status
+use Rattle.mari_answers.specs.declared.status.Status.{Status}
+use Rattle.mari_answers.specs.declared.status.Status.TheVariants as status
 use Rattle.mari_commands.specs.Commands.{HasFeed, IsRefused, LacksPage, publication_path, text_refusal}
 use Rattle.mari_commands.specs.Commands.IsRefused.{OfFeed as refused-feed}
 use Rattle.mari_commands.specs.Commands.LacksPage.{NoFeed as lacks-feed, LongFeed as lacks-long}
-use Rattle.mari_commands.specs.Outcome.{MayWant, Reports, ReportsFeed, ReportsParts, ReportsRefusal, WhereReported}
-use Rattle.mari_commands.specs.Outcome.Reports.{Printed, CutOff, Starved}
-use Rattle.mari_commands.specs.Printing.{file_line}
+use Rattle.mari_commands.specs.Outcome.{MayWant, ReportsFeed, ReportsParts, WhereReported}
+use Rattle.mari_answers.specs.Reports.{Reports, ReportsRefusal}
+use Rattle.mari_answers.specs.Reports.Reports.{Printed, CutOff, Starved}
+use Rattle.mari_answers.specs.Lines.{file_line}
 use Rattle.mari_commands.specs.Program.{Answers, IsCutOff, IsDone, IsStarved, TookFirstPart, TookOf, TookSummary, TookVerdict, gap_status, gap_word}
 use Rattle.mari_commands.specs.Program.IsDone.{Fed as done-fed}
 use Rattle.mari_commands.specs.Program.IsCutOff.{FeedPart as cut-feed, FeedRefused as cut-refused, FeedFault as cut-fault, FeedGap as cut-gap}
 use Rattle.mari_commands.specs.Program.IsStarved.{Nothing as starved-before, FeedPart as starved-feed}
 use Rattle.mari_commands.specs.Program.TookAhead.{Lines as lines-ahead}
-use Rattle.mari_commands.specs.Refusals.{HasName}
+use Rattle.mari_answers.specs.Refusals.{HasName}
 use Rattle.mari_commands.proofs.Naming.{text-reportable}
 
 -- the lines of all whole parts are those of the first

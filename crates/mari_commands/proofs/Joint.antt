@@ -16,14 +16,15 @@ use Rattle.mari_words.specs.Asked.Asked.{Blocks, Clear, Check, Generate, Migrate
 use Rattle.mari_commands.specs.declared.outcome.JointJob.{JointJob}
 use Rattle.mari_commands.specs.declared.outcome.Outcome.{Outcome}
 use Rattle.mari_commands.specs.declared.outcome.Outcome.TheVariants.{NoCommand, Day, Feed as Feeds, Blocks as Joins, Values, Text, Invalid, NoPage, Refused, Memory as NoMemory}
-use Rattle.mari_commands.specs.declared.status.Status.{Status}
-use Rattle.mari_commands.specs.declared.status.Status.TheVariants as status
+use Rattle.mari_answers.specs.declared.status.Status.{Status}
+use Rattle.mari_answers.specs.declared.status.Status.TheVariants as status
 use Rattle.mari_commands.specs.Commands.{AsksForBlocks}
 use Rattle.mari_commands.specs.Joint.{AnswersOf, AreCutOff, BlocksAnswers}
 use Rattle.mari_commands.specs.Joint.AreCutOff.{Text as CutText, Refuses, Lacks, Fails}
-use Rattle.mari_commands.specs.Outcome.{IsNoPage, IsOfWords, IsReportable, IsSayable, Reported, Reports, ReportsBlocks, ReportsQuarters, Says, WhereReported, joint_command}
-use Rattle.mari_commands.specs.Outcome.Reports.{Printed, CutOff, Starved}
-use Rattle.mari_commands.specs.Printing.{file_line, refused_line}
+use Rattle.mari_commands.specs.Outcome.{IsNoPage, IsOfWords, IsReportable, IsSayable, Reported, ReportsBlocks, ReportsQuarters, Says, WhereReported, joint_command}
+use Rattle.mari_answers.specs.Reports.{Reports}
+use Rattle.mari_answers.specs.Reports.Reports.{Printed, CutOff, Starved}
+use Rattle.mari_answers.specs.Lines.{file_line, refused_line}
 use Rattle.mari_commands.proofs.Ending.{answers}
 use Rattle.mari_commands.proofs.Folder.{no_other}
 

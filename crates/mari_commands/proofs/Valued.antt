@@ -14,22 +14,22 @@ use Rattle.mari_capacity.specs.Streams.{IsPageEnd, IsWrapped}
 use Rattle.mari_capacity.proofs.Exact.{is-end-of}
 use Rattle.mari_feed.specs.Streams.{TookAll}
 use Rattle.mari_words.specs.Asked.{Asked}
-use Rattle.mari_commands.specs.declared.status.Status.{Status}
-use Rattle.mari_commands.specs.declared.status.Status.TheVariants as status
+use Rattle.mari_answers.specs.declared.status.Status.{Status}
+use Rattle.mari_answers.specs.declared.status.Status.TheVariants as status
 use Rattle.mari_commands.specs.Commands.{AsksForFiles, AsksForValues, EndsValues, StatesValues, text_refusal}
 use Rattle.mari_commands.specs.Commands.IsInvalid.{OfValues as invalid-values}
 use Rattle.mari_commands.specs.Commands.IsRefused.{OfValues as refused-values}
 use Rattle.mari_commands.specs.Commands.LacksPage.{OfValues as lacks-values}
 use Rattle.mari_commands.specs.Commands.Prints.{Valued as prints-values}
 use Rattle.mari_commands.specs.Outcome.{MayWant, ReportsValues, WhereReported}
-use Rattle.mari_commands.specs.Outcome.Reports.{Printed, CutOff, Starved}
-use Rattle.mari_commands.specs.Printing.{refused_line}
+use Rattle.mari_answers.specs.Reports.Reports.{Printed, CutOff, Starved}
+use Rattle.mari_answers.specs.Lines.{refused_line}
 use Rattle.mari_commands.specs.Program.{Answers, IsFailedEnd, IsGapEnd, IsInvalidEnd, IsRefusedEnd, TookFirstPart, TookLine, TookSummary, TookVerdict}
 use Rattle.mari_commands.specs.Program.IsCutOff.{ValuesPart as cut-values}
 use Rattle.mari_commands.specs.Program.IsDone.{Printed as done-printed}
 use Rattle.mari_commands.specs.Program.IsStarved.{Nothing as starved-before}
 use Rattle.mari_commands.specs.Program.TookAhead.{Values as values-ahead}
-use Rattle.mari_commands.specs.Refusals.{HasName}
+use Rattle.mari_answers.specs.Refusals.{HasName}
 use Rattle.mari_commands.specs.Values.{value_line, value_status}
 use Rattle.mari_commands.proofs.Folder.{reads}
 use Rattle.mari_commands.proofs.Naming.{text-reportable}

@@ -27,9 +27,9 @@ use Rattle.mari_words.specs.Asked.{Asked}
 use Rattle.mari_words.specs.Asked.Asked.{Blocks, Clear, Check, Generate, Migrate, Feed, Split, Value}
 use Rattle.mari_words.specs.declared.command.FilePart.{FilePart}
 use Rattle.mari_words.specs.declared.command.FilePart.TheVariants.{Borders, Limits}
-use Rattle.mari_commands.specs.declared.checks.MigrationCheck.TheVariants.{AlreadyTwo}
-use Rattle.mari_commands.specs.declared.checks.TextCheck.TheVariants.{BadLine, BadOrder, Truncated}
-use Rattle.mari_commands.specs.Checks.{migration_check_number, text_check_number}
+use Rattle.mari_answers.specs.declared.checks.MigrationCheck.TheVariants.{AlreadyTwo}
+use Rattle.mari_answers.specs.declared.checks.TextCheck.TheVariants.{BadLine, BadOrder, Truncated}
+use Rattle.mari_answers.specs.Checks.{migration_check_number, text_check_number}
 use Rattle.mari_commands.specs.Printing.{valid_line}
 use Rattle.mari_commands.specs.Summary.{IsGenerated}
 

@@ -15,10 +15,10 @@ use Rattle.mari_blocks.specs.declared.joint.Joint.{Joint}
 use Rattle.mari_quarters.specs.Quarters.{HasBlocks, HasQuartersGap, HasQuartersRefusal, HasQuartersText, IsQuartersFile}
 use Rattle.mari_words.specs.Asked.{Asked}
 use Rattle.mari_words.specs.Asked.Asked.{Blocks}
-use Rattle.mari_commands.specs.declared.status.Status.{Status}
-use Rattle.mari_commands.specs.declared.status.Status.TheVariants.{Done, Unpublished, Usage, Refused, ReadFault, WriteFault, Memory, Invalid, Missing, TooLong}
-use Rattle.mari_commands.specs.Printing.{file_line, page_word, refused_line}
-use Rattle.mari_commands.specs.Refusals.{HasName}
+use Rattle.mari_answers.specs.declared.status.Status.{Status}
+use Rattle.mari_answers.specs.declared.status.Status.TheVariants.{Done, Unpublished, Usage, Refused, ReadFault, WriteFault, Memory, Invalid, Missing, TooLong}
+use Rattle.mari_answers.specs.Lines.{file_line, page_word, refused_line}
+use Rattle.mari_answers.specs.Refusals.{HasName}
 use Rattle.mari_commands.specs.Outcome.{WhereReported}
 use Rattle.mari_commands.specs.Program.{Answers, gap_word}
 

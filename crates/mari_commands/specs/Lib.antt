@@ -1,12 +1,9 @@
-pub mod Checks
 pub mod Commands
 pub mod Headline
 pub mod Joint
 pub mod Outcome
 pub mod Printing
 pub mod Program
-pub mod Refusals
 pub mod Splits
-pub mod Status
 pub mod Summary
 pub mod Values

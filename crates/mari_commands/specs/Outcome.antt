@@ -1,5 +1,5 @@
 -- What the words and the pages come to, and how it is reported.
-use Rattle.std.specs.Prelude.{ℕ, ◌≡◌, ◌≢◌, ◌⊎◌, ◌≤◌, ◌==◌, ◌++◌, if◌then◌else◌, List, Option, Some, None, Result, Ok, Err, ⊤, String, string_bytes}
+use Rattle.std.specs.Prelude.{ℕ, ◌≡◌, ◌≢◌, ◌⊎◌, ◌≤◌, ◌==◌, ◌++◌, List, Option, Some, None, Result, Ok, Err, ⊤, String, string_bytes, if◌then◌else◌}
 use Rattle.std.specs.Option.{option_map_or}
 use Rattle.std.specs.declared.alloc.Global.{Global}
 use Rattle.mari_io.specs.declared.shelf.Fetch.{Fetch}
@@ -11,7 +11,6 @@ use Rattle.mari_publish.specs.declared.fault.TextFault.TheVariants as text_fault
 use Rattle.mari_remain.specs.declared.books.Books.{Books}
 use Rattle.mari_remain.specs.Accepted.{IsAccepted}
 use Rattle.mari_day.specs.Dated.{IsDated}
-use Rattle.mari_day.specs.Day.{TookPart, then_took}
 use Rattle.mari_day.specs.declared.day.DayEnd.{DayEnd}
 use Rattle.mari_day.specs.declared.day.DayEnd.TheVariants as end
 use Rattle.mari_day.specs.declared.files.TheConstants.{PUBLICATION}
@@ -41,14 +40,16 @@ use Rattle.mari_commands.specs.declared.outcome.Job.{Job}
 use Rattle.mari_commands.specs.declared.outcome.JointJob.{JointJob}
 use Rattle.mari_commands.specs.declared.outcome.Outcome.{Outcome}
 use Rattle.mari_commands.specs.declared.outcome.Outcome.TheVariants.{NoCommand, Day, Feed as Feeds, Blocks as Joins, Values, Text, Invalid, NoPage, Refused, Memory as NoMemory}
-use Rattle.mari_commands.specs.declared.status.Status.{Status}
-use Rattle.mari_commands.specs.declared.status.Status.TheVariants as status
+use Rattle.mari_answers.specs.declared.status.Status.{Status}
+use Rattle.mari_answers.specs.declared.status.Status.TheVariants as status
 use Rattle.mari_words.specs.declared.command.FilePart.{FilePart}
 use Rattle.mari_commands.specs.Commands.{AsksForFiles, AsksForLines, AsksForValues, AsksToCheck, IsAlone, ReadsFolder, already_two, fetch_of, page_of_part, publication_path, text_refusal}
 use Rattle.mari_commands.specs.Splits.{EndsBy, command_by}
 use Rattle.mari_commands.specs.Summary.{IsGenerated}
-use Rattle.mari_commands.specs.Printing.{file_line, invalid_line, page_status, page_word, refused_line, usage_line, valid_line}
-use Rattle.mari_commands.specs.Refusals.{HasName}
+use Rattle.mari_commands.specs.Printing.{usage_line, valid_line}
+use Rattle.mari_answers.specs.Lines.{invalid_line}
+use Rattle.mari_answers.specs.Reports.{Reports, ReportsNoPage, ReportsRefusal}
+use Rattle.mari_answers.specs.Refusals.{HasName}
 use Rattle.mari_commands.specs.Values.{value_line, value_status}
 
 -- the line of a publication that is valid
@@ -141,32 +142,11 @@ day_status (end.Done published unpublished) = if unpublished == 0 then status.Do
 day_status end.WriteFault = status.WriteFault
 day_status end.Memory = status.Memory
 
--- how a text is reported with a status: it is printed whole; or a write failed, and a first part of it was taken; or
--- memory ran out, and nothing was taken
-pub data Reports (text : List ℕ) (wanted : Status) (before after : Option (List ℕ)) (result : Status) : Type 0 where
-  Printed : result ≡ wanted → after ≡ then_took before text → Reports text wanted before after result
-  CutOff : result ≡ status.WriteFault → TookPart before after text → Reports text wanted before after result
-  Starved : result ≡ status.Memory → after ≡ before → Reports text wanted before after result
-
 -- how a job is reported: its day is written as it is made
 pub record ReportsDay (job : Job) (before after : Option (List ℕ)) (result : Status) : Type 0 where
   pub ended : DayEnd
   pub ends : EndsBy job.way job.books job.nodes before after ended
   pub status : result ≡ day_status ended
-
--- how a refusal is reported
-abbrev pub ReportsRefusal : Refusal → (before after : Option (List ℕ)) → Status → Type 0
-ReportsRefusal refusal before after result = Reports (refused_line refusal) (status.Refused refusal) before after result
-
--- how a page that can't be had is reported
-abbrev pub ReportsNoPage : ℕ → Fetch → (before after : Option (List ℕ)) → Status → Type 0
-ReportsNoPage file fetch.Memory before after result = (result ≡ status.Memory) × (after ≡ before)
-ReportsNoPage file why before after result = Reports (file_line (page_word why) file) (page_status why) before after result
-
--- the line of a file whose page can't be had, and its status; there is none where the page was given up out of memory
-abbrev pub IsPageLine : (file : ℕ) → Fetch → (line : List ℕ) → Status → Type 0
-IsPageLine file fetch.Memory line s = ⊥
-IsPageLine file why line s = (line ≡ file_line (page_word why) file) × (s ≡ page_status why)
 
 -- how a publication is reported whose text has a fault
 abbrev pub ReportsText : TextFault → (before after : Option (List ℕ)) → Status → Type 0

@@ -1,14 +1,7 @@
--- The lines that the program prints where it prints no day.
-use Rattle.std.specs.Prelude.{ℕ, List, [], ◌∷◌, ◌++◌, unwrap_or}
+-- The lines that the program prints where it prints no day, beside those of a status.
+use Rattle.std.specs.Prelude.{ℕ, List}
 use lib.Chars.{codes}
-use Rattle.std.specs.Fmt.{decimal}
-use Rattle.mari_units.specs.declared.faults.Refusal.{Refusal}
-use Rattle.mari_io.specs.declared.shelf.Fetch.{Fetch}
-use Rattle.mari_io.specs.declared.shelf.Fetch.TheVariants as fetch
-use Rattle.mari_day.specs.Files.{file_named}
-use Rattle.mari_commands.specs.declared.status.Status.{Status}
-use Rattle.mari_commands.specs.declared.status.Status.TheVariants as status
-use Rattle.mari_commands.specs.Refusals.{check_name}
+use Rattle.mari_answers.specs.Lines.{pair_line}
 
 -- the line that states how the program is called
 unfoldable pub usage_line : List ℕ
@@ -16,36 +9,6 @@ usage_line =
     codes
     "usage: mari clear FOLDER [--nodes N] [--workers K] | mari check FOLDER | mari generate NUMBER | mari migrate FOLDER borders | mari migrate FOLDER limits | mari feed FOLDER | mari split FOLDER [--nodes N] [--workers K] | mari blocks FOLDER FIRST LAST [--nodes N] [--workers K] | mari value FOLDER K\n"
 
--- the word of a page that can't be had; there is none when out of memory
-abbrev pub page_word : Fetch → List ℕ
-page_word fetch.Failed = codes "readfault"
-page_word fetch.Missing = codes "missing"
-page_word fetch.TooLong = codes "toolong"
-page_word fetch.Memory = []
-
--- the status of a page that can't be had
-abbrev pub page_status : Fetch → Status
-page_status fetch.Failed = status.ReadFault
-page_status fetch.Missing = status.Missing
-page_status fetch.TooLong = status.TooLong
-page_status fetch.Memory = status.Memory
-
--- the line of a file, by its number from 1, whose page can't be had
-abbrev pub file_line : List ℕ → ℕ → List ℕ
-file_line word file = word ++ 32 ∷ file_named file ++ 10 ∷ []
-
--- the line of a refusal: the file, the line in it, and the check by its number and its name
-abbrev pub refused_line : Refusal → List ℕ
-refused_line r = codes "refused " ++ file_named r.file ++ 32 ∷ decimal r.line ++ 32 ∷ decimal r.number ++ 32 ∷ unwrap_or (check_name r.file r.number) [] ++ 10 ∷ []
-
--- a line of a word and two numbers
-abbrev pub pair_line : List ℕ → ℕ → ℕ → List ℕ
-pair_line word first second = word ++ decimal first ++ 32 ∷ decimal second ++ 10 ∷ []
-
 -- the line of a publication that is valid: how many of its blocks are published, and how many aren't
 abbrev pub valid_line : ℕ → ℕ → List ℕ
 valid_line published unpublished = pair_line (codes "valid ") published unpublished
-
--- the line of a publication that isn't: the first run that has a fault, and the fault's number
-abbrev pub invalid_line : ℕ → ℕ → List ℕ
-invalid_line run fault = pair_line (codes "invalid ") run fault

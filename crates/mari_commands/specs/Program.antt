@@ -16,16 +16,17 @@ use Rattle.mari_capacity.specs.declared.ending.ValueEnd.{ValueEnd}
 use Rattle.mari_capacity.specs.declared.ending.ValueEnd.TheVariants as values
 use Rattle.mari_capacity.specs.Streams.{IsPageEnd}
 use Rattle.mari_words.specs.Asked.Asked.{Check, Generate, Feed}
-use Rattle.mari_commands.specs.declared.status.Status.{Status}
-use Rattle.mari_commands.specs.declared.status.Status.TheVariants.{Done, Unpublished, Usage, Refused, ReadFault, WriteFault, Memory, Invalid, Missing, TooLong}
+use Rattle.mari_answers.specs.declared.status.Status.{Status}
+use Rattle.mari_answers.specs.declared.status.Status.TheVariants.{Done, Unpublished, Usage, Refused, ReadFault, WriteFault, Memory, Invalid, Missing, TooLong}
 use Rattle.mari_commands.specs.Commands.{AreCleared, AsksForFeed, AsksForPages, AsksForValues, AsksToCheck, AsksToClear, HasFeed, IsAlone, IsFeedable, IsInvalid, IsRefused, LacksPage, Prints, ReadsFolder, StatesValues, fetch_of, publication_path, text_refusal}
 use Rattle.mari_commands.specs.Headline.{WroteDay}
 use Rattle.mari_commands.specs.Outcome.{IsValidLine, MayWant, WhereReported}
 use Rattle.mari_commands.specs.Splits.{AreSplit, AsksToSplit, WroteSplit}
 use Rattle.mari_commands.specs.Summary.{IsGenerated}
 use Rattle.mari_split.specs.Days.{WroteSplitPart, WroteSplitPrefix}
-use Rattle.mari_commands.specs.Printing.{file_line, invalid_line, page_status, page_word, refused_line, usage_line}
-use Rattle.mari_commands.specs.Refusals.{HasName}
+use Rattle.mari_commands.specs.Printing.{usage_line}
+use Rattle.mari_answers.specs.Lines.{file_line, invalid_line, page_status, page_word, refused_line}
+use Rattle.mari_answers.specs.Refusals.{HasName}
 use Rattle.mari_commands.specs.Values.{value_line}
 
 -- the word of a page that can't be had

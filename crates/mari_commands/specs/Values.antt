@@ -5,10 +5,10 @@ use Rattle.mari_publish.specs.declared.fault.TextFault.TheVariants as text_fault
 use Rattle.mari_day.specs.declared.files.TheConstants.{PUBLICATION}
 use Rattle.mari_capacity.specs.declared.ending.ValueEnd.{ValueEnd}
 use Rattle.mari_capacity.specs.declared.ending.ValueEnd.TheVariants as values
-use Rattle.mari_commands.specs.declared.status.Status.{Status}
-use Rattle.mari_commands.specs.declared.status.Status.TheVariants as status
+use Rattle.mari_answers.specs.declared.status.Status.{Status}
+use Rattle.mari_answers.specs.declared.status.Status.TheVariants as status
 use Rattle.mari_commands.specs.Commands.{text_refusal}
-use Rattle.mari_commands.specs.Printing.{file_line, invalid_line, page_status, page_word, refused_line}
+use Rattle.mari_answers.specs.Lines.{file_line, invalid_line, page_status, page_word, refused_line}
 
 -- the line that stands after the lines of checked blocks; after those of a valid publication there is none
 abbrev pub value_line : ValueEnd → List ℕ

@@ -5,14 +5,13 @@ ghost use Rattle.mari_io.specs.Outside.{Counts, Pages, page_of};
 ghost use Rattle.mari_io.specs.declared.shelf.Fetch.TheVariants as fetch;
 ghost use Rattle.mari_remain.specs.Accepted.{IsAccepted};
 ghost use Rattle.mari_words.specs.Asked.Asked.{Check};
-ghost use Rattle.mari_commands.specs.Checks.{text_check_number};
+ghost use Rattle.mari_answers.specs.Checks.{text_check_number};
 ghost use Rattle.mari_commands.specs.Commands.{publication_path as path_of, text_refusal_at};
 ghost use Rattle.mari_commands.specs.Outcome.{CheckStates, IsNoPage, IsOfWords, IsReportable, IsReportedVerdict, Says, refusal_of, text_outcome as outcome_of_text};
 
 use crate::books::books_in;
-use crate::checks::TextCheck;
 use crate::outcome::Outcome;
-use crate::writing::pair_line;
+use mari_answers::{TextCheck, pair_line};
 use mari_check::{StreamFault, Verdict, check_stream};
 use mari_day::{PUBLICATION, file_name, path_in};
 use mari_io::Shelf;

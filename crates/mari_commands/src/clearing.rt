@@ -10,7 +10,7 @@ ghost use Rattle.mari_commands.specs.Splits.{command_by};
 
 use crate::books::books_in;
 use crate::outcome::{Job, Outcome, Way};
-use crate::status::Status;
+use mari_answers::Status;
 use mari_day::{DayEnd, run_day};
 use mari_io::{Shelf, Sink};
 use mari_market::{Cleared, Clearer, Market};

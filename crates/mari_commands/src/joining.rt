@@ -7,8 +7,7 @@ ghost use Rattle.mari_io.specs.Outside.{Counts, Rose};
 ghost use Rattle.mari_commands.specs.Outcome.{AreJoinable, IsSayable, ReportsBlocks, ReportsQuarters};
 
 use crate::outcome::JointJob;
-use crate::saying::{say, say_no_page, say_refused};
-use crate::status::Status;
+use mari_answers::{Status, say, say_no_page, say_refused};
 use mari_blocks::JointText;
 use mari_day::BooksFault;
 use mari_io::{Shelf, Sink};

@@ -9,7 +9,6 @@
 
 mod books;
 mod checking;
-mod checks;
 mod clearing;
 mod feeding;
 mod generating;
@@ -18,13 +17,11 @@ mod migrating;
 mod outcome;
 mod profile;
 mod program;
-mod refusals;
 mod saying;
-mod status;
 mod summary;
+mod usage;
 mod valuing;
-mod writing;
 
+pub use mari_answers::Status;
 pub use profile::profile_is_kept;
 pub use program::run_program;
-pub use status::Status;

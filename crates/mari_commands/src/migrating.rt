@@ -10,8 +10,8 @@ ghost use Rattle.mari_commands.specs.Commands.{already_two, page_of_part};
 ghost use Rattle.mari_commands.specs.Outcome.{IsMigrated, IsNoPage, IsOfWords, IsReportable, Says};
 
 use crate::books::books_in;
-use crate::checks::MigrationCheck;
 use crate::outcome::Outcome;
+use mari_answers::MigrationCheck;
 use mari_day::File;
 use mari_io::Shelf;
 use mari_remain::{Books, borders_text, limits_text};

@@ -1,85 +1,18 @@
 //! What is printed of an outcome, and the status that it ends with.
 
-ghost use Rattle.std.specs.Prelude.{◌≡◌, ◌≢◌, ◌≤◌, ◌+◌, ◌++◌};
+ghost use Rattle.std.specs.Prelude.{◌≡◌, ◌≤◌, ◌+◌};
 ghost use Rattle.mari_io.specs.Outside.{Counts, Rose};
-ghost use Rattle.mari_day.specs.Files.{IsNamed};
-ghost use Rattle.mari_commands.specs.Outcome.{AreQuarters, AsksForOne, IsOwn, IsReportable, Reported, Reports, ReportsNoPage};
-ghost use Rattle.mari_commands.specs.Printing.{invalid_line as invalid_text, refused_line as refused_text};
-ghost use Rattle.mari_commands.specs.Refusals.{HasName};
+ghost use Rattle.mari_commands.specs.Outcome.{AreQuarters, AsksForOne, IsOwn, IsReportable, Reported};
 
 use crate::clearing::clear_alone;
 use crate::feeding::fed;
 use crate::joining::join_alone;
 use crate::outcome::Outcome;
-use crate::status::Status;
+use crate::usage::usage_line;
 use crate::valuing::say_values;
-use crate::writing::{invalid_line, page_line, refused_line, usage_line};
-use mari_io::{Fetch, Shelf, Sink, write_all};
-use mari_units::{Memory, Refusal};
+use mari_answers::{Status, say, say_invalid, say_no_page, say_refused};
+use mari_io::{Shelf, Sink};
 use std::alloc::Global;
-
-/// Writes a text, and answers its status, or that of a write fault.
-pub fn say<K: Sink>(sink: &mut K, text: &[u8], status: Status) -> Status
-    requires { status ≢ Status.WriteFault }
-    ensures reports { Reports text.now status (K.taken sink.old) (K.taken sink.new) result }
-    ensures cause { Counts (result ≡ Status.WriteFault) (K.faults sink.old) (K.faults sink.new) }
-{
-    match write_all(sink, text) {
-        Ok(()) => status,
-        Err(_) => Status::WriteFault,
-    }
-}
-
-/// Writes a text and then a line, and answers their status, or that of a write fault.
-pub fn say_after<K: Sink>(sink: &mut K, text: &[u8], line: &[u8], status: Status) -> Status
-    requires { status ≢ Status.WriteFault }
-    ensures reports { Reports (text.now ++ line.now) status (K.taken sink.old) (K.taken sink.new) result }
-    ensures cause { Counts (result ≡ Status.WriteFault) (K.faults sink.old) (K.faults sink.new) }
-{
-    match write_all(sink, text) {
-        Ok(()) => match write_all(sink, line) {
-            Ok(()) => status,
-            Err(_) => Status::WriteFault,
-        },
-        Err(_) => Status::WriteFault,
-    }
-}
-
-/// Writes the line of a file whose page can't be had.
-pub fn say_no_page<K: Sink>(alloc: Global, sink: &mut K, file: u8, why: Fetch) -> Status
-    requires { IsNamed file }
-    ensures reports { ReportsNoPage file why (K.taken sink.old) (K.taken sink.new) result }
-    ensures cause { Counts (result ≡ Status.WriteFault) (K.faults sink.old) (K.faults sink.new) }
-{
-    match page_line(alloc, file, why) {
-        Ok((line, status)) => say(sink, &line, status),
-        Err(Memory) => Status::Memory,
-    }
-}
-
-/// Writes the line of a refusal.
-pub fn say_refused<K: Sink>(alloc: Global, sink: &mut K, refusal: Refusal) -> Status
-    requires file { IsNamed refusal.file }
-    requires name { HasName refusal }
-    ensures reports { Reports (refused_text refusal) (Status.Refused refusal) (K.taken sink.old) (K.taken sink.new) result }
-    ensures cause { Counts (result ≡ Status.WriteFault) (K.faults sink.old) (K.faults sink.new) }
-{
-    match refused_line(alloc, refusal) {
-        Ok(line) => say(sink, &line, Status::Refused(refusal)),
-        Err(Memory) => Status::Memory,
-    }
-}
-
-/// Writes the line of a publication that isn't valid.
-fn say_invalid<K: Sink>(alloc: Global, sink: &mut K, run: u32, fault: u8) -> Status
-    ensures reports { Reports (invalid_text run fault) (Status.Invalid run fault) (K.taken sink.old) (K.taken sink.new) result }
-    ensures cause { Counts (result ≡ Status.WriteFault) (K.faults sink.old) (K.faults sink.new) }
-{
-    match invalid_line(alloc, run, fault) {
-        Ok((line, status)) => say(sink, &line, status),
-        Err(Memory) => Status::Memory,
-    }
-}
 
 /// Writes what is printed of an outcome, and answers its status. A day and quarters are cleared by this thread, so that
 /// the call waits for nobody. Of the shelf it asks only for the publication that is printed as a feed, and for the

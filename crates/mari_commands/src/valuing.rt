@@ -6,15 +6,14 @@ ghost use Rattle.mari_io.specs.declared.shelf.Fetch.TheVariants as fetch;
 ghost use Rattle.mari_remain.specs.Accepted.{IsAccepted};
 ghost use Rattle.mari_words.specs.Asked.Asked.{Value};
 ghost use Rattle.mari_commands.specs.Commands.{publication_path as path_of};
-ghost use Rattle.mari_commands.specs.Outcome.{IsNoPage, IsOfWords, IsReportable, IsReportedValues, Reports, Says};
+ghost use Rattle.mari_commands.specs.Outcome.{IsNoPage, IsOfWords, IsReportable, IsReportedValues, Says};
+ghost use Rattle.mari_answers.specs.Reports.{Reports};
 ghost use Rattle.mari_commands.specs.Values.{IsEnding, value_line, value_status};
 
 use crate::books::books_in;
 use crate::checking::text_refusal;
 use crate::outcome::Outcome;
-use crate::saying::say_after;
-use crate::status::Status;
-use crate::writing::{invalid_line, page_line, refused_line};
+use mari_answers::{Status, invalid_line, page_line, refused_line, say_after};
 use mari_capacity::{ValueEnd, Valued, value_stream};
 use mari_day::{PUBLICATION, file_name, path_in};
 use mari_io::{Shelf, Sink};

@@ -1,4 +1,4 @@
-use Rattle.mari_commands.proofs.Reporting.{same_text}
+use Rattle.mari_answers.proofs.Reporting.{same_text}
 use Rattle.mari_commands.proofs.saying.report.Goals as goal
 
 pub returns-in-NoCommand-clause-reported : goal.returns-in-NoCommand-clause-reported

@@ -1,0 +1,5 @@
+pub mod Checks
+pub mod Lines
+pub mod Refusals
+pub mod Reports
+pub mod Status

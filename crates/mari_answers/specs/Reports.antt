@@ -1,0 +1,39 @@
+-- How a text, a refusal, a page that can't be had and a folder without books are reported: what a sink takes, and the
+-- status.
+use Rattle.std.specs.Prelude.{ℕ, ◌≡◌, List, Option}
+use Rattle.mari_units.specs.declared.faults.Refusal.{Refusal}
+use Rattle.mari_io.specs.Taken.{TookPart, then_took}
+use Rattle.mari_io.specs.declared.shelf.Fetch.{Fetch}
+use Rattle.mari_io.specs.declared.shelf.Fetch.TheVariants as fetch
+use Rattle.mari_day.specs.declared.reading.BooksFault.{BooksFault}
+use Rattle.mari_day.specs.declared.reading.BooksFault.TheVariants as why
+use Rattle.mari_answers.specs.declared.status.Status.{Status}
+use Rattle.mari_answers.specs.declared.status.Status.TheVariants as status
+use Rattle.mari_answers.specs.Lines.{file_line, page_status, page_word, refused_line}
+
+-- how a text is reported with a status: it is printed whole; or a write failed, and a first part of it was taken; or
+-- memory ran out, and nothing was taken
+pub data Reports (text : List ℕ) (wanted : Status) (before after : Option (List ℕ)) (result : Status) : Type 0 where
+  Printed : result ≡ wanted → after ≡ then_took before text → Reports text wanted before after result
+  CutOff : result ≡ status.WriteFault → TookPart before after text → Reports text wanted before after result
+  Starved : result ≡ status.Memory → after ≡ before → Reports text wanted before after result
+
+-- how a refusal is reported
+abbrev pub ReportsRefusal : Refusal → (before after : Option (List ℕ)) → Status → Type 0
+ReportsRefusal refusal before after result = Reports (refused_line refusal) (status.Refused refusal) before after result
+
+-- how a page that can't be had is reported
+abbrev pub ReportsNoPage : ℕ → Fetch → (before after : Option (List ℕ)) → Status → Type 0
+ReportsNoPage file fetch.Memory before after result = (result ≡ status.Memory) × (after ≡ before)
+ReportsNoPage file why before after result = Reports (file_line (page_word why) file) (page_status why) before after result
+
+-- the line of a file whose page can't be had, and its status; there is none where the page was given up out of memory
+abbrev pub IsPageLine : (file : ℕ) → Fetch → (line : List ℕ) → Status → Type 0
+IsPageLine file fetch.Memory line s = ⊥
+IsPageLine file why line s = (line ≡ file_line (page_word why) file) × (s ≡ page_status why)
+
+-- how a folder is reported that has no books
+abbrev pub ReportsNoBooks : BooksFault → (before after : Option (List ℕ)) → Status → Type 0
+ReportsNoBooks (why.Fetch file fault) before after result = ReportsNoPage file fault before after result
+ReportsNoBooks (why.Refused refusal) before after result = ReportsRefusal refusal before after result
+ReportsNoBooks why.Memory before after result = (result ≡ status.Memory) × (after ≡ before)

@@ -5,14 +5,15 @@ usage: python3 bench/counts.py [PROGRAM] [--nodes] [--gateless] [--measures]
 
 PROGRAM is the built program, by default crates/mari_app/out/mari_app. On Debian the others come by
     apt-get update; apt-get install -y liblemon-dev g++ valgrind
-Without options it makes all tables; --measures (of reading, of a plain run, of growth) needs valgrind alone. A count is the same for the same program and folder, whatever else the machine does.
-It is no test: nothing fails where a count is high. Of a copy by `rep movsb`, which is one instruction, valgrind counts each
-byte, so all programs are counted with the C library's copies by 32 bytes at a time.
+Without options it makes all tables; --measures (of reading, of a plain run, of growth) needs valgrind alone. A count is the
+same for the same program and folder, whatever else the machine does. It is no test: nothing fails where a count is high. Of
+a copy by `rep movsb`, which is one instruction, valgrind counts each byte, so all programs are counted with the C library's
+copies by 32 bytes at a time.
 
 A node of ours is one examination from the root (`Root::examine_in`) with all that it calls, the mean of all that the search
 makes; LEMON's is its search less its reading, by the nodes that it solves. Of a run without gates ours are the solver and
-the price test of all examinations (one, since the closed prefix is the root there; up to 30 November 2026 12:00 the
-program made two), and LEMON's its program less its reading. A run by itself is the command on a folder with the run,
+the price test of all examinations (one, since the closed prefix is the root there), and LEMON's its program less its
+reading. A run by itself is the command on a folder with the run,
 less that on the same folder without.
 """
 

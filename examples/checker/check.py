@@ -83,12 +83,18 @@ class Order:
         self.zone, self.side, self.price = zone, side, price
         self.least, self.greatest, self.gate = least, greatest, gate
 
+    def may_exchange(self, other):
+        """Whether the gates of two orders are twins, where each has no other order, group, parent or child."""
+        are_alike = (self.least, self.greatest, self.price) == (other.least, other.greatest, other.price)
+        are_indivisible = self.least == self.greatest == other.least == other.greatest
+        return (self.zone, self.side) == (other.zone, other.side) and (are_alike or are_indivisible)
+
 
 class Market:
     """The market of a run over what the published blocks before it left."""
 
     def __init__(self, folder, run, earlier):
-        self.zones, self.reference = folder.zones, cents(run["reference"])
+        self.zones, self.reference, self.twins = folder.zones, cents(run["reference"]), None
         number, quarter = int(run["run"]), run["quarter"]
         self.offered = [bid for bid in folder.bids if bid["quarter"] == quarter and is_offered(folder, bid, run, earlier)]
         names = [bid["id"] for bid in self.offered if bid["id"] in folder.gated]
@@ -262,6 +268,18 @@ class Market:
             waiting.append(prefix + [False])
         return {9} if waiting or len(items) > budget else faults
 
+    def better_twins(self, gate):
+        """The twins of a gate that rank before it: a better price or, of the same price, a later place in the file."""
+        if self.twins is None:
+            orders = defaultdict(list)
+            for order in self.orders:
+                orders[order.gate].append(order)
+            is_bound = [group is not None or parent is not None for group, parent in zip(self.group, self.parent)]
+            alone = [it for it, bound in enumerate(is_bound) if not bound and it not in self.parent and len(orders[it]) == 1]
+            ranked = [((order.side * order.price, -it), it, order) for it in alone for order in orders[it]]
+            self.twins = {it: {other for key, other, twin in ranked if key < rank and order.may_exchange(twin)} for rank, it, order in ranked}
+        return self.twins.get(gate, set())
+
     def reach_faults(self, items, word, cutoff, budget):
         """The same of the second form."""
         waiting, faults = [[]], set()
@@ -290,12 +308,14 @@ class State:
     def __init__(self, market, decisions):
         self.market = market
         self.open = {gate for kind, gate, *_, is_open in decisions if kind == "gate" and is_open}
+        self.open |= {twin for gate in self.open for twin in market.better_twins(gate)}
         for _ in market.parent:
             self.open |= {market.parent[gate] for gate in self.open} - {None}
         self.low, self.high = self.box(decisions)
         self.closed = {gate for kind, gate, *_, is_open in decisions if kind == "gate" and not is_open}
         self.closed |= {gate for gate in range(len(market.group)) if self.has_open_rival(gate)}
         self.closed |= {order.gate for order in market.orders if self.always_loses(order)} - {None}
+        self.closed |= {gate for gate in range(len(market.group)) if market.better_twins(gate) & self.closed}
         for _ in market.parent:
             self.closed |= {gate for gate, parent in enumerate(market.parent) if parent in self.closed}
         self.is_void = bool(self.open & self.closed) or any(self.low[zone] > self.high[zone] for zone in market.zones)

@@ -6,6 +6,10 @@
 #[cfg(test)]
 mod leaves;
 #[cfg(test)]
+mod root;
+#[cfg(test)]
 mod same;
 #[cfg(test)]
 mod small;
+#[cfg(test)]
+mod trees;

@@ -1,5 +1,5 @@
 -- States as tables.
-use Rattle.std.specs.Prelude.{◌≡◌, ◌&&◌, Bool, ℕ, ◌<◌, List, length}
+use Rattle.std.specs.Prelude.{◌≡◌, ◌&&◌, Bool, ℕ, ◌<◌, List, length, Option, None, slice_index_or}
 use Rattle.std.specs.List.{All, list_any}
 use Rattle.std.specs.Option.{is_some}
 use lib.Signed.{lt_z}
@@ -16,7 +16,22 @@ use Rattle.mari_reach.specs.declared.decisions.Decision.{Decision}
 use Rattle.mari_reach.specs.declared.marks.Marks.{Marks}
 use Rattle.mari_reach.specs.declared.prices.PriceBox.{PriceBox}
 use Rattle.mari_reach.specs.declared.states.State.{State}
+use Rattle.mari_reach.specs.declared.survey.Survey.{Survey}
+use Rattle.mari_reach.specs.declared.ranks.Twins.{Twins}
+use Rattle.mari_reach.specs.Twins.{lone_order, outranks_by}
 use Rattle.mari_reach.specs.State.{border_span, gains_within, high_by, high_of, loses_within, low_by, low_of, opens, reached_span, shuts, state_by}
+
+-- the order of a lone gate by the table
+abbrev pub lone_in : Twins → ℕ → Option Order
+lone_in t g = slice_index_or t.orders g None
+
+-- the table is that of a market's lone gates
+abbrev pub IsTwinsOf : Market → Twins → Type 0
+IsTwinsOf m t = (g : ℕ) → g < length m.gates → lone_in t g ≡ lone_order m g
+
+-- whether gate g is a twin of gate h by the table, and ranks before it
+abbrev pub outranks_in : Twins → ℕ → ℕ → Bool
+outranks_in t g h = outranks_by (lone_in t g) g (lone_in t h) h
 
 -- whether an order gains at every price of the box
 abbrev pub gains_in : PriceBox → Order → Bool
@@ -40,7 +55,7 @@ falls_in box b = is_dearer_in box b.from b.to
 
 -- the marks are of the gates that a state opens
 abbrev pub HasOpened : Market → List Decision → Marks → Type 0
-HasOpened m ds marks = (g : ℕ) → g < length m.gates → opens_in marks g ≡ opens m.gates ds g
+HasOpened m ds marks = (g : ℕ) → g < length m.gates → opens_in marks g ≡ opens m ds g
 
 -- the box has the least and the greatest prices of a state
 pub record HasPrices (m : Market) (ds : List Decision) (box : PriceBox) : Type 0 where
@@ -61,6 +76,11 @@ pub record SpeaksFor (m : Market) (os : List Order) : Type 0 where
   pub low : (on : ℕ → Bool) (ds : List Decision) (z : ℕ) → low_by on ds os z ≡ low_by on ds m.orders z
   pub high : (on : ℕ → Bool) (ds : List Decision) (z : ℕ) → high_by on ds os z ≡ high_by on ds m.orders z
   pub losses : (box : PriceBox) (g : ℕ) → has_loss_in box os g ≡ has_loss_in box m.orders g
+
+-- the survey is that of a market
+pub record IsSurveyOf (m : Market) (s : Survey) : Type 0 where
+  pub gated : SpeaksFor m s.gated.items
+  pub twins : IsTwinsOf m s.twins
 
 -- the tables are those of a state
 pub record IsStateOf (m : Market) (ds : List Decision) (r : State) : Type 0 where

@@ -1,0 +1,70 @@
+-- The table of lone gates' orders.
+use Rattle.std.proofs.Common.{◌≡◌, ◌||◌, if◌then◌else◌, Bool, true, false, ℕ, ◌+◌, ◌<◌, ◌≤◌, List, [], ◌∷◌, ◌++◌, length, take, get_or, Option, Some, None, arith, refl, sym, ap, ◌∙◌, inl, inr}
+use Rattle.std.proofs.lemmas.Bool.{cases_lt}
+use Rattle.std.proofs.lemmas.List.{take_more}
+use Rattle.std.proofs.lemmas.List.Elements.{filter-append}
+use Rattle.std.proofs.lemmas.List.Folds.{list_any_more}
+use Rattle.std.specs.List.{filter, list_any}
+use Rattle.mari_market.specs.declared.market.Order.{Order}
+use Rattle.mari_market.specs.declared.market.GateInfo.{GateInfo}
+use Rattle.mari_market.specs.declared.market.Market.{Market}
+use Rattle.mari_market.specs.Activation.{is_gate}
+use Rattle.mari_reach.specs.declared.ranks.Twins.{Twins}
+use Rattle.mari_reach.specs.Tables.{lone_in, outranks_in, IsTwinsOf}
+use Rattle.mari_reach.specs.Twins.{lone_order, orders_of, outranks, outranks_by, sole, stands_alone}
+
+-- ---- one order more
+
+not_alone : (x o : Order) (xs : List Order) → sole (x ∷ (xs ++ o ∷ [])) ≡ None
+not_alone x o [] = refl
+not_alone x o (y ∷ ys) = refl
+
+no_more : (xs : List Order) → sole (xs ++ []) ≡ sole xs
+no_more [] = refl
+no_more (x ∷ []) = refl
+no_more (x ∷ y ∷ ys) = refl
+
+sole_more : (test : Order → Bool) (xs : List Order) (o : Order) → sole (filter test xs ++ o ∷ []) ≡ (if list_any test xs then None else Some o)
+sole_more test [] o = refl
+sole_more test (x ∷ xs) o = by (test x) (sole_more test xs o)
+  where
+    by : (b : Bool) → sole (filter test xs ++ o ∷ []) ≡ (if list_any test xs then None else Some o)
+        → sole ((if b then x ∷ filter test xs else filter test xs) ++ o ∷ []) ≡ (if b || list_any test xs then None else Some o)
+    by true more = not_alone x o (filter test xs)
+    by false more = more
+
+sole_kept : (test : Order → Bool) (xs : List Order) (o : Order) (b : Bool)
+    → sole (filter test xs ++ (if b then o ∷ [] else [])) ≡ (if b then (if list_any test xs then None else Some o) else sole (filter test xs))
+sole_kept test xs o true = sole_more test xs o
+sole_kept test xs o false = no_more (filter test xs)
+
+pub sole_step : (g : ℕ) (os : List Order) (i : ℕ) (d : Order) (seen : Bool) (old new : Option Order) → i < length os → seen ≡ list_any (λ (o : Order). is_gate g o.gate) (take i os)
+    → old ≡ sole (orders_of (take i os) g) → new ≡ (if is_gate g (get_or os i d).gate then (if seen then None else Some (get_or os i d)) else old)
+    → new ≡ sole (orders_of (take (i + 1) os) g)
+sole_step g os i d seen old new l s e k =
+    let o = get_or os i d in
+    k ∙ ap (λ (b : Bool). if is_gate g o.gate then (if b then None else Some o) else old) s
+    ∙ ap (λ (x : Option Order). if is_gate g o.gate then (if list_any (λ (y : Order). is_gate g y.gate) (take i os) then None else Some o) else x) e
+    ∙ sym (sole_kept (λ (y : Order). is_gate g y.gate) (take i os) o (is_gate g o.gate))
+    ∙ ap sole (sym (filter-append (λ (y : Order). is_gate g y.gate) (take i os) (o ∷ [])))
+    ∙ ap (λ (xs : List Order). sole (orders_of xs g)) (sym (take_more os i d l))
+
+pub seen_step : (g : ℕ) (os : List Order) (i : ℕ) (d : Order) (old new : Bool) → i < length os → old ≡ list_any (λ (o : Order). is_gate g o.gate) (take i os)
+    → new ≡ (old || is_gate g (get_or os i d).gate) → new ≡ list_any (λ (o : Order). is_gate g o.gate) (take (i + 1) os)
+seen_step g os i d old new l e k = k ∙ ap (λ (b : Bool). b || is_gate g (get_or os i d).gate) e ∙ sym (list_any_more (λ (o : Order). is_gate g o.gate) os i d l)
+
+-- ---- a table that is sifted gate by gate
+
+pub sifted_more : (gates : List GateInfo) (was old new : ℕ → Option Order) (i : ℕ) → ((g : ℕ) → g < i → old g ≡ (if stands_alone gates g then was g else None)) → ((g : ℕ) → i ≤ g → old g ≡ was g)
+    → new i ≡ (if stands_alone gates i then old i else None) → ((g : ℕ) → (g ≡ i → ⊥) → new g ≡ old g) → (g : ℕ) → g < i + 1 → new g ≡ (if stands_alone gates g then was g else None)
+sifted_more gates was old new i done left here others g l = elim (cases_lt g i) [
+  | inl k ↦ others g (λ e. omega (arith, e)) ∙ done g k
+  | inr k ↦
+      let e : g ≡ i = omega arith in
+      ap new e ∙ here ∙ ap (λ (x : Option Order). if stands_alone gates i then x else None) (left i (omega arith)) ∙ sym (ap (λ (j : ℕ). if stands_alone gates j then was j else None) e)
+]
+
+-- ---- the whole table
+
+pub same_outranks : (m : Market) (t : Twins) (g h : ℕ) → IsTwinsOf m t → g < length m.gates → h < length m.gates → outranks_in t g h ≡ outranks m g h
+same_outranks m t g h k l s = ap (λ (x : Option Order). outranks_by x g (lone_in t h) h) (k g l) ∙ ap (λ (x : Option Order). outranks_by (lone_order m g) g x h) (k h s)

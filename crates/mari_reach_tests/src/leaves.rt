@@ -2,7 +2,7 @@
 
 use crate::same::same_in;
 use crate::small::{
-    CHEAPER, FAMILY, MarketRow, ONE_PRICE, OVERSIZED, market_of, prefix, prices_of,
+    CHEAPER, EQUAL, FAMILY, MarketRow, ONE_PRICE, OVERSIZED, market_of, prefix, prices_of,
 };
 use mari_market::{Cut, CutSide, Market, Prefix};
 use mari_reach::{Decision, ReachLeaf, are_decisions, check_leaf};
@@ -11,7 +11,7 @@ use std::alloc::{AllocError, Global};
 use std::test::Fail;
 
 /// A leaf.
-pub enum LeafRow {
+pub(crate) enum LeafRow {
     /// The decisions contradict each other.
     Void,
     /// Potentials, in cents per MWh.
@@ -424,10 +424,90 @@ const CASES: &[Case] = &[
         bits: 0,
         holds: false,
     },
+    Case {
+        name: "a closed gate closes its twins of worse rank, whose gains the bound leaves out",
+        market: EQUAL,
+        decisions: &[Decision::Gate(1, false)],
+        leaf: LeafRow::Bound(&[5000]),
+        cutoff: 2405000,
+        gates: 3,
+        bits: 4,
+        holds: true,
+    },
+    Case {
+        name: "to the quarter-cent",
+        market: EQUAL,
+        decisions: &[Decision::Gate(1, false)],
+        leaf: LeafRow::Bound(&[5000]),
+        cutoff: 2404999,
+        gates: 3,
+        bits: 4,
+        holds: false,
+    },
+    Case {
+        name: "the one of worst rank closes no other",
+        market: EQUAL,
+        decisions: &[FIRST_CLOSED],
+        leaf: LeafRow::Bound(&[5000]),
+        cutoff: 2405000,
+        gates: 3,
+        bits: 4,
+        holds: false,
+    },
+    Case {
+        name: "but leaves their gains to the bound",
+        market: EQUAL,
+        decisions: &[FIRST_CLOSED],
+        leaf: LeafRow::Bound(&[5000]),
+        cutoff: 2435000,
+        gates: 3,
+        bits: 6,
+        holds: true,
+    },
+    Case {
+        name: "the twins of better rank of an open gate are open in its word",
+        market: EQUAL,
+        decisions: &[Decision::Gate(1, true)],
+        leaf: LeafRow::Bound(&[2000]),
+        cutoff: 2450000,
+        gates: 3,
+        bits: 6,
+        holds: true,
+    },
+    Case {
+        name: "and those of worse rank aren't",
+        market: EQUAL,
+        decisions: &[Decision::Gate(1, true)],
+        leaf: LeafRow::Bound(&[2000]),
+        cutoff: 2450000,
+        gates: 3,
+        bits: 7,
+        holds: false,
+    },
+    Case {
+        name: "three equal bids that run are more than the demand",
+        market: EQUAL,
+        decisions: &[FIRST_OPEN],
+        leaf: LeafRow::Cut(CutSide::Out, 0),
+        cutoff: 0,
+        gates: 3,
+        bits: 0,
+        holds: true,
+    },
+    Case {
+        name: "two of them aren't",
+        market: EQUAL,
+        decisions: &[Decision::Gate(1, true)],
+        leaf: LeafRow::Cut(CutSide::Out, 0),
+        cutoff: 0,
+        gates: 3,
+        bits: 0,
+        holds: false,
+    },
 ];
 
 /// The leaf of a row.
-pub fn leaf_of(alloc: Global, row: &LeafRow) -> Result<ReachLeaf, AllocError> {
+pub(crate) fn leaf_of(alloc: Global, row: &LeafRow) -> Result<ReachLeaf, AllocError> {
     match row {
         LeafRow::Void => Ok(ReachLeaf::Void),
         LeafRow::Bound(cents) => Ok(ReachLeaf::Bound(prices_of(alloc, cents)?)),
@@ -439,7 +519,7 @@ pub fn leaf_of(alloc: Global, row: &LeafRow) -> Result<ReachLeaf, AllocError> {
 }
 
 /// Whether a leaf holds, where the market is valid and the decisions and the word fit it.
-fn holds(
+pub(crate) fn holds(
     market: &Market,
     decisions: &[Decision],
     leaf: &ReachLeaf,

@@ -13,3 +13,5 @@ mod same;
 mod small;
 #[cfg(test)]
 mod trees;
+#[cfg(test)]
+mod twins;

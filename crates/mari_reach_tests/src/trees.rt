@@ -2,7 +2,7 @@
 
 use crate::leaves::{LeafRow, leaf_of};
 use crate::same::same_in;
-use crate::small::{MarketRow, ONE_PRICE, PARADOX, TORN, market_of, prefix};
+use crate::small::{EQUAL, MarketRow, ONE_PRICE, PARADOX, TORN, market_of, prefix};
 use mari_market::{CutSide, Market, Prefix};
 use mari_proofs::TreeVerdict;
 use mari_reach::{Choice, ReachItem, check_tree};
@@ -46,6 +46,13 @@ const PRICE_TREE: &[ItemRow] = &[
     ItemRow::Price(1, 4999),
     ItemRow::Leaf(LeafRow::Cut(CutSide::Out, 0)),
     ItemRow::Leaf(LeafRow::Cut(CutSide::Out, 1)),
+];
+
+/// The first of three equal bids is closed, and two are worth the welfare at most; or it is open, and all three run.
+const EQUAL_TREE: &[ItemRow] = &[
+    ItemRow::Gate(0),
+    ItemRow::Leaf(LeafRow::Bound(&[5000])),
+    ItemRow::Leaf(LeafRow::Cut(CutSide::Out, 0)),
 ];
 
 const TREES: &[TreeCase] = &[
@@ -263,6 +270,54 @@ const TREES: &[TreeCase] = &[
         gates: 2,
         bits: 0,
         verdict: TreeVerdict::Holds,
+    },
+    TreeCase {
+        name: "of three equal bids two run, the later ones: one more is too much",
+        market: EQUAL,
+        tree: EQUAL_TREE,
+        cutoff: 2435000,
+        gates: 3,
+        bits: 6,
+        verdict: TreeVerdict::Holds,
+    },
+    TreeCase {
+        name: "the earlier ones are as good, but aren't the first",
+        market: EQUAL,
+        tree: EQUAL_TREE,
+        cutoff: 2435000,
+        gates: 3,
+        bits: 3,
+        verdict: TreeVerdict::BadLeaf(1),
+    },
+    TreeCase {
+        name: "a gate is not free beside a closed twin of better rank",
+        market: EQUAL,
+        tree: &[
+            ItemRow::Gate(1),
+            ItemRow::Gate(0),
+            ItemRow::Leaf(LeafRow::Bound(&[5000])),
+            ItemRow::Leaf(LeafRow::Bound(&[5000])),
+            ItemRow::Leaf(LeafRow::Bound(&[5000])),
+        ],
+        cutoff: 2435000,
+        gates: 3,
+        bits: 6,
+        verdict: TreeVerdict::BadShape(1),
+    },
+    TreeCase {
+        name: "nor beside an open one of worse rank",
+        market: EQUAL,
+        tree: &[
+            ItemRow::Gate(1),
+            ItemRow::Leaf(LeafRow::Bound(&[5000])),
+            ItemRow::Gate(2),
+            ItemRow::Leaf(LeafRow::Bound(&[5000])),
+            ItemRow::Leaf(LeafRow::Bound(&[5000])),
+        ],
+        cutoff: 2435000,
+        gates: 3,
+        bits: 6,
+        verdict: TreeVerdict::BadShape(2),
     },
 ];
 

@@ -1,5 +1,5 @@
 -- States as tables.
-use Rattle.std.specs.Prelude.{◌≡◌, ◌&&◌, Bool, ℕ, ◌<◌, List, length, Option, None, slice_index_or}
+use Rattle.std.specs.Prelude.{◌≡◌, ◌&&◌, ◌||◌, Bool, true, ℕ, ◌<◌, ◌≤◌, List, length, Option, None, slice_index_or}
 use Rattle.std.specs.List.{All, list_any}
 use Rattle.std.specs.Option.{is_some}
 use lib.Signed.{lt_z}
@@ -17,21 +17,31 @@ use Rattle.mari_reach.specs.declared.marks.Marks.{Marks}
 use Rattle.mari_reach.specs.declared.prices.PriceBox.{PriceBox}
 use Rattle.mari_reach.specs.declared.states.State.{State}
 use Rattle.mari_reach.specs.declared.survey.Survey.{Survey}
+use Rattle.mari_reach.specs.declared.ranks.Lone.{Lone}
 use Rattle.mari_reach.specs.declared.ranks.Twins.{Twins}
 use Rattle.mari_reach.specs.Twins.{lone_order, outranks_by}
 use Rattle.mari_reach.specs.State.{border_span, gains_within, high_by, high_of, loses_within, low_by, low_of, opens, reached_span, shuts, state_by}
 
 -- the order of a lone gate by the table
-abbrev pub lone_in : Twins → ℕ → Option Order
+abbrev pub lone_in : Lone → ℕ → Option Order
 lone_in t g = slice_index_or t.orders g None
 
 -- the table is that of a market's lone gates
-abbrev pub IsTwinsOf : Market → Twins → Type 0
-IsTwinsOf m t = (g : ℕ) → g < length m.gates → lone_in t g ≡ lone_order m g
+abbrev pub IsLoneOf : Market → Lone → Type 0
+IsLoneOf m t = (g : ℕ) → g < length m.gates → lone_in t g ≡ lone_order m g
 
 -- whether gate g is a twin of gate h by the table, and ranks before it
-abbrev pub outranks_in : Twins → ℕ → ℕ → Bool
+abbrev pub outranks_in : Lone → ℕ → ℕ → Bool
 outranks_in t g h = outranks_by (lone_in t g) g (lone_in t h) h
+
+-- both gates are marked, if they are twins by the table
+abbrev pub AreMarked : Lone → Marks → ℕ → ℕ → Type 0
+AreMarked t marks g h = (outranks_in t g h || outranks_in t h g) ≡ true → (opens_in marks g && opens_in marks h) ≡ true
+
+-- the table is that of a market's twins: it has the orders of its lone gates, and each gate that has a twin is marked
+pub record IsTwinsOf (m : Market) (t : Twins) : Type 0 where
+  pub lone : IsLoneOf m t.lone
+  pub marked : (g h : ℕ) → g < length m.gates → h ≤ g → AreMarked t.lone t.twinned g h
 
 -- whether an order gains at every price of the box
 abbrev pub gains_in : PriceBox → Order → Bool

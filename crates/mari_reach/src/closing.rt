@@ -25,6 +25,9 @@ fn mark_better(marks: &mut Marks, market: &Market, twins: &Twins, gate: u32)
     requires there { gate < length market.now.gates }
     ensures { (g : ℕ) → g < length market.now.gates → opens_in marks.new g ≡ (opens_in marks.old g || outranks market.now g gate) }
 {
+    if !twins.may_have(gate) {
+        return;
+    }
     for other in 0..market.gates.as_slice().len() {
         marks.mark_if(other as u32, twins.outranks(other as u32, gate));
     }
@@ -37,6 +40,9 @@ fn mark_worse(marks: &mut Marks, market: &Market, twins: &Twins, gate: u32)
     requires there { gate < length market.now.gates }
     ensures { (g : ℕ) → g < length market.now.gates → opens_in marks.new g ≡ (opens_in marks.old g || outranks market.now gate g) }
 {
+    if !twins.may_have(gate) {
+        return;
+    }
     for other in 0..market.gates.as_slice().len() {
         marks.mark_if(other as u32, twins.outranks(gate, other as u32));
     }

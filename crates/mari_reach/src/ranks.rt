@@ -1,12 +1,12 @@
 //! Twins: gates whose orders may be exchanged, and which of them ranks before which.
 
-ghost use Rattle.std.specs.Prelude.{◌≡◌, ◌&&◌, ◌||◌, if◌then◌else◌, ◌<◌, ◌≤◌, ℕ, None, Some, false, length};
+ghost use Rattle.std.specs.Prelude.{◌≡◌, ◌&&◌, ◌||◌, if◌then◌else◌, ◌<◌, ◌≤◌, ℕ, None, Some, false, length, true};
 ghost use Rattle.std.specs.List.{All, list_any};
 ghost use Rattle.mari_market.specs.Activation.{is_gate};
 ghost use Rattle.mari_market.specs.Gates.{ParentsEarlier};
 ghost use Rattle.mari_market.specs.Market.{IsValid, IsValidOrder};
 ghost use Rattle.mari_market.specs.Prefix.{opens_in};
-ghost use Rattle.mari_reach.specs.Tables.{IsTwinsOf, lone_in, outranks_in};
+ghost use Rattle.mari_reach.specs.Tables.{AreMarked, IsLoneOf, IsTwinsOf, lone_in, outranks_in};
 ghost use Rattle.mari_reach.specs.Twins.{are_alike, are_indivisible, is_better, is_child, is_one_side, may_exchange, orders_of, ranks_before, sole, stands_alone};
 
 use crate::marks::Marks;
@@ -92,16 +92,16 @@ fn stands_alone(gates: &[GateInfo], parents: &Marks, gate: usize) -> bool
 
 /// The orders of lone gates: of each gate without a group, a parent or a child that has one order alone.
 #[derive(Drop)]
-pub(crate) struct Twins {
+struct Lone {
     orders: [Option<Order>; MOST_GATES],
 }
 
-impl Twins {
+impl Lone {
     /// No orders.
-    fn none() -> Twins
+    fn none() -> Lone
         ensures { (g : ℕ) → lone_in result g ≡ None }
     {
-        Twins {
+        Lone {
             orders: [None; MOST_GATES],
         }
     }
@@ -128,16 +128,16 @@ impl Twins {
     }
 
     /// The only order of each gate that has one alone.
-    fn among(orders: &[Order]) -> Twins
+    fn among(orders: &[Order]) -> Lone
         requires { All (IsValidOrder MOST_ZONES MOST_GATES) orders.now }
         ensures { (g : ℕ) → lone_in result g ≡ sole (orders_of orders.now g) }
     {
-        let mut twins = Twins::none();
+        let mut lone = Lone::none();
         let mut seen = Marks::none();
         for order in orders {
-            twins.add(&mut seen, order);
+            lone.add(&mut seen, order);
         }
-        twins
+        lone
     }
 
     /// Leaves out a gate that doesn't stand alone.
@@ -166,17 +166,17 @@ impl Twins {
     }
 
     /// The orders of a market's lone gates.
-    pub(crate) fn of(market: &Market) -> Twins
+    fn of(market: &Market) -> Lone
         requires { IsValid market.now }
-        ensures { IsTwinsOf market.now result }
+        ensures { IsLoneOf market.now result }
     {
-        let mut twins = Twins::among(market.orders.as_slice());
-        twins.keep_alone(market.gates.as_slice());
-        twins
+        let mut lone = Lone::among(market.orders.as_slice());
+        lone.keep_alone(market.gates.as_slice());
+        lone
     }
 
     /// Whether a gate is a twin of another and ranks before it.
-    pub(crate) fn outranks(&self, gate: u32, other: u32) -> bool
+    fn outranks(&self, gate: u32, other: u32) -> bool
         requires gate { gate < MOST_GATES }
         requires other { other < MOST_GATES }
         ensures { result ≡ outranks_in self.now gate other }
@@ -187,5 +187,78 @@ impl Twins {
             }
             _ => false,
         }
+    }
+
+    /// Marks two gates, if they are twins.
+    fn mark_pair(&self, twinned: &mut Marks, gate: u32, other: u32)
+        requires gate { gate < MOST_GATES }
+        requires other { other < MOST_GATES }
+        ensures kept { (g : ℕ) → opens_in twinned.old g ≡ true → opens_in twinned.new g ≡ true }
+        ensures pair { AreMarked self.now twinned.new gate other }
+    {
+        if self.outranks(gate, other) || self.outranks(other, gate) {
+            twinned.mark(gate);
+            twinned.mark(other);
+        }
+    }
+
+    /// Marks a gate and each up to it of which it is a twin.
+    fn mark_twins(&self, twinned: &mut Marks, gate: u32)
+        requires { gate < MOST_GATES }
+        ensures kept { (g : ℕ) → opens_in twinned.old g ≡ true → opens_in twinned.new g ≡ true }
+        ensures pairs { (h : ℕ) → h ≤ gate → AreMarked self.now twinned.new gate h }
+    {
+        for other in 0..gate + 1 {
+            self.mark_pair(twinned, gate, other);
+        }
+    }
+
+    /// Gates among which are all that have a twin.
+    fn twinned(&self, gates: u32) -> Marks
+        requires { gates ≤ MOST_GATES }
+        ensures { (g h : ℕ) → g < gates → h ≤ g → AreMarked self.now result g h }
+    {
+        let mut twinned = Marks::none();
+        for gate in 0..gates {
+            self.mark_twins(&mut twinned, gate);
+        }
+        twinned
+    }
+}
+
+/// Which gates of a market are twins, and which of two ranks before the other.
+#[derive(Drop)]
+pub struct Twins {
+    /// The orders of lone gates.
+    lone: Lone,
+    /// Gates among which are all that have a twin.
+    twinned: Marks,
+}
+
+impl Twins {
+    /// The twins of a market.
+    pub(crate) fn of(market: &Market) -> Twins
+        requires { IsValid market.now }
+        ensures { IsTwinsOf market.now result }
+    {
+        let lone = Lone::of(market);
+        let twinned = lone.twinned(market.gates.as_slice().len() as u32);
+        Twins { lone, twinned }
+    }
+
+    /// Whether a gate may have a twin; one for which it says no has none.
+    pub(crate) fn may_have(&self, gate: u32) -> bool
+        ensures { result ≡ opens_in self.now.twinned gate }
+    {
+        self.twinned.has(gate)
+    }
+
+    /// Whether a gate is a twin of another and ranks before it.
+    pub(crate) fn outranks(&self, gate: u32, other: u32) -> bool
+        requires gate { gate < MOST_GATES }
+        requires other { other < MOST_GATES }
+        ensures { result ≡ outranks_in self.now.lone gate other }
+    {
+        self.lone.outranks(gate, other)
     }
 }

@@ -1,5 +1,5 @@
 use Rattle.mari_reach.proofs.LoneTables.{seen_step, sole_step}
-use Rattle.mari_reach.proofs.ranks.Twins.among.Goals as goal
+use Rattle.mari_reach.proofs.ranks.Lone.among.Goals as goal
 
 pub loop-order-preserved : goal.loop-order-preserved
 loop-order-preserved c = record {

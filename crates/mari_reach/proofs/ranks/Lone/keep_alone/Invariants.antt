@@ -1,7 +1,7 @@
 use Rattle.std.proofs.Common.{◌≡◌, ◌<◌, ◌≤◌, if◌then◌else◌, ℕ, None}
 use Rattle.mari_reach.specs.Tables.{lone_in}
 use Rattle.mari_reach.specs.Twins.{stands_alone}
-use Rattle.mari_reach.proofs.ranks.Twins.keep_alone.Given as goal
+use Rattle.mari_reach.proofs.ranks.Lone.keep_alone.Given as goal
 
 abbrev pub invariant-loop-gate : goal.invariant-loop-gate
 invariant-loop-gate l = record {

@@ -124,3 +124,7 @@ gates_more t old new i kept done here g h l s = elim (cases_lt g i) [
 pub stays : (old b : Bool) → b ≡ false → old ≡ (old || b)
 stays true b e = refl
 stays false b e = sym e
+
+-- where every gate is marked, so is each of two
+pub all_marked : (m : Market) (t : Lone) (marks : Marks) → length m.gates ≤ 512 → ((g : ℕ) → g < 512 → opens_in marks g ≡ true) → (g h : ℕ) → g < length m.gates → h ≤ g → AreMarked t marks g h
+all_marked m t marks few all g h l s e = both_true (opens_in marks g) (opens_in marks h) (all g (omega (arith, l, few))) (all h (omega (arith, l, few, s)))

@@ -1,6 +1,6 @@
 //! Marks of gates.
 
-ghost use Rattle.std.specs.Prelude.{◌≡◌, ◌==◌, ◌&&◌, ◌||◌, ◌<◌, ◌≤◌, ℕ, false, length};
+ghost use Rattle.std.specs.Prelude.{◌≡◌, ◌==◌, ◌&&◌, ◌||◌, ◌<◌, ◌≤◌, ℕ, false, length, true};
 ghost use Rattle.std.specs.List.{list_any};
 ghost use Rattle.mari_market.specs.Gates.{ParentsEarlier};
 ghost use Rattle.mari_market.specs.Prefix.{opens_in};
@@ -31,6 +31,15 @@ impl Marks {
     {
         Marks {
             marks: [false; MOST_GATES],
+        }
+    }
+
+    /// Every gate marked.
+    pub(crate) fn all() -> Marks
+        ensures { (g : ℕ) → g < MOST_GATES → opens_in result g ≡ true }
+    {
+        Marks {
+            marks: [true; MOST_GATES],
         }
     }
 

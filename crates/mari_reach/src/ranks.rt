@@ -246,6 +246,17 @@ impl Twins {
         Twins { lone, twinned }
     }
 
+    /// The same without a look at each pair of gates, for a few states: any gate may have a twin.
+    pub(crate) fn at_once(market: &Market) -> Twins
+        requires { IsValid market.now }
+        ensures { IsTwinsOf market.now result }
+    {
+        Twins {
+            lone: Lone::of(market),
+            twinned: Marks::all(),
+        }
+    }
+
     /// Whether a gate may have a twin; one for which it says no has none.
     pub(crate) fn may_have(&self, gate: u32) -> bool
         ensures { result ≡ opens_in self.now.twinned gate }

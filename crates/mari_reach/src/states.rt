@@ -61,7 +61,7 @@ pub fn state_of(market: &Market, decisions: &[Decision]) -> State
     requires decisions { AreDecisions market.now decisions.now }
     ensures { IsStateOf market.now decisions.now result }
 {
-    let twins = Twins::of(market);
+    let twins = Twins::at_once(market);
     state_by(market, market.orders.as_slice(), &twins, decisions)
 }
 

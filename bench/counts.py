@@ -1,22 +1,24 @@
 #!/usr/bin/env python3
 """Counts of instructions, by valgrind: of a node, of a run without gates, of reading, and of a line of a text.
 
-usage: python3 bench/counts.py [PROGRAM] [--nodes] [--gateless] [--growth] [--run] [--reading]
+usage: python3 bench/counts.py [PROGRAM] [--nodes] [--gateless] [--measures]
 
 PROGRAM is the built program, by default crates/mari_app/out/mari_app. On Debian the others come by
     apt-get update; apt-get install -y liblemon-dev g++ valgrind
-Without options it makes all tables. A count is the same for the same program and folder, whatever else the machine does.
-It is no test: nothing fails where a count is high. Of a copy by `rep movsb`, which is one instruction, valgrind counts each
-byte, so all programs are counted with the C library's copies by 32 bytes at a time.
+Without options it makes all tables; --measures (of reading, of a plain run, of growth) needs valgrind alone. A count is the
+same for the same program and folder, whatever else the machine does. It is no test: nothing fails where a count is high. Of
+a copy by `rep movsb`, which is one instruction, valgrind counts each byte, so all programs are counted with the C library's
+copies by 32 bytes at a time.
 
 A node of ours is one examination from the root (`Root::examine_in`) with all that it calls, the mean of all that the search
 makes; LEMON's is its search less its reading, by the nodes that it solves. Of a run without gates ours are the solver and
-the price test of all examinations (one, since the closed prefix is the root there; up to 30 November 2026 12:00 the
-program made two), and LEMON's its program less its reading. A run by itself is the command on a folder with the run,
+the price test of all examinations (one, since the closed prefix is the root there), and LEMON's its program less its
+reading. A run by itself is the command on a folder with the run,
 less that on the same folder without.
 """
 
 import argparse
+import functools
 import math
 import os
 import random
@@ -38,8 +40,13 @@ class Counter:
 
     def __init__(self, scratch, program):
         self.scratch, self.mari = scratch, program
-        self.lemon = os.path.join(scratch, "lemon")
-        subprocess.run(["g++", "-std=c++20", "-O2", "-march=x86-64-v3", "-o", self.lemon, HERE / "lemon.cpp"], check=True)
+
+    @functools.cached_property
+    def lemon(self):
+        """LEMON's program, built where it is asked for."""
+        path = os.path.join(self.scratch, "lemon")
+        subprocess.run(["g++", "-std=c++20", "-O2", "-march=x86-64-v3", "-o", path, HERE / "lemon.cpp"], check=True)
+        return path
 
     def folder(self, pages):
         path = tempfile.mkdtemp(dir=self.scratch)
@@ -68,7 +75,7 @@ class Counter:
 
 
 def nodes(counter):
-    print(field.header("market", "examinations", "instructions of each", "LEMON's node", "ratio"))
+    print(field.header("a node, mean of all examinations", "mari", "LEMON's", "ratio"))
     for name, shape in NODES.items():
         folder = counter.folder(folders.market(**shape))
         _, _, profile = counter.clear(folder, "--nodes", "50000")
@@ -77,7 +84,7 @@ def nodes(counter):
         whole, text, _ = counter.count([counter.lemon, folder])
         read, _, _ = counter.count([counter.lemon, "--read", folder])
         theirs = (whole - read) / int(re.search(r"nodes (\d+)", text).group(1))
-        print(field.row(name, calls, f"{ours:,.0f}", f"{theirs:,.0f}", f"{ours / theirs:.3f}"), flush=True)
+        print(field.row(name, f"{ours:,.0f}", f"{theirs:,.0f}", f"{ours / theirs:.3f}"), flush=True)
 
 
 def narrower(pages, part):
@@ -87,7 +94,7 @@ def narrower(pages, part):
 
 
 def gateless(counter):
-    print(field.header("market", "borders as made", "a tenth", "nothing"))
+    print(field.header("a run without gates, of LEMON's", "borders as made", "a tenth", "nothing"))
     for name, shape in field.GATELESS.items():
         cells = []
         for part in (1, 0.1, 0):
@@ -96,7 +103,7 @@ def gateless(counter):
             ours = sum(counter.of_function(profile, name)[0] for name in ("mari_paths::optimum::optimum_from", "mari_node::node::finding_by"))
             solved, _, _ = counter.count([counter.lemon, "--relaxed", folder])
             read, _, _ = counter.count([counter.lemon, "--read", folder])
-            cells.append(f"{ours:,.0f} of {solved - read:,}: {ours / (solved - read):.2f}")
+            cells.append(f"{ours / (solved - read):.2f}")
         print(field.row(name, *cells), flush=True)
 
 
@@ -121,16 +128,15 @@ def without_run(pages):
 
 
 def growth(counter):
-    print(field.header("bids in two zones that can't trade", "instructions of the run", "growth since half as many"))
-    last = None
-    for bids in (1024, 2048, 4096):
+    alone = []
+    for bids in (2048, 4096):
         pages = apart(bids)
-        alone = counter.clear(counter.folder(pages))[0] - counter.clear(counter.folder(without_run(pages)))[0]
-        print(field.row(f"{bids:,}", f"{alone:,}", "" if last is None else f"{math.log2(alone / last):.2f}"), flush=True)
-        last = alone
+        alone.append(counter.clear(counter.folder(pages))[0] - counter.clear(counter.folder(without_run(pages)))[0])
+    return f"{math.log2(alone[1] / alone[0]):.2f}"
 
 
 def run(counter):
+    """A plain run of 4,096 bids over eight zones: what `clear` takes above its pages, and `check` a line of the text."""
     pages = folders.market(bids=4096)
     counts, lines = [], []
     for given in (pages, without_run(pages)):
@@ -142,8 +148,7 @@ def run(counter):
         counts.append((cleared, checked))
         lines.append(text.count("\n"))
     cleared, checked = (counts[0][part] - counts[1][part] for part in (0, 1))
-    print(f"A plain run of 4,096 bids over eight zones, above its pages: `clear` {cleared:,}; `check` {checked:,}, "
-          f"{checked / (lines[0] - lines[1]):.0f} a line of its text.")
+    return f"{cleared / 1e6:.2f}", f"{checked / (lines[0] - lines[1]):.0f}"
 
 
 def reading(counter):
@@ -154,10 +159,19 @@ def reading(counter):
             price = folders.euro(3000 + place % 9000)
             pages["bids.csv"].append((f"q{quarter}b{place}", f"P{place % 10}", f"Z{place % 8}", quarter, "up", price, 0, 5 + place % 46, "both"))
     whole, _, _ = counter.clear(counter.folder(pages))
-    print(f"Reading 40,960 bids: {(whole - none) / 40960:,.0f} instructions a bid.")
+    return f"{(whole - none) / 40960:,.0f}"
 
 
-TABLES = {"nodes": nodes, "gateless": gateless, "growth": growth, "run": run, "reading": reading}
+def measures(counter):
+    print(field.header("measure", ""))
+    print(field.row("reading 40,960 bids, instructions a bid", reading(counter)), flush=True)
+    cleared, checked = run(counter)
+    print(field.row("a plain run of 4,096 bids, `clear` above its pages, million", cleared))
+    print(field.row("its `check` above its pages, instructions a line of the text", checked), flush=True)
+    print(field.row("growth of a run of two large zones that can't trade, from 2,048 to 4,096 bids, as the exponent of its bids", growth(counter)))
+
+
+TABLES = {"nodes": nodes, "gateless": gateless, "measures": measures}
 
 
 def main():

@@ -1,14 +1,14 @@
 #!/usr/bin/env python3
 """`mari clear` beside the solvers of the field, on the same folders, and the table of the speed goals.
 
-usage: python3 bench/field.py [PROGRAM] [--repeats N] [--seconds N] [--without-solvers]
+usage: python3 bench/field.py [PROGRAM] [--repeats N] [--seconds N] [--without-solvers] [--only gated|gateless]
 
 PROGRAM is the built program, by default crates/mari_app/out/mari_app. On Debian the others come by
     apt-get update; apt-get install -y liblemon-dev g++ coinor-cbc glpk-utils lp-solve python3-scipy valgrind
 bench/lemon.cpp is built first, and a solver that isn't installed is left out; without valgrind so are the counts of
 instructions. The commands run one after the other, one thread each, and the least processor time of the repeats is
-printed. A solver has the seconds for each run, 20 without the option; a dash says that it didn't end. It is no test:
-nothing fails where a machine is slow, but an answer that differs stops it.
+printed. A solver has the seconds for each run, 20 without the option; a dash says that it didn't end. With --only it makes
+that table alone. It is no test: nothing fails where a machine is slow, but an answer that differs stops it.
 """
 
 import argparse
@@ -221,10 +221,14 @@ def main():
     parser.add_argument("--repeats", type=int, default=5)
     parser.add_argument("--seconds", type=int, default=20)
     parser.add_argument("--without-solvers", action="store_true")
+    parser.add_argument("--only", choices=("gated", "gateless"))
     words = parser.parse_args()
     print(clock.machine(), "\n")
     with tempfile.TemporaryDirectory() as scratch:
         bench = Bench(scratch, words)
+        if words.only:
+            {"gated": gated, "gateless": gateless}[words.only](bench)
+            return
         ratios = gated(bench)
         print()
         gateless(bench)

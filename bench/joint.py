@@ -11,7 +11,7 @@ and 512 demands. It is measured
 - the same where all but four gated bids of each quarter are too dear to run, so that the search ends within NODES;
 - with 64 blocks of four bids, one of each quarter, and 448 gated bids in none.
 
-For each it prints what is answered, the processor seconds within one node, which are those of reading the folder and
+For each it prints the items of the tree, the processor seconds within one node, which are those of reading the folder and
 making the market, and those within NODES, by one worker, and peak memory; and whether both forms of a market come to
 the same welfare and bids, where both are published. It is no test: nothing fails where a machine is slow or busy. It
 ends with 1 where two forms differ, or aren't both published.
@@ -92,9 +92,8 @@ def measure(name, program, words, nodes):
     command = [program, *words, "--workers", "1", "--nodes"]
     made, whole = (clock.least_of(5, [*command, str(budget)], statuses=(0, 1)) for budget in (1, nodes))
     text = printed([*command, str(nodes)])
-    line = next(line for line in text.splitlines() if line.startswith(("run ", "blocks ")))
-    items = next(iter(re.findall(r"^tree (\d+)$", text, re.M)), "-")
-    print(f"| {name} | {line} | {items} | {made.processor:.4f} | {whole.processor:.3f} | {whole.memory:.0f} |", flush=True)
+    items = next(iter(re.findall(r"^tree (\d+)$", text, re.M)), "unpublished")
+    print(f"| {name} | {items} | {made.processor:.3f} | {whole.processor:.2f} | {whole.memory:.0f} |", flush=True)
     return text
 
 
@@ -112,15 +111,15 @@ def main():
     program = os.path.abspath(sys.argv[1]) if len(sys.argv) > 1 else str(TOP / "crates/mari_app/out/mari_app")
     nodes = int(sys.argv[2]) if len(sys.argv) > 2 else 10_000
     print(clock.machine(), "\n")
-    print(f"| market | answer | items of the tree | within one node, processor s | within {nodes}, processor s | MB |")
-    print("|---|---|---|---|---|---|")
+    print(f"| market | items of the tree | within one node, processor s | within {nodes:,} nodes | MB |")
+    print("|---|---|---|---|---|")
     with tempfile.TemporaryDirectory() as room:
-        both_forms("four quarters, 512 gated bids", program, quarters(128), nodes, room)
+        both_forms("four quarter hours, 512 gated bids", program, quarters(128), nodes, room)
         few = with_dear_gates(quarters(128), 4)
-        first, second = both_forms("four quarters, 16 of 512 gated bids near the margin", program, few, nodes, room)
+        first, second = both_forms("four quarter hours, 16 of 512 gated bids near the margin", program, few, nodes, room)
         tied = quarters(176)
         blocks = write(f"{room}/blocks", tied, blocks_of(tied, 64))
-        measure("four quarters, 64 blocks and 448 gated bids", program, ["blocks", blocks, "1", str(QUARTERS)], nodes)
+        measure("four quarter hours, 64 blocks of four and 448 gated bids", program, ["blocks", blocks, "1", str(QUARTERS)], nodes)
     is_right = first and first == second
     print("\nwelfare and bids of both forms", "agree" if is_right else "differ, or one isn't published")
     return 0 if is_right else 1

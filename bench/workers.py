@@ -1,19 +1,18 @@
 #!/usr/bin/env python3
-"""Wall time of `mari clear` by 1, 2 and 4 workers on a market of some thousand nodes.
+"""Wall time of `mari clear` by 1, 2 and 4 workers on two markets of some thousand nodes.
 
-usage: python3 bench/workers.py [PROGRAM [REPEATS [pairs]]]
+usage: python3 bench/workers.py [PROGRAM [REPEATS]]
 
-PROGRAM is the built program, by default crates/mari_app/out/mari_app. With `pairs` the second gated bid of each zone is
+PROGRAM is the built program, by default crates/mari_app/out/mari_app. In `pairs` the second gated bid of each zone is
 like its first, the fourth like its third and so on: then many activations are as good as the best, the tree is ten
-times as large, and it is cut back and refined twice. It prints a table: for each number of workers the best and the
-median wall time of all repeats, and the ratio of the best to that of one worker. It is no test: nothing fails where a
-machine is slow or busy, and the load average is printed beside the times.
+times as large, and it is cut back and refined twice. It prints a table: for each market the items of its tree, the best
+wall time of all repeats by each number of workers, and the ratios of the best to that of one worker. It is no test:
+nothing fails where a machine is slow or busy. It ends with 1 where two numbers of workers print other trees.
 """
 
-import os
 import pathlib
 import random
-import statistics
+import re
 import subprocess
 import sys
 import tempfile
@@ -27,6 +26,7 @@ ZONES = 8
 GATES = 96
 PLAIN = 500
 NODES = 50_000
+WORKERS = (1, 2, 4)
 
 
 def pages(seed, pairs=False):
@@ -54,34 +54,36 @@ def pages(seed, pairs=False):
 
 
 def clear(program, folder, workers):
-    """The wall time in seconds, and the lines that every number of workers prints alike: the welfare and the size of
-    the tree."""
+    """The wall time in seconds, and what every number of workers prints alike: the welfare and the items of the tree."""
     began = time.perf_counter()
     words = [program, "clear", folder, "--nodes", str(NODES), "--workers", str(workers)]
     done = subprocess.run(words, stdout=subprocess.PIPE, check=False)
     took = time.perf_counter() - began
-    lines = done.stdout.decode().splitlines()
-    said = [line for line in lines if line.startswith(("welfare ", "tree ", "run "))]
-    return took, ", ".join(said)
+    return took, re.findall(r"^(?:welfare|tree) (\d+)$", done.stdout.decode(), re.M)
+
+
+def measure(program, name, pairs, repeats):
+    """Prints the row of a market, and answers whether every call prints the same welfare and tree."""
+    with tempfile.TemporaryDirectory() as folder:
+        folders.write(folder, pages(1, pairs))
+        runs = {workers: [clear(program, folder, workers) for _ in range(repeats)] for workers in WORKERS}
+    best = [min(took for took, _ in runs[workers]) for workers in WORKERS]
+    printed = {tuple(said) for calls in runs.values() for _, said in calls}
+    items = " or ".join(sorted(f"{int(said[1]):,}" for said in printed))
+    cells = [f"{took:.3f}" for took in best] + [f"{took / best[0]:.2f}" for took in best[1:]]
+    print(f"| {name} | {items} | " + " | ".join(cells) + " |", flush=True)
+    return len(printed) == 1
 
 
 def main():
     program = sys.argv[1] if len(sys.argv) > 1 else str(TOP / "crates/mari_app/out/mari_app")
     repeats = int(sys.argv[2]) if len(sys.argv) > 2 else 7
-    pairs = sys.argv[3:] == ["pairs"]
-    with tempfile.TemporaryDirectory() as scratch:
-        folder = os.path.join(scratch, "F")
-        folders.write(folder, pages(1, pairs))
-        print(f"{clock.machine()}, {repeats} repeats\n")
-        print("| workers | best, s | median, s | of one worker | printed |")
-        print("|---|---|---|---|---|")
-        alone = None
-        for workers in (1, 2, 4):
-            runs = [clear(program, folder, workers) for _ in range(repeats)]
-            times = sorted(took for took, _ in runs)
-            alone = alone or times[0]
-            print(f"| {workers} | {times[0]:.3f} | {statistics.median(times):.3f} | {times[0] / alone:.2f} | {runs[0][1]} |")
+    print(f"{clock.machine()}, {repeats} repeats\n")
+    print("| market | items | 1 worker, s | 2 | 4 | 2 of 1 | 4 of 1 |")
+    print("|---|---|---|---|---|---|---|")
+    alike = [measure(program, name, pairs, repeats) for name, pairs in (("96 indivisible bids", False), ("`pairs`", True))]
+    return 0 if all(alike) else 1
 
 
 if __name__ == "__main__":
-    main()
+    sys.exit(main())

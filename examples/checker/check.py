@@ -7,6 +7,9 @@ TEXT is FOLDER/publication.txt where it isn't given. The answer is that of `mari
 exit code 0, or `invalid RUN FAULT` with 7. It is written from docs/RULES.md, docs/PROBLEM.md and docs/FORMATS.md alone,
 on Python's standard library, and shares no code with the program. It tests what a text says and not its form: folders and
 texts that `mari check` refuses may come to any answer here, or end in a traceback.
+
+A text whose first line begins with `mari 2` has certificates of the second form (docs/REACH.md), and its answer is
+`valid FIRST WITHIN`: how many runs have the first activation, and how many one within a gap of the best.
 """
 
 import csv
@@ -80,12 +83,18 @@ class Order:
         self.zone, self.side, self.price = zone, side, price
         self.least, self.greatest, self.gate = least, greatest, gate
 
+    def may_exchange(self, other):
+        """Whether the gates of two orders are twins, where each has no other order, group, parent or child."""
+        are_alike = (self.least, self.greatest, self.price) == (other.least, other.greatest, other.price)
+        are_indivisible = self.least == self.greatest == other.least == other.greatest
+        return (self.zone, self.side) == (other.zone, other.side) and (are_alike or are_indivisible)
+
 
 class Market:
     """The market of a run over what the published blocks before it left."""
 
     def __init__(self, folder, run, earlier):
-        self.zones, self.reference = folder.zones, cents(run["reference"])
+        self.zones, self.reference, self.twins = folder.zones, cents(run["reference"]), None
         number, quarter = int(run["run"]), run["quarter"]
         self.offered = [bid for bid in folder.bids if bid["quarter"] == quarter and is_offered(folder, bid, run, earlier)]
         names = [bid["id"] for bid in self.offered if bid["id"] in folder.gated]
@@ -240,7 +249,7 @@ class Market:
         return len(prefix) == len(self.group) and self.is_conflict(prefix, *fields)
 
     def tree_faults(self, items, word, welfare, budget):
-        """9 where the shape fails anywhere, 10 where a leaf doesn't hold."""
+        """Of the first form: 9 where the shape fails anywhere, 10 where a leaf doesn't hold."""
         waiting, faults = [[]], set()
         for item in items:
             if not waiting:
@@ -258,6 +267,144 @@ class Market:
                 waiting.append(child)
             waiting.append(prefix + [False])
         return {9} if waiting or len(items) > budget else faults
+
+    def better_twins(self, gate):
+        """The twins of a gate that rank before it: a better price or, of the same price, a later place in the file."""
+        if self.twins is None:
+            orders = defaultdict(list)
+            for order in self.orders:
+                orders[order.gate].append(order)
+            is_bound = [group is not None or parent is not None for group, parent in zip(self.group, self.parent)]
+            alone = [it for it, bound in enumerate(is_bound) if not bound and it not in self.parent and len(orders[it]) == 1]
+            ranked = [((order.side * order.price, -it), it, order) for it in alone for order in orders[it]]
+            self.twins = {it: {other for key, other, twin in ranked if key < rank and order.may_exchange(twin)} for rank, it, order in ranked}
+        return self.twins.get(gate, set())
+
+    def reach_faults(self, items, word, cutoff, budget):
+        """The same of the second form."""
+        waiting, faults = [[]], set()
+        for kind, *fields in items:
+            if not waiting:
+                return {9}
+            decisions = waiting.pop()
+            state = State(self, decisions)
+            if kind not in ("branch", "price"):
+                if not state.leaf_holds(kind, fields, word, cutoff):
+                    faults.add(10)
+                continue
+            decided = state.gate_of(*fields) if kind == "branch" else state.price_of(*fields)
+            if state.is_void or decided is None:
+                return {9}
+            waiting += [[*decisions, (*decided, True)], [*decisions, (*decided, False)]]
+        return {9} if waiting or len(items) > budget else faults
+
+
+class State:
+    """What decisions leave to the gates, the prices, the orders and the borders of a market, in the second form.
+
+    A decision is `("gate", gate, whether it is open)` or `("price", zone, price, whether the zone's price is above it)`.
+    """
+
+    def __init__(self, market, decisions):
+        self.market = market
+        self.open = {gate for kind, gate, *_, is_open in decisions if kind == "gate" and is_open}
+        self.open |= {twin for gate in self.open for twin in market.better_twins(gate)}
+        for _ in market.parent:
+            self.open |= {market.parent[gate] for gate in self.open} - {None}
+        self.low, self.high = self.box(decisions)
+        self.closed = {gate for kind, gate, *_, is_open in decisions if kind == "gate" and not is_open}
+        self.closed |= {gate for gate in range(len(market.group)) if self.has_open_rival(gate)}
+        self.closed |= {order.gate for order in market.orders if self.always_loses(order)} - {None}
+        self.closed |= {gate for gate in range(len(market.group)) if market.better_twins(gate) & self.closed}
+        for _ in market.parent:
+            self.closed |= {gate for gate, parent in enumerate(market.parent) if parent in self.closed}
+        self.is_void = bool(self.open & self.closed) or any(self.low[zone] > self.high[zone] for zone in market.zones)
+
+    def box(self, decisions):
+        """The least and the greatest price of each zone."""
+        low, high = dict.fromkeys(self.market.zones, -CAP), dict.fromkeys(self.market.zones, CAP)
+        for kind, zone, *rest in decisions:
+            if kind == "price":
+                price, is_above = rest
+                if is_above:
+                    low[zone] = max(low[zone], price + 1)
+                else:
+                    high[zone] = min(high[zone], price)
+        for order in self.market.orders:
+            if order.gate in self.open:
+                if order.side > 0:
+                    low[order.zone] = max(low[order.zone], order.price)
+                else:
+                    high[order.zone] = min(high[order.zone], order.price)
+        return low, high
+
+    def has_open_rival(self, gate):
+        group = self.market.group
+        return group[gate] is not None and any(group[other] == group[gate] for other in self.open - {gate})
+
+    def always_gains(self, order):
+        return order.price < self.low[order.zone] if order.side > 0 else order.price > self.high[order.zone]
+
+    def always_loses(self, order):
+        return order.price > self.high[order.zone] if order.side > 0 else order.price < self.low[order.zone]
+
+    def span(self, order):
+        """The bounds of an order."""
+        if order.gate in self.closed or (order.gate is None and self.always_loses(order)):
+            return 0, 0
+        if order.gate is not None and order.gate not in self.open:
+            return 0, order.greatest
+        return order.greatest if self.always_gains(order) else order.least, order.greatest
+
+    def flows(self):
+        """Each border with the bounds of its flow."""
+        for start, end, limit, back in self.market.borders:
+            if self.low[end] > self.high[start]:
+                yield start, end, limit, limit
+            elif self.low[start] > self.high[end]:
+                yield start, end, -back, -back
+            else:
+                yield start, end, -back, limit
+
+    def gate_of(self, bid):
+        """The decision at the gate of a bid, or None where it isn't free."""
+        gates = [order.gate for order, offered in zip(self.market.orders, self.market.offered) if offered["id"] == bid]
+        gate = gates[0] if gates else None
+        return None if gate is None or gate in self.open | self.closed else ("gate", gate)
+
+    def price_of(self, zone, price):
+        """The decision at a price of a zone, or None where it isn't within the box."""
+        is_there = zone in self.low and self.low[zone] <= price < self.high[zone]
+        return ("price", zone, price) if is_there else None
+
+    def leaf_holds(self, kind, fields, word, cutoff):
+        if self.is_void or kind == "none":
+            return self.is_void and kind == "none"
+        if kind == "cut":
+            return "" not in fields[1] and self.is_cut(*fields)
+        return len(fields[0]) == len(self.market.zones) and self.is_bound(fields[0], word, cutoff)
+
+    def is_bound(self, prices, word, cutoff):
+        """Whether the dual value is below the cutoff, or is the cutoff, and no earlier word may have it."""
+        value, gains = 0, defaultdict(int)
+        for order in self.market.orders:
+            term = max(order.side * (prices[order.zone] - order.price) * amount for amount in self.span(order))
+            value, gains[order.gate] = value + term, gains[order.gate] + term
+        value += sum(max((prices[end] - prices[start]) * flow for flow in span) for start, end, *span in self.flows())
+        needed = [gate in self.open or gains[gate] > 0 for gate in range(len(self.market.group))]
+        return value < cutoff or (value == cutoff and needed >= word)
+
+    def is_cut(self, side, zones):
+        least = most = out = into = 0
+        for order in self.market.orders:
+            if order.zone in zones:
+                put = sorted(order.side * amount for amount in self.span(order))
+                least, most = least + put[0], most + put[1]
+        for start, end, low, high in self.flows():
+            if (start in zones) != (end in zones):
+                out += high if start in zones else -low
+                into += -low if start in zones else high
+        return least > out if side == "out" else most < -into
 
 
 def is_offered(folder, bid, run, earlier):
@@ -311,11 +458,13 @@ class Block:
     """A block of the text, as it is printed."""
 
     def __init__(self, heading, lines):
-        self.heading, self.items, self.spent = heading[:3], [], None
+        self.heading, self.items, self.spent, self.gap = heading[:3], [], None, None
         self.zones, self.borders, self.bids, self.demands, self.operators, self.providers = [], [], [], [], [], []
         if heading[3] == "unpublished":
             self.spent = int(heading[4])
             return
+        if heading[3] == "within":
+            self.gap = quarter_cents(heading[4])
         self.welfare = int(next(lines)[1])
         for kind, *fields in lines:
             if kind == "zone":
@@ -350,7 +499,9 @@ def item_of(block, lines):
     if kind == "conflict":
         prices = dict(zip(names, map(cents, next(lines)[1:])))
         return kind, named(fields), prices, [int(flow) for flow in next(lines)[1:]], [int(mw) for mw in next(lines)[1:]]
-    return (kind,)
+    if kind == "price":
+        return kind, fields[0], cents(fields[1])
+    return kind, *fields
 
 
 def ledger(folder, market, block, scheduled):
@@ -372,7 +523,7 @@ def ledger(folder, market, block, scheduled):
     return rents, operators, list(amounts.items())
 
 
-def faults_of(folder, run, market, block, earlier, budget):
+def faults_of(folder, run, market, block, earlier, budget, form):
     """The faults of a block, by their numbers, the least first."""
     if block.heading != [run["run"], run["quarter"], run["kind"]]:
         yield 1
@@ -400,7 +551,12 @@ def faults_of(folder, run, market, block, earlier, budget):
         yield 7
     if market.areas(flows) != {line[0]: line[4] for line in block.zones}:
         yield 8
-    yield from sorted(market.tree_faults(block.items, word, block.welfare, budget))
+    if form == "1":
+        yield from sorted(market.tree_faults(block.items, word, block.welfare, budget))
+    elif block.gap is None:
+        yield from sorted(market.reach_faults(block.items, word, block.welfare, budget))
+    else:
+        yield from sorted(market.reach_faults(block.items, [False] * len(word), block.welfare + block.gap, budget))
     rents, operators, providers = ledger(folder, market, block, earlier.scheduled.get(run["quarter"]) if run["kind"] == "direct" else None)
     if rents != [line[3] for line in block.borders] or operators != block.operators or providers != block.providers:
         yield 11
@@ -416,7 +572,7 @@ def has_totals(folder, earlier, lines):
 def check(folder, text):
     """The answer, as `mari check` prints it."""
     lines = iter([line.split(" ") for line in text.splitlines()])
-    head, earlier, published, unpublished = next(lines), Earlier(), 0, 0
+    head, earlier, first, other = next(lines), Earlier(), 0, 0
     if head[2:4] != [folder.date, str(folder.quarters)]:
         return "invalid 0 1"
     line, number, budget = next(lines), 0, int(head[4])
@@ -424,18 +580,19 @@ def check(folder, text):
         if line[0] != "run":
             return f"invalid {number} 1"
         market, block = Market(folder, run, earlier), Block(line[1:], lines)
-        for fault in faults_of(folder, run, market, block, earlier, budget):
+        for fault in faults_of(folder, run, market, block, earlier, budget, head[1]):
             return f"invalid {number} {fault}"
         if block.spent is None:
             earlier.take(folder, run, market, block)
-        published, unpublished = published + (block.spent is None), unpublished + (block.spent is not None)
+        is_first = block.spent is None and block.gap is None
+        first, other = first + is_first, other + (not is_first)
         line = next(lines)
     if line[0] == "run":
         return f"invalid {number + 1} 1"
     totals = [line, *lines]
     if not has_totals(folder, earlier, totals[:-1]):
         return f"invalid {number} 12"
-    return f"valid {published} {unpublished}"
+    return f"valid {first} {other}"
 
 
 def main(words):

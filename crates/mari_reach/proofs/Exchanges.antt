@@ -65,11 +65,11 @@ and_none false b e = refl
 runs_mw : (q : ℕ) → 0 < q → nat_lt 0 q ≡ true
 runs_mw q l = grind (arith, nat_tests)
 
-gate_is : (g : ℕ) (gate : Option ℕ) → is_gate g gate ≡ true → gate ≡ Some g
+pub gate_is : (g : ℕ) (gate : Option ℕ) → is_gate g gate ≡ true → gate ≡ Some g
 gate_is g None e = absurd (cc)
 gate_is g (Some h) e = let same : h ≡ g = grind (arith, nat_tests) in ap Some same
 
-is_it : (g : ℕ) (gate : Option ℕ) → gate ≡ Some g → is_gate g gate ≡ true
+pub is_it : (g : ℕ) (gate : Option ℕ) → gate ≡ Some g → is_gate g gate ≡ true
 is_it g None e = absurd (cc)
 is_it g (Some h) e = let same : h ≡ g = cc in grind (arith, nat_tests)
 
@@ -263,12 +263,12 @@ full_moved m a us g h i j x = length-set (set a.mw j 0) i (get_or a.mw j 0) ∙ 
 not_its : (k g : ℕ) (gate : Option ℕ) → gate ≡ Some g → k ≢ g → is_gate k gate ≡ false
 not_its k g gate e n = by_test (is_gate k gate) (λ t. absurd (n (some_is g k (sym (gate_is k gate t) ∙ e)))) (λ f. f)
 
-open_others : (m : Market) (a : Activation) (us : List Cents) (g h i j k : ℕ) → Exchange m a us g h i j → k ≢ g → k ≢ h → is_open m (moved a i j) k ≡ is_open m a k
+pub open_others : (m : Market) (a : Activation) (us : List Cents) (g h i j k : ℕ) → Exchange m a us g h i j → k ≢ g → k ≢ h → is_open m (moved a i j) k ≡ is_open m a k
 open_others m a us g h i j k x kg kh =
     off_gate k m.orders (set a.mw j 0) i (get_or a.mw j 0) no_order x.twins.first.place (omega (arith, x.twins.first.place, full m a us g h i j x, length-set a.mw j 0)) (not_its k g (order_at m i).gate x.twins.first.of_it kg)
     ∙ off_gate k m.orders a.mw j 0 no_order x.twins.second.place (omega (arith, x.twins.second.place, full m a us g h i j x)) (not_its k h (order_at m j).gate x.twins.second.of_it kh)
 
-open_first : (m : Market) (a : Activation) (us : List Cents) (g h i j : ℕ) → Exchange m a us g h i j → is_open m (moved a i j) g ≡ true
+pub open_first : (m : Market) (a : Activation) (us : List Cents) (g h i j : ℕ) → Exchange m a us g h i j → is_open m (moved a i j) g ≡ true
 open_first m a us g h i j x =
     runs_at g m.orders (moved a i j).mw i no_order x.twins.first.place (omega (arith, x.twins.first.place, full_moved m a us g h i j x)) (is_it g (order_at m i).gate x.twins.first.of_it)
     (subst (λ (q : ℕ). 0 < q) (sym (at_first m a us g h i j x)) (runs m a us g h i j x))
@@ -280,7 +280,7 @@ no_run b q e = ap (λ (x : ℕ). b && nat_lt 0 x) e ∙ by b
     by true = refl
     by false = refl
 
-shut_second : (m : Market) (a : Activation) (us : List Cents) (g h i j : ℕ) → Exchange m a us g h i j → is_open m (moved a i j) h ≡ false
+pub shut_second : (m : Market) (a : Activation) (us : List Cents) (g h i j : ℕ) → Exchange m a us g h i j → is_open m (moved a i j) h ≡ false
 shut_second m a us g h i j x =
     runs_none h m.orders (moved a i j).mw no_order (λ n l s.
     by_test (is_gate h (order_at m n).gate)
@@ -405,7 +405,7 @@ moved_before m a us g h i j x l = record {
   opened = opens_map (is_open m a) (length m.gates) h x.twins.second.there ∙ x.opened;
 }
 
-moved_ahead : (m : Market) (a : Activation) (us : List Cents) (g h i j : ℕ) → Exchange m a us g h i j → RanksBefore (order_at m i) g (order_at m j) h → IsAhead m (moved a i j) a
+pub moved_ahead : (m : Market) (a : Activation) (us : List Cents) (g h i j : ℕ) → Exchange m a us g h i j → RanksBefore (order_at m i) g (order_at m j) h → IsAhead m (moved a i j) a
 moved_ahead m a us g h i j x rank =
     let o = order_at m i in
     let y = order_at m j in

@@ -134,7 +134,7 @@ closed_loses m ds a us ps g v r shut =
 -- what reaches the dual value opens each gate that is needed
 needed_is_open : (m : Market) (ds : List Decision) (a : Activation) (us : List Cents) (ps : List Cents) (g : ℕ) → IsValid m → IsReached m ds a us → dual_of m ds ps ≤ℤ welfare_of m a
     → is_needed m ds ps g ≡ true → is_open m a g ≡ true
-needed_is_open m ds a us ps g v r top e = elim (or_either (opens m.gates ds g) (lt_z (pos 0) (gain_of (bounds_in m ds) m ps g)) e) [
+needed_is_open m ds a us ps g v r top e = elim (or_either (opens m ds g) (lt_z (pos 0) (gain_of (bounds_in m ds) m ps g)) e) [
   | inl said ↦ all_opened m ds a us r g said
   | inr gains ↦ by_test (is_open m a g) (λ o. o)
       (λ shut. absurd (omega (arith, ints, closed_loses m ds a us ps g v r shut, less (pos 0) (gain_of (bounds_in m ds) m ps g) gains, top)))

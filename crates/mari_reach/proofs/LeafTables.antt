@@ -139,7 +139,7 @@ same_gained h f g ps zones gates (o ∷ os) e v =
 same_needed : (m : Market) (ds : List Decision) (r : State) (ps : List Cents) (g : ℕ) → IsValid m → IsStateOf m ds r → g < length m.gates → is_needed_in m r ps g ≡ is_needed m ds ps g
 same_needed m ds r ps g v h l =
     ap (λ (b : Bool). b || lt_z (pos 0) (gain_of (span_in r) m ps g)) (h.opened g l)
-    ∙ ap (λ (x : ℤ). opens m.gates ds g || lt_z (pos 0) x) (same_gained g (span_in r) (bounds_in m ds) ps m.zones (length m.gates) m.orders (λ o k. same_span m ds r o h k) v.orders)
+    ∙ ap (λ (x : ℤ). opens m ds g || lt_z (pos 0) x) (same_gained g (span_in r) (bounds_in m ds) ps m.zones (length m.gates) m.orders (λ o k. same_span m ds r o h k) v.orders)
 
 same_word : (m : Market) (ds : List Decision) (r : State) (ps : List Cents) → IsValid m → IsStateOf m ds r → needed_in m r ps ≡ needed_word m ds ps
 same_word m ds r ps v h = same_map (is_needed_in m r ps) (is_needed m ds ps) (length m.gates) (λ g l. same_needed m ds r ps g v h l)

@@ -7,7 +7,9 @@ pub mod StateTables
 pub mod LeafTables
 pub mod TreeWalk
 pub mod Exchanges
+pub mod Repeated
 pub mod Needs
 pub mod RootLaws
 pub mod GateOrders
+pub mod LoneTables
 pub mod Plain

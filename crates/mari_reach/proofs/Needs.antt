@@ -52,19 +52,19 @@ or_later false b e = e
 -- where the dual value is the cutoff, the gates that are needed are those that the state opens, and the free ones without
 -- whose gain the dual value is below the cutoff
 pub needed_is : (m : Market) (w : ℤ) (ds : List Decision) (ps : List Cents) (g : ℕ) → dual_of m ds ps ≡ w
-    → (is_needed m ds ps g ≡ true) ↔ ((opens m.gates ds g ≡ true) ⊎ ((state_at m ds g ≡ Free) × ((dual_of m ds ps -ℤ gain_of (bounds_in m ds) m ps g) ≤ℤ (w -ℤ pos 1))))
+    → (is_needed m ds ps g ≡ true) ↔ ((opens m ds g ≡ true) ⊎ ((state_at m ds g ≡ Free) × ((dual_of m ds ps -ℤ gain_of (bounds_in m ds) m ps g) ≤ℤ (w -ℤ pos 1))))
 needed_is m w ds ps g top = (
-  λ e. elim (or_either (opens m.gates ds g) (lt_z (pos 0) (gain_of (bounds_in m ds) m ps g)) e) [
+  λ e. elim (or_either (opens m ds g) (lt_z (pos 0) (gain_of (bounds_in m ds) m ps g)) e) [
     | inl said ↦ inl said
-    | inr gain ↦ by_test (opens m.gates ds g) (λ said. inl said) (λ isnt. inr (free isnt (less (pos 0) (gain_of (bounds_in m ds) m ps g) gain), omega (arith, ints, less (pos 0) (gain_of (bounds_in m ds) m ps g) gain, top)))
+    | inr gain ↦ by_test (opens m ds g) (λ said. inl said) (λ isnt. inr (free isnt (less (pos 0) (gain_of (bounds_in m ds) m ps g) gain), omega (arith, ints, less (pos 0) (gain_of (bounds_in m ds) m ps g) gain, top)))
   ],
   λ h. elim h [
-    | inl said ↦ or_first (opens m.gates ds g) (lt_z (pos 0) (gain_of (bounds_in m ds) m ps g)) said
-    | inr two ↦ let below = two.1 in or_later (opens m.gates ds g) (lt_z (pos 0) (gain_of (bounds_in m ds) m ps g)) (is_less (pos 0) (gain_of (bounds_in m ds) m ps g) (omega (arith, ints, below, top)))
+    | inl said ↦ or_first (opens m ds g) (lt_z (pos 0) (gain_of (bounds_in m ds) m ps g)) said
+    | inr two ↦ let below = two.1 in or_later (opens m ds g) (lt_z (pos 0) (gain_of (bounds_in m ds) m ps g)) (is_less (pos 0) (gain_of (bounds_in m ds) m ps g) (omega (arith, ints, below, top)))
   ],
 )
   where
-    free : opens m.gates ds g ≡ false → pos 0 <ℤ gain_of (bounds_in m ds) m ps g → state_at m ds g ≡ Free
+    free : opens m ds g ≡ false → pos 0 <ℤ gain_of (bounds_in m ds) m ps g → state_at m ds g ≡ Free
     free isnt gain = by_test (shuts m ds g)
         (λ shut. absurd (omega (arith, ints, gain, closed_gains m ds ps g m.orders (ap (λ (b : Bool). state_by b (shuts m ds g)) isnt ∙ ap (state_by false) shut))))
         (λ open_there. ap (λ (b : Bool). state_by b (shuts m ds g)) isnt ∙ ap (state_by false) open_there)

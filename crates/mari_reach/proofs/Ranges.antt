@@ -1,6 +1,7 @@
 -- Tests and greatest numbers, item by item.
-use Rattle.std.proofs.Common.{◌≡◌, ◌&&◌, ◌||◌, Bool, true, false, ℕ, zero, suc, ◌+◌, ◌<◌, ◌≤◌, ℤ, pos, ◌≤ℤ◌, List, [], ◌∷◌, length, map, take, get_or, arith, refl, sym, ap, ◌∙◌, subst, inl, inr, zero-add}
+use Rattle.std.proofs.Common.{◌≡◌, ◌==◌, ◌&&◌, ◌||◌, Bool, true, false, ℕ, zero, suc, ◌+◌, ◌<◌, ◌≤◌, ℤ, pos, ◌≤ℤ◌, List, [], ◌∷◌, length, map, take, get_or, arith, refl, sym, ap, ◌∙◌, subst, inl, inr, zero-add}
 use Rattle.std.proofs.lemmas.Bool.{cases_lt}
+use Rattle.std.proofs.lemmas.Bool.Decides.{nat_tests}
 use Rattle.std.proofs.lemmas.Int.{ints, clamps}
 use Rattle.std.specs.Int.{int_max, int_min}
 use Rattle.std.proofs.lemmas.List.{get_or-replicate, get_or_past}
@@ -10,6 +11,7 @@ use Rattle.std.proofs.lemmas.List.Folds.{list_any-append, list_any_at, list_any_
 use Rattle.std.specs.List.{fold, list_any, range_with_len}
 use Rattle.mari_units.proofs.Lists.{range_more}
 use Rattle.mari_market.specs.Sums.{int_at}
+use Rattle.mari_market.proofs.Lists.{by_test}
 
 -- no number below n passes a test
 pub none_in_range : (test : ℕ → Bool) (n : ℕ) → ((h : ℕ) → h < n → test h ≡ false) → list_any test (range_with_len 0 n) ≡ false
@@ -92,3 +94,29 @@ marked_more i test was old new done left here others g l = elim (cases_lt g i) [
 pub both_true : (a b : Bool) → a ≡ true → b ≡ true → (a && b) ≡ true
 both_true true b e h = h
 both_true false b e h = absurd (cc)
+
+-- ---- marks that are set number by number
+
+mark_here : (b was : Bool) (i : ℕ) → (was || (b && (i == i))) ≡ (was || b)
+mark_here true was i = let same : (i == i) ≡ true = grind (arith, nat_tests) in ap (λ (c : Bool). was || c) same
+mark_here false was i = refl
+
+mark_there : (b was : Bool) (i g : ℕ) → (i ≡ g → ⊥) → (was || (b && (i == g))) ≡ was
+mark_there b was i g apart = by (i == g) (by_test (i == g) (λ e. absurd (apart (grind (arith, nat_tests)))) (λ e. e)) b was
+  where
+    by : (same : Bool) → same ≡ false → (c d : Bool) → (d || (c && same)) ≡ d
+    by true e c d = absurd (cc)
+    by false e true true = refl
+    by false e true false = refl
+    by false e false true = refl
+    by false e false false = refl
+
+-- one number more that a loop tests and marks, and those left
+pub marked_to : (i : ℕ) (answer : Bool) (test was old new : ℕ → Bool) → answer ≡ test i → ((g : ℕ) → g < i → old g ≡ (was g || test g)) → ((g : ℕ) → i ≤ g → old g ≡ was g)
+    → ((g : ℕ) → new g ≡ (old g || (answer && (i == g)))) → (g : ℕ) → g < i + 1 → new g ≡ (was g || test g)
+marked_to i answer test was old new e done left step g l =
+    marked_more i test was old new done left (step i ∙ mark_here answer (old i) i ∙ ap (λ (b : Bool). old i || b) e) (λ h apart. step h ∙ mark_there answer (old h) i h (λ f. apart (sym f))) g l
+
+pub marked_from : (i : ℕ) (answer : Bool) (was old new : ℕ → Bool) → ((g : ℕ) → i ≤ g → old g ≡ was g)
+    → ((g : ℕ) → new g ≡ (old g || (answer && (i == g)))) → (g : ℕ) → i + 1 ≤ g → new g ≡ was g
+marked_from i answer was old new left step g l = step g ∙ mark_there answer (old g) i g (λ e. omega (arith, e, l)) ∙ left g (omega (arith, l))

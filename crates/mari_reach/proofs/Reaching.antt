@@ -30,6 +30,7 @@ use Rattle.mari_reach.specs.declared.decisions.Decision.{Decision}
 use Rattle.mari_reach.specs.declared.decisions.Decision.TheVariants.{Above, AtMost, Gate}
 use Rattle.mari_market.specs.Flows.{IsFlowWithin}
 use Rattle.mari_market.specs.Relaxation.{IsWithinSpans}
+use Rattle.mari_reach.specs.Twins.{outranks, KeepsRank}
 use Rattle.mari_reach.specs.State.{line_from, line_of, opens_by, opens, closes_by, closes, is_one_group, are_rivals, has_rival, is_opened, floor_of, ceiling_of, floor_at, ceiling_at, floor_said, ceiling_said, low_said, high_said, low_of, high_of, gains_within, loses_within, gains, loses, has_loss, is_shut, shuts, state_by, plain_span, gate_span, reached_span, bounds_in, border_span, rises, falls, flows_in, IsVoid, IsReached, Obeys, Agree}
 
 -- ---- tests of lists
@@ -39,7 +40,7 @@ or_either true b e = inl refl
 or_either false b e = inr e
 
 -- an item that passes a test gives what each such item gives
-any_gives : {X R : Type 0} (test : X → Bool) (xs : List X) → list_any test xs ≡ true → ((x : X) → test x ≡ true → R) → R
+pub any_gives : {X R : Type 0} (test : X → Bool) (xs : List X) → list_any test xs ≡ true → ((x : X) → test x ≡ true → R) → R
 any_gives test [] e k = absurd (cc)
 any_gives test (x ∷ xs) e k = elim (or_either (test x) (list_any test xs) e) [ inl h ↦ k x h | inr h ↦ any_gives test xs h k ]
 
@@ -79,16 +80,19 @@ line_of_open gates on test g rules o e k = line_gives (length gates) gates on te
 
 -- ---- what is opened
 
-opened_by_one : (gates : List GateInfo) (on : ℕ → Bool) (us : List Cents) (g : ℕ) (d : Decision) → KeepsGateRules gates on → Obeys on us d → opens_by gates g d ≡ true → on g ≡ true
-opened_by_one gates on us g (Gate h b) rules is e =
-    let both = and_parts b (list_any (λ k. k == g) (line_of gates h)) e in
-    line_of_open gates on (λ k. k == g) h rules (is ∙ both.0) both.1 (λ k o same. ap on (sym (same_number k g same)) ∙ o)
-opened_by_one gates on us g (AtMost z p) rules is e = absurd (cc)
-opened_by_one gates on us g (Above z p) rules is e = absurd (cc)
+opened_by_one : (m : Market) (on : ℕ → Bool) (us : List Cents) (g : ℕ) (d : Decision) → KeepsGateRules m.gates on → KeepsRank m on → Obeys on us d → opens_by m g d ≡ true → on g ≡ true
+opened_by_one m on us g (Gate h b) rules ranked is e =
+    let both = and_parts b (list_any (λ k. k == g) (line_of m.gates h) || outranks m g h) e in
+    elim (or_either (list_any (λ k. k == g) (line_of m.gates h)) (outranks m g h) both.1) [
+      | inl above ↦ line_of_open m.gates on (λ k. k == g) h rules (is ∙ both.0) above (λ k o same. ap on (sym (same_number k g same)) ∙ o)
+      | inr better ↦ ranked g h better (is ∙ both.0)
+    ]
+opened_by_one m on us g (AtMost z p) rules ranked is e = absurd (cc)
+opened_by_one m on us g (Above z p) rules ranked is e = absurd (cc)
 
 -- what the state opens is open
-pub opened_is_open : (gates : List GateInfo) (ds : List Decision) (on : ℕ → Bool) (us : List Cents) (g : ℕ) → KeepsGateRules gates on → Agree ds on us → opens gates ds g ≡ true → on g ≡ true
-opened_is_open gates ds on us g rules agree e = any_of_all (Obeys on us) (opens_by gates g) ds agree e (λ d is test. opened_by_one gates on us g d rules is test)
+pub opened_is_open : (m : Market) (ds : List Decision) (on : ℕ → Bool) (us : List Cents) (g : ℕ) → KeepsGateRules m.gates on → KeepsRank m on → Agree ds on us → opens m ds g ≡ true → on g ≡ true
+opened_is_open m ds on us g rules ranked agree e = any_of_all (Obeys on us) (opens_by m g) ds agree e (λ d is test. opened_by_one m on us g d rules ranked is test)
 
 -- ---- the box
 
@@ -148,8 +152,8 @@ high_kept on own us z a (o ∷ os) (q ∷ qs) k price h l =
     least : (x y p : ℤ) → p ≤ℤ x → p ≤ℤ y → p ≤ℤ int_min x y
     least x y p h k = omega (arith, ints, clamps)
 
-pub all_opened : (m : Market) (ds : List Decision) (a : Activation) (us : List Cents) → IsReached m ds a us → (g : ℕ) → opens m.gates ds g ≡ true → is_open m a g ≡ true
-all_opened m ds a us h g e = opened_is_open m.gates ds (is_open m a) us g h.feasible.gates h.agree e
+pub all_opened : (m : Market) (ds : List Decision) (a : Activation) (us : List Cents) → IsReached m ds a us → (g : ℕ) → opens m ds g ≡ true → is_open m a g ≡ true
+all_opened m ds a us h g e = opened_is_open m ds (is_open m a) us g h.feasible.gates h.ranked h.agree e
 
 -- what decisions of prices leave
 floor_if : (b : Bool) (x p : ℤ) → IsPrice p → (b ≡ true → x <ℤ p) → (if b then x +ℤ pos 1 else neg_ℤ CAP) ≤ℤ p
@@ -196,12 +200,12 @@ high_said_kept ds on us z price agree =
 pub above_low : (m : Market) (ds : List Decision) (a : Activation) (us : List Cents) → IsReached m ds a us → (z : ℕ) → low_of m ds z ≤ℤ price_at us z
 above_low m ds a us h z =
     let price = price_in_cap m us h.consistent.prices z in
-    low_kept (opens m.gates ds) (is_open m a) us z (low_said ds z) m.orders a.mw (all_opened m ds a us h) price h.consistent.orders (low_said_kept ds (is_open m a) us z price h.agree)
+    low_kept (opens m ds) (is_open m a) us z (low_said ds z) m.orders a.mw (all_opened m ds a us h) price h.consistent.orders (low_said_kept ds (is_open m a) us z price h.agree)
 
 pub below_high : (m : Market) (ds : List Decision) (a : Activation) (us : List Cents) → IsReached m ds a us → (z : ℕ) → price_at us z ≤ℤ high_of m ds z
 below_high m ds a us h z =
     let price = price_in_cap m us h.consistent.prices z in
-    high_kept (opens m.gates ds) (is_open m a) us z (high_said ds z) m.orders a.mw (all_opened m ds a us h) price h.consistent.orders (high_said_kept ds (is_open m a) us z price h.agree)
+    high_kept (opens m ds) (is_open m a) us z (high_said ds z) m.orders a.mw (all_opened m ds a us h) price h.consistent.orders (high_said_kept ds (is_open m a) us z price h.agree)
 
 -- ---- orders that always gain or lose
 
@@ -246,14 +250,19 @@ not_false : (b : Bool) → not b ≡ true → b ≡ true → ⊥
 not_false true e h = absurd (cc)
 not_false false e h = absurd (cc)
 
-closed_by_one : (on : ℕ → Bool) (us : List Cents) (g : ℕ) (d : Decision) → Obeys on us d → closes_by g d ≡ true → on g ≡ true → ⊥
-closed_by_one on us g (Gate h b) is e o = let both = and_parts (not b) (h == g) e in not_false b both.0 (sym is ∙ ap on (same_number h g both.1) ∙ o)
-closed_by_one on us g (AtMost z p) is e o = absurd (cc)
-closed_by_one on us g (Above z p) is e o = absurd (cc)
+closed_by_one : (m : Market) (on : ℕ → Bool) (us : List Cents) (g : ℕ) (d : Decision) → KeepsRank m on → Obeys on us d → closes_by m g d ≡ true → on g ≡ true → ⊥
+closed_by_one m on us g (Gate h b) ranked is e o =
+    let both = and_parts (not b) ((h == g) || outranks m h g) e in
+    elim (or_either (h == g) (outranks m h g) both.1) [
+      | inl same ↦ not_false b both.0 (sym is ∙ ap on (same_number h g same) ∙ o)
+      | inr better ↦ not_false b both.0 (sym is ∙ ranked h g better o)
+    ]
+closed_by_one m on us g (AtMost z p) ranked is e o = absurd (cc)
+closed_by_one m on us g (Above z p) ranked is e o = absurd (cc)
 
--- a gate that the state decides as closed isn't open
-closed_decided : (ds : List Decision) (on : ℕ → Bool) (us : List Cents) (g : ℕ) → Agree ds on us → closes ds g ≡ true → on g ≡ true → ⊥
-closed_decided ds on us g agree e o = any_of_all (Obeys on us) (closes_by g) ds agree e (λ d is test. closed_by_one on us g d is test o)
+-- a gate that a decision closes isn't open
+closed_decided : (m : Market) (ds : List Decision) (on : ℕ → Bool) (us : List Cents) (g : ℕ) → KeepsRank m on → Agree ds on us → closes m ds g ≡ true → on g ≡ true → ⊥
+closed_decided m ds on us g ranked agree e o = any_of_all (Obeys on us) (closes_by m g) ds agree e (λ d is test. closed_by_one m on us g d ranked is test o)
 
 -- nor is one whose group has another open gate
 closed_by_rival : (gates : List GateInfo) (on own : ℕ → Bool) (g : ℕ) → KeepsGateRules gates own → ((h : ℕ) → on h ≡ true → own h ≡ true) → has_rival gates on g ≡ true → own g ≡ true → ⊥
@@ -276,10 +285,10 @@ closed_by_loss m ds a us h g e o =
     (pays_of_gate (is_open m a) g x.gate x.side x.price.0 (price_at us x.zone) x.greatest q o k both.0))
 
 shut_itself : (m : Market) (ds : List Decision) (a : Activation) (us : List Cents) → IsReached m ds a us → (g : ℕ) → is_shut m ds g ≡ true → is_open m a g ≡ true → ⊥
-shut_itself m ds a us h g e o = elim (or_either (closes ds g) (has_rival m.gates (opens m.gates ds) g || has_loss m ds g) e) [
-  | inl said ↦ closed_decided ds (is_open m a) us g h.agree said o
-  | inr more ↦ elim (or_either (has_rival m.gates (opens m.gates ds) g) (has_loss m ds g) more) [
-    | inl rival ↦ closed_by_rival m.gates (opens m.gates ds) (is_open m a) g h.feasible.gates (all_opened m ds a us h) rival o
+shut_itself m ds a us h g e o = elim (or_either (closes m ds g) (has_rival m.gates (opens m ds) g || has_loss m ds g) e) [
+  | inl said ↦ closed_decided m ds (is_open m a) us g h.ranked h.agree said o
+  | inr more ↦ elim (or_either (has_rival m.gates (opens m ds) g) (has_loss m ds g) more) [
+    | inl rival ↦ closed_by_rival m.gates (opens m ds) (is_open m a) g h.feasible.gates (all_opened m ds a us h) rival o
     | inr loss ↦ closed_by_loss m ds a us h g loss o
   ]
 ]
@@ -349,7 +358,7 @@ within_state m ds a us h =
     (λ o q k w.
     let low = above_low m ds a us h o.zone in
     let high = below_high m ds a us h o.zone in
-    within_reached (is_open m a) (opens m.gates ds) (shuts m ds) (gains m ds o) (loses m ds o) o.gate o.side o.price.0 (price_at us o.zone) o q k w
+    within_reached (is_open m a) (opens m ds) (shuts m ds) (gains m ds o) (loses m ds o) o.gate o.side o.price.0 (price_at us o.zone) o q k w
     (all_opened m ds a us h) (all_shut m ds a us h)
     (λ e. gains_at o.side o.price.0 (low_of m ds o.zone) (high_of m ds o.zone) (price_at us o.zone) low high e)
     (λ e. loses_at o.side o.price.0 (low_of m ds o.zone) (high_of m ds o.zone) (price_at us o.zone) low high e))

@@ -6,7 +6,6 @@ use Rattle.std.specs.Int.{int_max, int_min}
 use Rattle.std.specs.List.{fold}
 use Rattle.mari_units.specs.declared.numbers.Cents.{Cents}
 use Rattle.mari_units.specs.declared.numbers.TheConstants.{CAP}
-use Rattle.mari_market.specs.declared.market.GateInfo.{GateInfo}
 use Rattle.mari_market.specs.declared.market.Order.{Order}
 use Rattle.mari_market.specs.declared.market.Market.{Market}
 use Rattle.mari_market.specs.Market.{IsValid}
@@ -24,33 +23,33 @@ use Rattle.mari_reach.proofs.LeafTables.{same_dual}
 at_most : (v w : ℤ) → v ≡ w → v ≤ℤ w
 at_most v w e = omega (arith, ints, e)
 
-no_gate : (gates : List GateInfo) (gate : Option ℕ) → is_opened (opens gates []) gate ≡ false
-no_gate gates None = refl
-no_gate gates (Some g) = refl
+no_gate : (m : Market) (gate : Option ℕ) → is_opened (opens m []) gate ≡ false
+no_gate m None = refl
+no_gate m (Some g) = refl
 
 and_none : (b c : Bool) → c ≡ false → (b && c) ≡ false
 and_none true c e = e
 and_none false c e = refl
 
-no_floor : (gates : List GateInfo) (z : ℕ) (o : Order) → floor_at (opens gates []) z o ≡ neg_ℤ CAP
-no_floor gates z o = ap (λ (b : Bool). floor_of b o.side o.price.0) (and_none (o.zone == z) (is_opened (opens gates []) o.gate) (no_gate gates o.gate))
+no_floor : (m : Market) (z : ℕ) (o : Order) → floor_at (opens m []) z o ≡ neg_ℤ CAP
+no_floor m z o = ap (λ (b : Bool). floor_of b o.side o.price.0) (and_none (o.zone == z) (is_opened (opens m []) o.gate) (no_gate m o.gate))
 
-no_ceiling : (gates : List GateInfo) (z : ℕ) (o : Order) → ceiling_at (opens gates []) z o ≡ CAP
-no_ceiling gates z o = ap (λ (b : Bool). ceiling_of b o.side o.price.0) (and_none (o.zone == z) (is_opened (opens gates []) o.gate) (no_gate gates o.gate))
+no_ceiling : (m : Market) (z : ℕ) (o : Order) → ceiling_at (opens m []) z o ≡ CAP
+no_ceiling m z o = ap (λ (b : Bool). ceiling_of b o.side o.price.0) (and_none (o.zone == z) (is_opened (opens m []) o.gate) (no_gate m o.gate))
 
-whole_low : (gates : List GateInfo) (z : ℕ) (os : List Order) → fold int_max (neg_ℤ CAP) (map (floor_at (opens gates []) z) os) ≡ neg_ℤ CAP
-whole_low gates z [] = refl
-whole_low gates z (o ∷ os) = ap (λ (x : ℤ). fold int_max (int_max (neg_ℤ CAP) x) (map (floor_at (opens gates []) z) os)) (no_floor gates z o) ∙ whole_low gates z os
+whole_low : (m : Market) (z : ℕ) (os : List Order) → fold int_max (neg_ℤ CAP) (map (floor_at (opens m []) z) os) ≡ neg_ℤ CAP
+whole_low m z [] = refl
+whole_low m z (o ∷ os) = ap (λ (x : ℤ). fold int_max (int_max (neg_ℤ CAP) x) (map (floor_at (opens m []) z) os)) (no_floor m z o) ∙ whole_low m z os
 
-whole_high : (gates : List GateInfo) (z : ℕ) (os : List Order) → fold int_min CAP (map (ceiling_at (opens gates []) z) os) ≡ CAP
-whole_high gates z [] = refl
-whole_high gates z (o ∷ os) = ap (λ (x : ℤ). fold int_min (int_min CAP x) (map (ceiling_at (opens gates []) z) os)) (no_ceiling gates z o) ∙ whole_high gates z os
+whole_high : (m : Market) (z : ℕ) (os : List Order) → fold int_min CAP (map (ceiling_at (opens m []) z) os) ≡ CAP
+whole_high m z [] = refl
+whole_high m z (o ∷ os) = ap (λ (x : ℤ). fold int_min (int_min CAP x) (map (ceiling_at (opens m []) z) os)) (no_ceiling m z o) ∙ whole_high m z os
 
 -- the state without decisions isn't void
 root_is_live : (m : Market) → IsVoid m [] → ⊥
 root_is_live m v = elim v [
   | inl torn ↦ false≢true torn.1.opened
-  | inr zone ↦ let none = zone.1.none in omega (arith, ints, none, whole_low m.gates zone.0 m.orders, whole_high m.gates zone.0 m.orders)
+  | inr zone ↦ let none = zone.1.none in omega (arith, ints, none, whole_low m zone.0 m.orders, whole_high m zone.0 m.orders)
 ]
 
 -- potentials bound the state without decisions at their dual value, for the word that closes every gate

@@ -87,9 +87,9 @@ pub box_is : (m : Market) (ds : List Decision) (marks : Marks) (box : PriceBox) 
     → ((z : ℕ) → z < 64 → int_at box.low z ≡ low_by (opens_in marks) ds os z) → ((z : ℕ) → z < 64 → int_at box.high z ≡ high_by (opens_in marks) ds os z) → HasPrices m ds box
 box_is m ds marks box os v speaks k low high = record {
   low = λ z l. low z (omega (arith, v.zones.1)) ∙ speaks.low (opens_in marks) ds z
-      ∙ same_low (length m.gates) m.zones (opens_in marks) (opens m.gates ds) m.orders z (low_said ds z) v.orders k;
+      ∙ same_low (length m.gates) m.zones (opens_in marks) (opens m ds) m.orders z (low_said ds z) v.orders k;
   high = λ z l. high z (omega (arith, v.zones.1)) ∙ speaks.high (opens_in marks) ds z
-      ∙ same_high (length m.gates) m.zones (opens_in marks) (opens m.gates ds) m.orders z (high_said ds z) v.orders k;
+      ∙ same_high (length m.gates) m.zones (opens_in marks) (opens m ds) m.orders z (high_said ds z) v.orders k;
 }
 
 -- ---- what gains and what loses
@@ -113,19 +113,19 @@ regroup false false false z e = refl
 
 -- what is marked by a decision, by a rival and by a loss is closed itself
 pub shut_is : (m : Market) (ds : List Decision) (marks : Marks) (box : PriceBox) (os : List Order) (gates : List GateInfo) (g : ℕ) (none one two three : Bool)
-    → IsValid m → HasOpened m ds marks → HasPrices m ds box → SpeaksFor m os → gates ≡ m.gates → none ≡ false → one ≡ (none || closes ds g)
+    → IsValid m → HasOpened m ds marks → HasPrices m ds box → SpeaksFor m os → gates ≡ m.gates → none ≡ false → one ≡ (none || closes m ds g)
     → two ≡ (one || has_rival gates (opens_in marks) g) → three ≡ (two || list_any (λ (o : Order). is_gate g o.gate && loses_in box o) os)
     → three ≡ is_shut m ds g
 shut_is m ds marks box os gates g none one two three v k h speaks same_gates n e f d =
     d ∙ ap (λ (b : Bool). b || list_any (λ (o : Order). is_gate g o.gate && loses_in box o) os) (f ∙ ap (λ (b : Bool). b || has_rival gates (opens_in marks) g) e)
-    ∙ regroup none (closes ds g) (has_rival gates (opens_in marks) g) (list_any (λ (o : Order). is_gate g o.gate && loses_in box o) os) n
-    ∙ ap (λ (b : Bool). closes ds g || (b || list_any (λ (o : Order). is_gate g o.gate && loses_in box o) os)) (ap (λ (gs : List GateInfo). has_rival gs (opens_in marks) g) same_gates ∙ same_rival m.gates (opens_in marks) (opens m.gates ds) g k)
-    ∙ ap (λ (b : Bool). closes ds g || (has_rival m.gates (opens m.gates ds) g || b)) (speaks.losses box g ∙ same_loss m ds box g v h)
+    ∙ regroup none (closes m ds g) (has_rival gates (opens_in marks) g) (list_any (λ (o : Order). is_gate g o.gate && loses_in box o) os) n
+    ∙ ap (λ (b : Bool). closes m ds g || (b || list_any (λ (o : Order). is_gate g o.gate && loses_in box o) os)) (ap (λ (gs : List GateInfo). has_rival gs (opens_in marks) g) same_gates ∙ same_rival m.gates (opens_in marks) (opens m ds) g k)
+    ∙ ap (λ (b : Bool). closes m ds g || (has_rival m.gates (opens m ds) g || b)) (speaks.losses box g ∙ same_loss m ds box g v h)
 
 -- ---- bounds
 
 same_state : (m : Market) (ds : List Decision) (r : State) (g : ℕ) → IsStateOf m ds r → g < length m.gates → state_in r g ≡ state_at m ds g
-same_state m ds r g h l = ap (λ (b : Bool). state_by b (opens_in r.shut g)) (h.opened g l) ∙ ap (λ (b : Bool). state_by (opens m.gates ds g) b) (h.shut g l)
+same_state m ds r g h l = ap (λ (b : Bool). state_by b (opens_in r.shut g)) (h.opened g l) ∙ ap (λ (b : Bool). state_by (opens m ds g) b) (h.shut g l)
 
 by_gate : (n : ℕ) (s t : ℕ → GateState) (gaining losing : Bool) (gate : Option ℕ) (least : ℕ) (o : Order) → MatchOption gate (least ≡ 0) (λ g. (g < n) × (1 ≤ least))
     → ((g : ℕ) → g < n → s g ≡ t g) → reached_span s gaining losing gate o ≡ reached_span t gaining losing gate o

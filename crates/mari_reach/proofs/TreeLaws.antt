@@ -1,5 +1,5 @@
 -- A tree that holds bounds every admissible welfare, and shows which activation is the first.
-use Rattle.std.proofs.Common.{◌≡◌, Bool, ℕ, ℤ, pos, ◌-ℤ◌, ◌≤ℤ◌, List, [], ◌∷◌, ◌++◌, arith, sym, ◌∙◌, subst}
+use Rattle.std.proofs.Common.{◌≡◌, Bool, ℕ, ℤ, pos, ◌-ℤ◌, ◌≤ℤ◌, List, [], ◌∷◌, ◌++◌, arith, sym, ◌∙◌, subst, inl, inr}
 use Rattle.std.proofs.lemmas.Int.{ints, by_lt_z}
 use Rattle.std.proofs.lemmas.List.Elements.{All-nil, All-push}
 use Rattle.mari_units.specs.declared.numbers.Cents.{Cents}
@@ -8,10 +8,11 @@ use Rattle.mari_market.specs.declared.activation.Activation.{Activation}
 use Rattle.mari_market.specs.Activation.{gate_word_of, is_open, welfare_of}
 use Rattle.mari_market.specs.First.{ComesBefore, IsFirst}
 use Rattle.mari_market.specs.Market.{IsValid}
-use Rattle.mari_market.specs.Optimal.{IsAdmissible, IsOptimal}
+use Rattle.mari_market.specs.Optimal.{IsAdmissible, IsConsistent, IsFeasible, IsOptimal}
 use Rattle.mari_market.specs.Price.{price_at}
 use Rattle.mari_market.proofs.Lists.{by_test}
 use Rattle.mari_market.proofs.Search.{one_welfare}
+use Rattle.mari_market.proofs.Ties.{before_both}
 use Rattle.mari_reach.specs.declared.decisions.Decision.{Decision}
 use Rattle.mari_reach.specs.declared.decisions.ReachLeaf.{ReachLeaf}
 use Rattle.mari_reach.specs.declared.decisions.ReachItem.{ReachItem}
@@ -21,7 +22,9 @@ use Rattle.mari_reach.specs.declared.decisions.Choice.TheVariants.{OfGate, OfPri
 use Rattle.mari_reach.specs.State.{Agree, Obeys, children_at, first_of, second_of}
 use Rattle.mari_reach.specs.Leaf.{ReachLeafHolds}
 use Rattle.mari_reach.specs.Tree.{ArePartsOf, ReachHolds}
+use Rattle.mari_reach.specs.Twins.{KeepsRank}
 use Rattle.mari_reach.proofs.LeafLaws.{leaf_bounds, leaf_is_early}
+use Rattle.mari_reach.proofs.Repeated.{by_exchange}
 
 -- R holds where gates and prices are as one of these states decides
 abbrev EachState : (ℕ → Bool) → List Cents → Type 0 → List (List Decision) → Type 0
@@ -51,20 +54,41 @@ parts_say m holds on us R k (ds ∷ states) (Branch choice ∷ items) h = of_chi
 nothing_decided : (on : ℕ → Bool) (us : List Cents) → Agree [] on us
 nothing_decided on us = All-nil (Obeys on us)
 
+-- a tree that holds bounds the welfare of what keeps the rank of twins
+ranked_bounds : (m : Market) (w : ℤ) (u : List Bool) (items : List ReachItem) (us : List Cents) (a : Activation) → IsValid m → ReachHolds m w u items
+    → IsFeasible m a → IsConsistent m a us → KeepsRank m (is_open m a) → welfare_of m a ≤ℤ w
+ranked_bounds m w u items us a v h f c ranked =
+    (parts_say m (ReachLeafHolds m w u) (is_open m a) us (welfare_of m a ≤ℤ w)
+    (λ ds leaf k agree. leaf_bounds m w u ds leaf a us v k (record { feasible = f; consistent = c; agree = agree; ranked = ranked }))
+    ([] ∷ []) items h).0 (nothing_decided (is_open m a) us)
+
+-- and of what keeps the rank and comes before its gate word
+ranked_early : (m : Market) (w : ℤ) (u : List Bool) (items : List ReachItem) (us : List Cents) (a : Activation) → IsValid m → ReachHolds m w u items
+    → IsFeasible m a → IsConsistent m a us → KeepsRank m (is_open m a) → ComesBefore (gate_word_of m a) u → welfare_of m a ≤ℤ (w -ℤ pos 1)
+ranked_early m w u items us a v h f c ranked b =
+    (parts_say m (ReachLeafHolds m w u) (is_open m a) us (welfare_of m a ≤ℤ (w -ℤ pos 1))
+    (λ ds leaf k agree. leaf_is_early m w u ds leaf a us v k (record { feasible = f; consistent = c; agree = agree; ranked = ranked }) b)
+    ([] ∷ []) items h).0 (nothing_decided (is_open m a) us)
+
 -- a tree that holds bounds every admissible welfare
 pub tree_bounds : (m : Market) (w : ℤ) (u : List Bool) (items : List ReachItem) (a : Activation) → IsValid m → ReachHolds m w u items → IsAdmissible m a → welfare_of m a ≤ℤ w
 tree_bounds m w u items a v h adm =
-    (parts_say m (ReachLeafHolds m w u) (is_open m a) adm.consistent.0 (welfare_of m a ≤ℤ w)
-    (λ ds leaf k agree. leaf_bounds m w u ds leaf a adm.consistent.0 v k (record { feasible = adm.feasible; consistent = adm.consistent.1; agree = agree }))
-    ([] ∷ []) items h).0 (nothing_decided (is_open m a) adm.consistent.0)
+    by_exchange m adm.consistent.0 (λ b. welfare_of m b ≤ℤ w) v
+    (λ b f c ranked. ranked_bounds m w u items adm.consistent.0 b v h f c ranked)
+    (λ b other f c ahead most. elim ahead [ inl more ↦ omega (arith, ints, more, most) | inr same ↦ subst (λ (x : ℤ). x ≤ℤ w) (sym same.0) most ])
+    a adm.feasible adm.consistent.1
 
 -- and what comes before its gate word is worse
 pub tree_is_early : (m : Market) (w : ℤ) (u : List Bool) (items : List ReachItem) (a : Activation) → IsValid m → ReachHolds m w u items → IsAdmissible m a
     → ComesBefore (gate_word_of m a) u → welfare_of m a ≤ℤ (w -ℤ pos 1)
-tree_is_early m w u items a v h adm b =
-    (parts_say m (ReachLeafHolds m w u) (is_open m a) adm.consistent.0 (welfare_of m a ≤ℤ (w -ℤ pos 1))
-    (λ ds leaf k agree. leaf_is_early m w u ds leaf a adm.consistent.0 v k (record { feasible = adm.feasible; consistent = adm.consistent.1; agree = agree }) b)
-    ([] ∷ []) items h).0 (nothing_decided (is_open m a) adm.consistent.0)
+tree_is_early m w u items a v h adm =
+    by_exchange m adm.consistent.0 (λ b. ComesBefore (gate_word_of m b) u → welfare_of m b ≤ℤ (w -ℤ pos 1)) v
+    (λ b f c ranked. ranked_early m w u items adm.consistent.0 b v h f c ranked)
+    (λ b other f c ahead most before. elim ahead [
+      | inl more ↦ omega (arith, ints, more, tree_bounds m w u items other v h (record { feasible = f; consistent = (adm.consistent.0, c) }))
+      | inr same ↦ subst (λ (x : ℤ). x ≤ℤ (w -ℤ pos 1)) (sym same.0) (most (before_both (gate_word_of m other) (gate_word_of m b) u same.1 before))
+    ])
+    a adm.feasible adm.consistent.1
 
 pub tree_optimal : (m : Market) (w : ℤ) (u : List Bool) (items : List ReachItem) (a : Activation) → IsValid m → ReachHolds m w u items → IsAdmissible m a → welfare_of m a ≡ w → IsOptimal m a
 tree_optimal m w u items a v h adm e = record { admissible = adm; greatest = λ b other. subst (λ (x : ℤ). welfare_of m b ≤ℤ x) (sym e) (tree_bounds m w u items b v h other) }

@@ -129,8 +129,8 @@ first_there m ds (OfPrice z p) h price = (h.there, price z p.0 h)
 -- a price within the box is within the cap
 price_between : (m : Market) (ds : List Decision) (z : ℕ) (p : ℤ) → IsBetweenPrices m ds z p → IsPrice p
 price_between m ds z p h =
-    let low : neg_ℤ CAP ≤ℤ low_of m ds z = max_from (floor_at (opens m.gates ds) z) (low_said ds z) (neg_ℤ CAP) m.orders (max_from (floor_said z) (neg_ℤ CAP) (neg_ℤ CAP) ds (omega (arith, ints))) in
-    let high : high_of m ds z ≤ℤ CAP = min_to (ceiling_at (opens m.gates ds) z) (high_said ds z) CAP m.orders (min_to (ceiling_said z) CAP CAP ds (omega (arith, ints))) in
+    let low : neg_ℤ CAP ≤ℤ low_of m ds z = max_from (floor_at (opens m ds) z) (low_said ds z) (neg_ℤ CAP) m.orders (max_from (floor_said z) (neg_ℤ CAP) (neg_ℤ CAP) ds (omega (arith, ints))) in
+    let high : high_of m ds z ≤ℤ CAP = min_to (ceiling_at (opens m ds) z) (high_said ds z) CAP m.orders (min_to (ceiling_said z) CAP CAP ds (omega (arith, ints))) in
     record { low = omega (arith, ints, low, h.low); high = omega (arith, ints, high, h.high) }
 
 -- a branch that may stand decides what is there

@@ -33,7 +33,7 @@ gain_of bounds m ps g = int_sum (best_of_gate g bounds ps) m.orders
 -- Where the dual value is the cutoff, a gate gains exactly where the dual value less its gain is below the cutoff. A gate
 -- that the state closes gains nothing.
 abbrev pub is_needed : Market → List Decision → List Cents → ℕ → Bool
-is_needed m ds ps g = opens m.gates ds g || lt_z (pos 0) (gain_of (bounds_in m ds) m ps g)
+is_needed m ds ps g = opens m ds g || lt_z (pos 0) (gain_of (bounds_in m ds) m ps g)
 
 -- the word that opens each gate without which nothing reaches the dual value
 abbrev pub needed_word : Market → List Decision → List Cents → List Bool

@@ -19,6 +19,7 @@ use Rattle.mari_market.specs.Flows.{FlowSpan, border_limits}
 use Rattle.mari_market.specs.Gates.{group_of, parent_of}
 use Rattle.mari_market.specs.Optimal.{IsConsistent, IsFeasible}
 use Rattle.mari_market.specs.Price.{IsPrice, price_at}
+use Rattle.mari_reach.specs.Twins.{outranks, KeepsRank}
 use Rattle.mari_reach.specs.declared.decisions.Choice.{Choice}
 use Rattle.mari_reach.specs.declared.decisions.Choice.TheVariants.{OfGate, OfPrice}
 use Rattle.mari_reach.specs.declared.decisions.Decision.{Decision}
@@ -36,25 +37,26 @@ line_from (suc n) gates (Some g) = g ∷ line_from n gates (parent_of gates g)
 abbrev pub line_of : List GateInfo → ℕ → List ℕ
 line_of gates g = line_from (length gates) gates (Some g)
 
--- whether the decision opens the gate: it decides it as open, or a gate in whose line it is
-abbrev pub opens_by : List GateInfo → ℕ → Decision → Bool
-opens_by gates g (Gate h b) = b && list_any (λ k. k == g) (line_of gates h)
-opens_by gates g (AtMost z p) = false
-opens_by gates g (Above z p) = false
+-- whether the decision opens the gate: it decides as open this gate, or one in whose line it is, or a twin before which it
+-- ranks
+abbrev pub opens_by : Market → ℕ → Decision → Bool
+opens_by m g (Gate h b) = b && (list_any (λ k. k == g) (line_of m.gates h) || outranks m g h)
+opens_by m g (AtMost z p) = false
+opens_by m g (Above z p) = false
 
 -- whether the state opens the gate: a decision does
-abbrev pub opens : List GateInfo → List Decision → ℕ → Bool
-opens gates ds g = list_any (opens_by gates g) ds
+abbrev pub opens : Market → List Decision → ℕ → Bool
+opens m ds g = list_any (opens_by m g) ds
 
--- whether the decision is that the gate is closed
-abbrev pub closes_by : ℕ → Decision → Bool
-closes_by g (Gate h b) = not b && (h == g)
-closes_by g (AtMost z p) = false
-closes_by g (Above z p) = false
+-- whether the decision closes the gate: it decides as closed this gate, or a twin that ranks before it
+abbrev pub closes_by : Market → ℕ → Decision → Bool
+closes_by m g (Gate h b) = not b && ((h == g) || outranks m h g)
+closes_by m g (AtMost z p) = false
+closes_by m g (Above z p) = false
 
--- whether the state decides the gate as closed
-abbrev pub closes : List Decision → ℕ → Bool
-closes ds g = list_any (closes_by g) ds
+-- whether a decision of the state closes the gate
+abbrev pub closes : Market → List Decision → ℕ → Bool
+closes m ds g = list_any (closes_by m g) ds
 
 -- whether there are two groups and they are the same
 abbrev pub is_one_group : Option ℕ → Option ℕ → Bool
@@ -128,11 +130,11 @@ high_by on ds os z = fold int_min (high_said ds z) (map (ceiling_at on z) os)
 
 -- a zone's least price in a state
 abbrev pub low_of : Market → List Decision → ℕ → ℤ
-low_of m ds = low_by (opens m.gates ds) ds m.orders
+low_of m ds = low_by (opens m ds) ds m.orders
 
 -- a zone's greatest price in a state
 abbrev pub high_of : Market → List Decision → ℕ → ℤ
-high_of m ds = high_by (opens m.gates ds) ds m.orders
+high_of m ds = high_by (opens m ds) ds m.orders
 
 -- whether an order gains at every price from low to high
 abbrev pub gains_within : Side → ℤ → ℤ → ℤ → Bool
@@ -158,10 +160,10 @@ loses m ds o = loses_within o.side o.price.0 (low_of m ds o.zone) (high_of m ds 
 abbrev pub has_loss : Market → List Decision → ℕ → Bool
 has_loss m ds g = list_any (λ (o : Order). is_gate g o.gate && loses m ds o) m.orders
 
--- whether the gate itself is closed: it is decided so, or its group has another open gate, or an order of it always
--- loses
+-- whether the gate itself is closed: a decision closes it, or its group has another open gate, or an order of it always
+-- loses (and then an order of each twin before which it ranks always loses too)
 abbrev pub is_shut : Market → List Decision → ℕ → Bool
-is_shut m ds g = closes ds g || (has_rival m.gates (opens m.gates ds) g || has_loss m ds g)
+is_shut m ds g = closes m ds g || (has_rival m.gates (opens m ds) g || has_loss m ds g)
 
 -- whether the state closes the gate: a gate in its line is closed itself
 abbrev pub shuts : Market → List Decision → ℕ → Bool
@@ -175,7 +177,7 @@ state_by false false = Free
 
 -- what is known of a gate in a state
 abbrev pub state_at : Market → List Decision → ℕ → GateState
-state_at m ds g = state_by (opens m.gates ds g) (shuts m ds g)
+state_at m ds g = state_by (opens m ds g) (shuts m ds g)
 
 -- a plain order's bounds: its greatest where it always gains, nothing where it always loses, else up to its greatest
 abbrev pub plain_span : Bool → Bool → Order → Span
@@ -223,7 +225,7 @@ flows_in m ds b = border_span (rises m ds b) (falls m ds b) b
 -- a gate that the state both opens and closes
 pub record IsTorn (m : Market) (ds : List Decision) (g : ℕ) : Type 0 where
   pub there : g < length m.gates
-  pub opened : opens m.gates ds g ≡ true
+  pub opened : opens m ds g ≡ true
   pub shut : shuts m ds g ≡ true
 
 -- a zone to which the state leaves no price
@@ -290,9 +292,10 @@ Obeys on ps (Above z p) = p.0 <ℤ price_at ps z
 abbrev pub Agree : List Decision → (ℕ → Bool) → List Cents → Type 0
 Agree ds on ps = All (Obeys on ps) ds
 
--- the state reaches an activation with prices: it is feasible, they are consistent with it, and its gates and they are as
--- the state decides
+-- the state reaches an activation with prices: it is feasible, they are consistent with it, its gates and they are as the
+-- state decides, and its open gates keep the rank of twins
 pub record IsReached (m : Market) (ds : List Decision) (a : Activation) (ps : List Cents) : Type 0 where
   pub feasible : IsFeasible m a
   pub consistent : IsConsistent m a ps
   pub agree : Agree ds (is_open m a) ps
+  pub ranked : KeepsRank m (is_open m a)

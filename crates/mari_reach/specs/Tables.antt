@@ -1,5 +1,5 @@
 -- States as tables.
-use Rattle.std.specs.Prelude.{◌≡◌, ◌&&◌, Bool, ℕ, ◌<◌, List, length}
+use Rattle.std.specs.Prelude.{◌≡◌, ◌&&◌, ◌||◌, Bool, true, ℕ, ◌<◌, ◌≤◌, List, length, Option, None, slice_index_or}
 use Rattle.std.specs.List.{All, list_any}
 use Rattle.std.specs.Option.{is_some}
 use lib.Signed.{lt_z}
@@ -16,7 +16,32 @@ use Rattle.mari_reach.specs.declared.decisions.Decision.{Decision}
 use Rattle.mari_reach.specs.declared.marks.Marks.{Marks}
 use Rattle.mari_reach.specs.declared.prices.PriceBox.{PriceBox}
 use Rattle.mari_reach.specs.declared.states.State.{State}
+use Rattle.mari_reach.specs.declared.survey.Survey.{Survey}
+use Rattle.mari_reach.specs.declared.ranks.Lone.{Lone}
+use Rattle.mari_reach.specs.declared.ranks.Twins.{Twins}
+use Rattle.mari_reach.specs.Twins.{lone_order, outranks_by}
 use Rattle.mari_reach.specs.State.{border_span, gains_within, high_by, high_of, loses_within, low_by, low_of, opens, reached_span, shuts, state_by}
+
+-- the order of a lone gate by the table
+abbrev pub lone_in : Lone → ℕ → Option Order
+lone_in t g = slice_index_or t.orders g None
+
+-- the table is that of a market's lone gates
+abbrev pub IsLoneOf : Market → Lone → Type 0
+IsLoneOf m t = (g : ℕ) → g < length m.gates → lone_in t g ≡ lone_order m g
+
+-- whether gate g is a twin of gate h by the table, and ranks before it
+abbrev pub outranks_in : Lone → ℕ → ℕ → Bool
+outranks_in t g h = outranks_by (lone_in t g) g (lone_in t h) h
+
+-- both gates are marked, if they are twins by the table
+abbrev pub AreMarked : Lone → Marks → ℕ → ℕ → Type 0
+AreMarked t marks g h = (outranks_in t g h || outranks_in t h g) ≡ true → (opens_in marks g && opens_in marks h) ≡ true
+
+-- the table is that of a market's twins: it has the orders of its lone gates, and each gate that has a twin is marked
+pub record IsTwinsOf (m : Market) (t : Twins) : Type 0 where
+  pub lone : IsLoneOf m t.lone
+  pub marked : (g h : ℕ) → g < length m.gates → h ≤ g → AreMarked t.lone t.twinned g h
 
 -- whether an order gains at every price of the box
 abbrev pub gains_in : PriceBox → Order → Bool
@@ -40,7 +65,7 @@ falls_in box b = is_dearer_in box b.from b.to
 
 -- the marks are of the gates that a state opens
 abbrev pub HasOpened : Market → List Decision → Marks → Type 0
-HasOpened m ds marks = (g : ℕ) → g < length m.gates → opens_in marks g ≡ opens m.gates ds g
+HasOpened m ds marks = (g : ℕ) → g < length m.gates → opens_in marks g ≡ opens m ds g
 
 -- the box has the least and the greatest prices of a state
 pub record HasPrices (m : Market) (ds : List Decision) (box : PriceBox) : Type 0 where
@@ -61,6 +86,11 @@ pub record SpeaksFor (m : Market) (os : List Order) : Type 0 where
   pub low : (on : ℕ → Bool) (ds : List Decision) (z : ℕ) → low_by on ds os z ≡ low_by on ds m.orders z
   pub high : (on : ℕ → Bool) (ds : List Decision) (z : ℕ) → high_by on ds os z ≡ high_by on ds m.orders z
   pub losses : (box : PriceBox) (g : ℕ) → has_loss_in box os g ≡ has_loss_in box m.orders g
+
+-- the survey is that of a market
+pub record IsSurveyOf (m : Market) (s : Survey) : Type 0 where
+  pub gated : SpeaksFor m s.gated.items
+  pub twins : IsTwinsOf m s.twins
 
 -- the tables are those of a state
 pub record IsStateOf (m : Market) (ds : List Decision) (r : State) : Type 0 where

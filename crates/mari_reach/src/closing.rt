@@ -8,24 +8,58 @@ ghost use Rattle.mari_market.specs.Gates.{ParentsEarlier};
 ghost use Rattle.mari_market.specs.Market.{IsValid, IsValidOrder};
 ghost use Rattle.mari_market.specs.Prefix.{opens_in};
 ghost use Rattle.mari_reach.specs.State.{are_rivals, closes, closes_by, has_rival, is_shut, line_of, opens, opens_by, AreDecisions, IsDecision};
-ghost use Rattle.mari_reach.specs.Tables.{HasOpened, HasPrices, SpeaksFor, loses_in};
+ghost use Rattle.mari_reach.specs.Tables.{HasOpened, HasPrices, IsTwinsOf, SpeaksFor, loses_in};
+ghost use Rattle.mari_reach.specs.Twins.{outranks};
 
 use crate::decisions::Decision;
 use crate::marks::Marks;
 use crate::prices::PriceBox;
+use crate::ranks::Twins;
 use mari_market::{GateInfo, Market, Order};
 use mari_units::{MOST_GATES, MOST_ZONES};
 
-/// Marks the gates that a decision opens: one that it decides as open, and all above it.
-fn mark_opened(opened: &mut Marks, market: &Market, decision: &Decision)
+/// Marks the twins of a gate that rank before it.
+fn mark_better(marks: &mut Marks, market: &Market, twins: &Twins, gate: u32)
     requires market { IsValid market.now }
+    requires twins { IsTwinsOf market.now twins.now }
+    requires there { gate < length market.now.gates }
+    ensures { (g : ℕ) → g < length market.now.gates → opens_in marks.new g ≡ (opens_in marks.old g || outranks market.now g gate) }
+{
+    if !twins.may_have(gate) {
+        return;
+    }
+    for other in 0..market.gates.as_slice().len() {
+        marks.mark_if(other as u32, twins.outranks(other as u32, gate));
+    }
+}
+
+/// Marks the twins of a gate before which it ranks.
+fn mark_worse(marks: &mut Marks, market: &Market, twins: &Twins, gate: u32)
+    requires market { IsValid market.now }
+    requires twins { IsTwinsOf market.now twins.now }
+    requires there { gate < length market.now.gates }
+    ensures { (g : ℕ) → g < length market.now.gates → opens_in marks.new g ≡ (opens_in marks.old g || outranks market.now gate g) }
+{
+    if !twins.may_have(gate) {
+        return;
+    }
+    for other in 0..market.gates.as_slice().len() {
+        marks.mark_if(other as u32, twins.outranks(gate, other as u32));
+    }
+}
+
+/// Marks the gates that a decision opens: one that it decides as open, all above it, and the twins that rank before it.
+fn mark_opened(opened: &mut Marks, market: &Market, twins: &Twins, decision: &Decision)
+    requires market { IsValid market.now }
+    requires twins { IsTwinsOf market.now twins.now }
     requires decision { IsDecision market.now decision.now }
-    ensures { (g : ℕ) → opens_in opened.new g ≡ (opens_in opened.old g || opens_by market.now.gates g decision.now) }
+    ensures { (g : ℕ) → g < length market.now.gates → opens_in opened.new g ≡ (opens_in opened.old g || opens_by market.now g decision.now) }
 {
     match *decision {
         Decision::Gate(gate, is_open) => {
             if is_open {
                 opened.mark_line(market.gates.as_slice(), gate);
+                mark_better(opened, market, twins, gate);
             }
         }
         Decision::AtMost(_, _) => {}
@@ -34,28 +68,31 @@ fn mark_opened(opened: &mut Marks, market: &Market, decision: &Decision)
 }
 
 /// The gates that decisions open.
-pub(crate) fn opened_by(market: &Market, decisions: &[Decision]) -> Marks
+pub(crate) fn opened_by(market: &Market, twins: &Twins, decisions: &[Decision]) -> Marks
     requires market { IsValid market.now }
+    requires twins { IsTwinsOf market.now twins.now }
     requires decisions { AreDecisions market.now decisions.now }
-    ensures { (g : ℕ) → opens_in result g ≡ opens market.now.gates decisions.now g }
+    ensures { HasOpened market.now decisions.now result }
 {
     let mut opened = Marks::none();
     for decision in decisions {
-        mark_opened(&mut opened, market, decision);
+        mark_opened(&mut opened, market, twins, decision);
     }
     opened
 }
 
-/// Marks the gate that a decision closes.
-fn mark_one_closed(marks: &mut Marks, market: &Market, decision: &Decision)
+/// Marks the gates that a decision closes: one that it decides as closed, and the twins before which it ranks.
+fn mark_one_closed(marks: &mut Marks, market: &Market, twins: &Twins, decision: &Decision)
     requires market { IsValid market.now }
+    requires twins { IsTwinsOf market.now twins.now }
     requires decision { IsDecision market.now decision.now }
-    ensures { (g : ℕ) → opens_in marks.new g ≡ (opens_in marks.old g || closes_by g decision.now) }
+    ensures { (g : ℕ) → g < length market.now.gates → opens_in marks.new g ≡ (opens_in marks.old g || closes_by market.now g decision.now) }
 {
     match *decision {
         Decision::Gate(gate, is_open) => {
             if !is_open {
                 marks.mark(gate);
+                mark_worse(marks, market, twins, gate);
             }
         }
         Decision::AtMost(_, _) => {}
@@ -64,13 +101,14 @@ fn mark_one_closed(marks: &mut Marks, market: &Market, decision: &Decision)
 }
 
 /// Marks the gates that decisions close.
-fn mark_closed(marks: &mut Marks, market: &Market, decisions: &[Decision])
+fn mark_closed(marks: &mut Marks, market: &Market, twins: &Twins, decisions: &[Decision])
     requires market { IsValid market.now }
+    requires twins { IsTwinsOf market.now twins.now }
     requires decisions { AreDecisions market.now decisions.now }
-    ensures { (g : ℕ) → opens_in marks.new g ≡ (opens_in marks.old g || closes decisions.now g) }
+    ensures { (g : ℕ) → g < length market.now.gates → opens_in marks.new g ≡ (opens_in marks.old g || closes market.now decisions.now g) }
 {
     for decision in decisions {
-        mark_one_closed(marks, market, decision);
+        mark_one_closed(marks, market, twins, decision);
     }
 }
 
@@ -135,11 +173,13 @@ fn mark_rivals(marks: &mut Marks, gates: &[GateInfo], opened: &Marks)
 pub(crate) fn shut_themselves(
     market: &Market,
     orders: &[Order],
+    twins: &Twins,
     decisions: &[Decision],
     opened: &Marks,
     prices: &PriceBox,
 ) -> Marks
     requires market { IsValid market.now }
+    requires twins { IsTwinsOf market.now twins.now }
     requires orders { SpeaksFor market.now orders.now }
     requires decisions { AreDecisions market.now decisions.now }
     requires opened { HasOpened market.now decisions.now opened.now }
@@ -147,7 +187,7 @@ pub(crate) fn shut_themselves(
     ensures { (g : ℕ) → g < length market.now.gates → opens_in result g ≡ is_shut market.now decisions.now g }
 {
     let mut shut = Marks::none();
-    mark_closed(&mut shut, market, decisions);
+    mark_closed(&mut shut, market, twins, decisions);
     mark_rivals(&mut shut, market.gates.as_slice(), opened);
     mark_losses(&mut shut, prices, orders);
     shut

@@ -28,7 +28,7 @@ pub fn reached(market: &Market)
     requires { IsValid market.now }
 
     // Its gates.
-    ensures opened { (ds : List Decision) (a : Activation) (ps : List Cents) → IsReached market.now ds a ps → (g : ℕ) → opens market.now.gates ds g ≡ true → is_open market.now a g ≡ true }
+    ensures opened { (ds : List Decision) (a : Activation) (ps : List Cents) → IsReached market.now ds a ps → (g : ℕ) → opens market.now ds g ≡ true → is_open market.now a g ≡ true }
     ensures shut { (ds : List Decision) (a : Activation) (ps : List Cents) → IsReached market.now ds a ps → (g : ℕ) → shuts market.now ds g ≡ true → is_open market.now a g ≡ false }
 
     // Its prices, its quantities and its flows.
@@ -75,5 +75,5 @@ pub fn twins(market: &Market)
 /// Where the dual value is the cutoff, the gates that are needed are those that the state opens, and the free ones without
 /// whose gain the dual value is below the cutoff.
 pub fn needed(market: &Market)
-    ensures { (w : ℤ) (ds : List Decision) (potentials : List Cents) (g : ℕ) → dual_of market.now ds potentials ≡ w → (is_needed market.now ds potentials g ≡ true) ↔ ((opens market.now.gates ds g ≡ true) ⊎ ((state_at market.now ds g ≡ Free) × ((dual_of market.now ds potentials -ℤ gain_of (bounds_in market.now ds) market.now potentials g) ≤ℤ (w -ℤ pos 1)))) }
+    ensures { (w : ℤ) (ds : List Decision) (potentials : List Cents) (g : ℕ) → dual_of market.now ds potentials ≡ w → (is_needed market.now ds potentials g ≡ true) ↔ ((opens market.now ds g ≡ true) ⊎ ((state_at market.now ds g ≡ Free) × ((dual_of market.now ds potentials -ℤ gain_of (bounds_in market.now ds) market.now potentials g) ≤ℤ (w -ℤ pos 1)))) }
 {}

@@ -12,8 +12,10 @@ mod laws;
 mod leaves;
 mod marks;
 mod prices;
+mod ranks;
 mod root;
 mod states;
+mod survey;
 mod trees;
 mod walk;
 

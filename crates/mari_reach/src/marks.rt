@@ -1,6 +1,6 @@
 //! Marks of gates.
 
-ghost use Rattle.std.specs.Prelude.{◌≡◌, ◌==◌, ◌||◌, ◌<◌, ◌≤◌, ℕ, false, length};
+ghost use Rattle.std.specs.Prelude.{◌≡◌, ◌==◌, ◌&&◌, ◌||◌, ◌<◌, ◌≤◌, ℕ, false, length, true};
 ghost use Rattle.std.specs.List.{list_any};
 ghost use Rattle.mari_market.specs.Gates.{ParentsEarlier};
 ghost use Rattle.mari_market.specs.Prefix.{opens_in};
@@ -34,12 +34,31 @@ impl Marks {
         }
     }
 
+    /// Every gate marked.
+    pub(crate) fn all() -> Marks
+        ensures { (g : ℕ) → g < MOST_GATES → opens_in result g ≡ true }
+    {
+        Marks {
+            marks: [true; MOST_GATES],
+        }
+    }
+
     /// Marks a gate.
     pub fn mark(&mut self, gate: u32)
         requires { gate < MOST_GATES }
         ensures { (g : ℕ) → opens_in self.new g ≡ (opens_in self.old g || (gate == g)) }
     {
         self.marks[gate as usize] = true;
+    }
+
+    /// Marks a gate, if it is to be marked.
+    pub(crate) fn mark_if(&mut self, gate: u32, is_marked: bool)
+        requires { gate < MOST_GATES }
+        ensures { (g : ℕ) → opens_in self.new g ≡ (opens_in self.old g || (is_marked && (gate == g))) }
+    {
+        if is_marked {
+            self.mark(gate);
+        }
     }
 
     /// Whether a gate is marked. One beyond those that there may be isn't.

@@ -9,12 +9,13 @@ ghost use Rattle.mari_market.specs.Sums.{int_at};
 ghost use Rattle.mari_reach.specs.declared.decisions.Decision.{Decision};
 ghost use Rattle.mari_reach.specs.State.{bounds_in, flows_in, gate_span, plain_span, AreDecisions, IsFree, IsVoid};
 ghost use Rattle.mari_reach.specs.Values.{is_void_by};
-ghost use Rattle.mari_reach.specs.Tables.{IsStateOf, SpeaksFor, falls_in, flow_in, is_priceless, is_torn, rises_in, span_in, state_in};
+ghost use Rattle.mari_reach.specs.Tables.{IsStateOf, IsTwinsOf, SpeaksFor, falls_in, flow_in, is_priceless, is_torn, rises_in, span_in, state_in};
 
 use crate::closing::{opened_by, shut_by, shut_themselves};
 use crate::decisions::Decision;
 use crate::marks::Marks;
 use crate::prices::PriceBox;
+use crate::ranks::Twins;
 use mari_market::{Border, Market, Order};
 use mari_units::{Cents, MOST_FLOW, MOST_ZONES};
 
@@ -29,17 +30,23 @@ pub struct State {
     pub prices: PriceBox,
 }
 
-/// What decisions leave, by orders among which are all of a gate.
-pub(crate) fn state_by(market: &Market, orders: &[Order], decisions: &[Decision]) -> State
+/// What decisions leave, by orders among which are all of a gate, and by the orders of lone gates.
+pub(crate) fn state_by(
+    market: &Market,
+    orders: &[Order],
+    twins: &Twins,
+    decisions: &[Decision],
+) -> State
     requires market { IsValid market.now }
     requires orders { SpeaksFor market.now orders.now }
+    requires twins { IsTwinsOf market.now twins.now }
     requires decisions { AreDecisions market.now decisions.now }
     ensures { IsStateOf market.now decisions.now result }
 {
     let gates = market.gates.as_slice();
-    let opened = opened_by(market, decisions);
+    let opened = opened_by(market, twins, decisions);
     let prices = PriceBox::of(market, &opened, decisions, orders);
-    let own = shut_themselves(market, orders, decisions, &opened, &prices);
+    let own = shut_themselves(market, orders, twins, decisions, &opened, &prices);
     let shut = shut_by(gates, &own);
     State {
         opened,
@@ -54,7 +61,8 @@ pub fn state_of(market: &Market, decisions: &[Decision]) -> State
     requires decisions { AreDecisions market.now decisions.now }
     ensures { IsStateOf market.now decisions.now result }
 {
-    state_by(market, market.orders.as_slice(), decisions)
+    let twins = Twins::at_once(market);
+    state_by(market, market.orders.as_slice(), &twins, decisions)
 }
 
 /// A plain order's least and greatest quantity, in MW.

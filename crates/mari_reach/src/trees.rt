@@ -12,7 +12,7 @@ ghost use Rattle.mari_reach.specs.Places.{IsReachVerdict};
 ghost use Rattle.mari_reach.specs.Tree.{HasShape, ReachHolds};
 
 use crate::decisions::ReachItem;
-use crate::gated::gated_orders;
+use crate::survey::Survey;
 use crate::walk::Walk;
 use mari_market::{Market, Prefix};
 use mari_proofs::TreeVerdict;
@@ -32,20 +32,12 @@ fn walk(
     requires full { word.now.length ≡ length market.now.gates }
     ensures { IfOk result (λ v. IsReachVerdict market.now (ReachLeafHolds market.now cutoff.0 (word_of word.now)) tree.now v) }
 {
-    let gated = gated_orders(alloc, market)?;
+    let survey = Survey::of(alloc, market)?;
     let mut walk = Walk::start(alloc);
     let mut false_leaf = None;
     for (place, item) in tree.iter().enumerate() {
-        false_leaf = walk.first_false(
-            market,
-            gated.as_slice(),
-            false_leaf,
-            place,
-            item,
-            cutoff,
-            word,
-        );
-        if !walk.take(market, gated.as_slice(), item)? {
+        false_leaf = walk.first_false(market, &survey, false_leaf, place, item, cutoff, word);
+        if !walk.take(market, &survey, item)? {
             return Ok(TreeVerdict::BadShape(place));
         }
     }

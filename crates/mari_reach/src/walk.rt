@@ -7,13 +7,14 @@ ghost use Rattle.mari_market.specs.Prefix.{word_of};
 ghost use Rattle.mari_reach.specs.Leaf.{ReachLeafHolds};
 ghost use Rattle.mari_reach.specs.Places.{LeafFails, LeafFits, LeavesStates, ShapeFails, states_left, waiting_after};
 ghost use Rattle.mari_reach.specs.State.{AreDecisions, IsBetweenPrices, IsFree, IsLeft, MayBranch};
-ghost use Rattle.mari_reach.specs.Tables.{IsStateOf, SpeaksFor};
+ghost use Rattle.mari_reach.specs.Tables.{IsStateOf, IsSurveyOf};
 ghost use Rattle.mari_reach.specs.Tree.{AnyLeaf};
 
 use crate::decisions::{Choice, Decision, ReachItem};
 use crate::leaves::check_leaf_by;
-use crate::states::{State, state_by};
-use mari_market::{Market, Order, Prefix};
+use crate::states::State;
+use crate::survey::Survey;
+use mari_market::{Market, Prefix};
 use mari_units::{Cents, Memory, Quarters};
 use std::alloc::Global;
 
@@ -103,13 +104,13 @@ impl Walk {
     pub(crate) fn is_false(
         &self,
         market: &Market,
-        gated: &[Order],
+        survey: &Survey,
         item: &ReachItem,
         cutoff: Quarters,
         word: &Prefix,
     ) -> bool
         requires market { IsValid market.now }
-        requires gated { SpeaksFor market.now gated.now }
+        requires survey { IsSurveyOf market.now survey.now }
         requires decisions { AreDecisions market.now self.now.path.items }
         requires full { word.now.length ≡ length market.now.gates }
         ensures fails { IsTrue result → LeafFails market.now (ReachLeafHolds market.now cutoff.0 (word_of word.now)) (states_left self.now.is_left self.now.path.items) (item.now ∷ []) }
@@ -119,7 +120,7 @@ impl Walk {
             ReachItem::Branch(_) => false,
             ReachItem::Leaf(leaf) => {
                 let decisions = self.path.as_slice();
-                let state = state_by(market, gated, decisions);
+                let state = survey.state(market, decisions);
                 self.is_left && !check_leaf_by(market, decisions, &state, leaf, cutoff, word)
             }
         }
@@ -129,7 +130,7 @@ impl Walk {
     pub(crate) fn first_false(
         &self,
         market: &Market,
-        gated: &[Order],
+        survey: &Survey,
         found: Option<usize>,
         place: usize,
         item: &ReachItem,
@@ -137,7 +138,7 @@ impl Walk {
         word: &Prefix,
     ) -> Option<usize>
         requires market { IsValid market.now }
-        requires gated { SpeaksFor market.now gated.now }
+        requires survey { IsSurveyOf market.now survey.now }
         requires decisions { AreDecisions market.now self.now.path.items }
         requires full { word.now.length ≡ length market.now.gates }
         ensures kept { IfSome found (λ p. result ≡ Some p) }
@@ -146,7 +147,7 @@ impl Walk {
         if found.is_some() {
             return found;
         }
-        if self.is_false(market, gated, item, cutoff, word) {
+        if self.is_false(market, survey, item, cutoff, word) {
             Some(place)
         } else {
             None
@@ -157,11 +158,11 @@ impl Walk {
     fn take_branch(
         &mut self,
         market: &Market,
-        gated: &[Order],
+        survey: &Survey,
         choice: Choice,
     ) -> Result<bool, Memory>
         requires market { IsValid market.now }
-        requires gated { SpeaksFor market.now gated.now }
+        requires survey { IsSurveyOf market.now survey.now }
         requires decisions { AreDecisions market.now self.old.path.items }
         requires left { IsTrue self.old.is_left }
         ensures fits { IfOk result (λ b. IsTrue b → LeavesStates market.now AnyLeaf (states_left self.old.is_left self.old.path.items) (ReachItem.Branch choice ∷ []) (states_left self.new.is_left self.new.path.items)) }
@@ -169,7 +170,7 @@ impl Walk {
         ensures decisions { OnOk result (AreDecisions market.now self.new.path.items) }
     {
         let decisions = self.path.as_slice();
-        let state = state_by(market, gated, decisions);
+        let state = survey.state(market, decisions);
         if !may_branch(market, decisions, &state, choice) {
             return Ok(false);
         }
@@ -182,11 +183,11 @@ impl Walk {
     pub(crate) fn take(
         &mut self,
         market: &Market,
-        gated: &[Order],
+        survey: &Survey,
         item: &ReachItem,
     ) -> Result<bool, Memory>
         requires market { IsValid market.now }
-        requires gated { SpeaksFor market.now gated.now }
+        requires survey { IsSurveyOf market.now survey.now }
         requires decisions { AreDecisions market.now self.old.path.items }
         ensures fits { IfOk result (λ b. IsTrue b → LeavesStates market.now AnyLeaf (states_left self.old.is_left self.old.path.items) (item.now ∷ []) (states_left self.new.is_left self.new.path.items)) }
         ensures fails { IfOk result (λ b. b ≡ false → ShapeFails market.now (states_left self.old.is_left self.old.path.items) (item.now ∷ [])) }
@@ -196,7 +197,7 @@ impl Walk {
             return Ok(false);
         }
         match item {
-            ReachItem::Branch(choice) => self.take_branch(market, gated, *choice),
+            ReachItem::Branch(choice) => self.take_branch(market, survey, *choice),
             ReachItem::Leaf(_) => {
                 self.is_left = go_on(&mut self.path)?;
                 Ok(true)

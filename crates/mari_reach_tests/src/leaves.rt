@@ -1,36 +1,23 @@
-//! Leaves and trees that hold or not.
+//! Leaves that hold or not.
 
 use crate::same::same_in;
 use crate::small::{
-    CHEAPER, FAMILY, MarketRow, ONE_PRICE, OVERSIZED, PARADOX, TORN, market_of, prefix, prices_of,
+    CHEAPER, EQUAL, FAMILY, MarketRow, ONE_PRICE, OVERSIZED, market_of, prefix, prices_of,
 };
 use mari_market::{Cut, CutSide, Market, Prefix};
-use mari_proofs::TreeVerdict;
-use mari_reach::{
-    Choice, Decision, ReachItem, ReachLeaf, are_decisions, check_leaf, check_tree, root_value,
-};
+use mari_reach::{Decision, ReachLeaf, are_decisions, check_leaf};
 use mari_units::{Cents, Items, Quarters};
 use std::alloc::{AllocError, Global};
 use std::test::Fail;
 
 /// A leaf.
-enum LeafRow {
+pub(crate) enum LeafRow {
     /// The decisions contradict each other.
     Void,
     /// Potentials, in cents per MWh.
     Bound(&'static [i64]),
     /// A cut of one zone.
     Cut(CutSide, u32),
-}
-
-/// A part of a tree.
-enum ItemRow {
-    /// A gate.
-    Gate(u32),
-    /// A price of a zone, in cents per MWh.
-    Price(u32, i64),
-    /// A leaf.
-    Leaf(LeafRow),
 }
 
 /// Decisions in a market, a leaf, a cutoff and the bits of the word; and whether the leaf holds.
@@ -437,9 +424,90 @@ const CASES: &[Case] = &[
         bits: 0,
         holds: false,
     },
+    Case {
+        name: "a closed gate closes its twins of worse rank, whose gains the bound leaves out",
+        market: EQUAL,
+        decisions: &[Decision::Gate(1, false)],
+        leaf: LeafRow::Bound(&[5000]),
+        cutoff: 2405000,
+        gates: 3,
+        bits: 4,
+        holds: true,
+    },
+    Case {
+        name: "to the quarter-cent",
+        market: EQUAL,
+        decisions: &[Decision::Gate(1, false)],
+        leaf: LeafRow::Bound(&[5000]),
+        cutoff: 2404999,
+        gates: 3,
+        bits: 4,
+        holds: false,
+    },
+    Case {
+        name: "the one of worst rank closes no other",
+        market: EQUAL,
+        decisions: &[FIRST_CLOSED],
+        leaf: LeafRow::Bound(&[5000]),
+        cutoff: 2405000,
+        gates: 3,
+        bits: 4,
+        holds: false,
+    },
+    Case {
+        name: "but leaves their gains to the bound",
+        market: EQUAL,
+        decisions: &[FIRST_CLOSED],
+        leaf: LeafRow::Bound(&[5000]),
+        cutoff: 2435000,
+        gates: 3,
+        bits: 6,
+        holds: true,
+    },
+    Case {
+        name: "the twins of better rank of an open gate are open in its word",
+        market: EQUAL,
+        decisions: &[Decision::Gate(1, true)],
+        leaf: LeafRow::Bound(&[2000]),
+        cutoff: 2450000,
+        gates: 3,
+        bits: 6,
+        holds: true,
+    },
+    Case {
+        name: "and those of worse rank aren't",
+        market: EQUAL,
+        decisions: &[Decision::Gate(1, true)],
+        leaf: LeafRow::Bound(&[2000]),
+        cutoff: 2450000,
+        gates: 3,
+        bits: 7,
+        holds: false,
+    },
+    Case {
+        name: "three equal bids that run are more than the demand",
+        market: EQUAL,
+        decisions: &[FIRST_OPEN],
+        leaf: LeafRow::Cut(CutSide::Out, 0),
+        cutoff: 0,
+        gates: 3,
+        bits: 0,
+        holds: true,
+    },
+    Case {
+        name: "two of them aren't",
+        market: EQUAL,
+        decisions: &[Decision::Gate(1, true)],
+        leaf: LeafRow::Cut(CutSide::Out, 0),
+        cutoff: 0,
+        gates: 3,
+        bits: 0,
+        holds: false,
+    },
 ];
 
-fn leaf_of(alloc: Global, row: &LeafRow) -> Result<ReachLeaf, AllocError> {
+/// The leaf of a row.
+pub(crate) fn leaf_of(alloc: Global, row: &LeafRow) -> Result<ReachLeaf, AllocError> {
     match row {
         LeafRow::Void => Ok(ReachLeaf::Void),
         LeafRow::Bound(cents) => Ok(ReachLeaf::Bound(prices_of(alloc, cents)?)),
@@ -451,7 +519,7 @@ fn leaf_of(alloc: Global, row: &LeafRow) -> Result<ReachLeaf, AllocError> {
 }
 
 /// Whether a leaf holds, where the market is valid and the decisions and the word fit it.
-fn holds(
+pub(crate) fn holds(
     market: &Market,
     decisions: &[Decision],
     leaf: &ReachLeaf,
@@ -485,322 +553,5 @@ fn leaves_that_hold_or_not(rt: HostRuntime) -> Result<(), Fail> {
         let answer = holds_in(rt.alloc(), case)?;
         same_in(&rt, case.name, answer, Some(case.holds));
     }
-    Ok(())
-}
-
-/// A market, a tree, a cutoff and the bits of a word; and the verdict on the tree.
-struct TreeCase {
-    name: &'static str,
-    market: MarketRow,
-    tree: &'static [ItemRow],
-    cutoff: i128,
-    gates: u32,
-    bits: u64,
-    verdict: TreeVerdict,
-}
-
-/// The paradox bid is closed, or the demand has too much.
-const PARADOX_TREE: &[ItemRow] = &[
-    ItemRow::Gate(0),
-    ItemRow::Leaf(LeafRow::Bound(&[9_999_900])),
-    ItemRow::Leaf(LeafRow::Cut(CutSide::Out, 0)),
-];
-
-/// The dear bid is closed; or it is open, and the other zone is cheaper, so that the border is full the other way, or as
-/// dear, so that the cheap bid runs in full. The second gate stays free.
-const PRICE_TREE: &[ItemRow] = &[
-    ItemRow::Gate(0),
-    ItemRow::Leaf(LeafRow::Bound(&[3000, 3000])),
-    ItemRow::Price(1, 4999),
-    ItemRow::Leaf(LeafRow::Cut(CutSide::Out, 0)),
-    ItemRow::Leaf(LeafRow::Cut(CutSide::Out, 1)),
-];
-
-const TREES: &[TreeCase] = &[
-    TreeCase {
-        name: "a paradox bid: closed, its welfare is the bound; open, nothing balances",
-        market: PARADOX,
-        tree: PARADOX_TREE,
-        cutoff: 399956000,
-        gates: 1,
-        bits: 0,
-        verdict: TreeVerdict::Holds,
-    },
-    TreeCase {
-        name: "not below that welfare",
-        market: PARADOX,
-        tree: PARADOX_TREE,
-        cutoff: 399955999,
-        gates: 1,
-        bits: 0,
-        verdict: TreeVerdict::BadLeaf(1),
-    },
-    TreeCase {
-        name: "two gates and a price by five parts",
-        market: ONE_PRICE,
-        tree: PRICE_TREE,
-        cutoff: 1455000,
-        gates: 2,
-        bits: 0,
-        verdict: TreeVerdict::Holds,
-    },
-    TreeCase {
-        name: "the children of a price exchanged",
-        market: ONE_PRICE,
-        tree: &[
-            ItemRow::Gate(0),
-            ItemRow::Leaf(LeafRow::Bound(&[3000, 3000])),
-            ItemRow::Price(1, 4999),
-            ItemRow::Leaf(LeafRow::Cut(CutSide::Out, 1)),
-            ItemRow::Leaf(LeafRow::Cut(CutSide::Out, 0)),
-        ],
-        cutoff: 1455000,
-        gates: 2,
-        bits: 0,
-        verdict: TreeVerdict::BadLeaf(3),
-    },
-    TreeCase {
-        name: "a price of the box's greatest",
-        market: ONE_PRICE,
-        tree: &[ItemRow::Price(1, 9_999_900)],
-        cutoff: 1455000,
-        gates: 2,
-        bits: 0,
-        verdict: TreeVerdict::BadShape(0),
-    },
-    TreeCase {
-        name: "a price of the box's least, with a part missing",
-        market: ONE_PRICE,
-        tree: &[ItemRow::Price(1, -9_999_900)],
-        cutoff: 1455000,
-        gates: 2,
-        bits: 0,
-        verdict: TreeVerdict::BadShape(1),
-    },
-    TreeCase {
-        name: "a price below the box",
-        market: ONE_PRICE,
-        tree: &[
-            ItemRow::Gate(0),
-            ItemRow::Leaf(LeafRow::Bound(&[3000, 3000])),
-            ItemRow::Price(0, 4999),
-        ],
-        cutoff: 1455000,
-        gates: 2,
-        bits: 0,
-        verdict: TreeVerdict::BadShape(2),
-    },
-    TreeCase {
-        name: "a zone that isn't there",
-        market: ONE_PRICE,
-        tree: &[ItemRow::Price(2, 4999)],
-        cutoff: 1455000,
-        gates: 2,
-        bits: 0,
-        verdict: TreeVerdict::BadShape(0),
-    },
-    TreeCase {
-        name: "a part is missing",
-        market: ONE_PRICE,
-        tree: &[
-            ItemRow::Gate(1),
-            ItemRow::Leaf(LeafRow::Bound(&[3000, 3000])),
-        ],
-        cutoff: 1455000,
-        gates: 2,
-        bits: 0,
-        verdict: TreeVerdict::BadShape(2),
-    },
-    TreeCase {
-        name: "a gate is decided twice",
-        market: ONE_PRICE,
-        tree: &[ItemRow::Gate(1), ItemRow::Gate(1)],
-        cutoff: 1455000,
-        gates: 2,
-        bits: 0,
-        verdict: TreeVerdict::BadShape(1),
-    },
-    TreeCase {
-        name: "a gate that isn't there",
-        market: ONE_PRICE,
-        tree: &[ItemRow::Gate(2)],
-        cutoff: 1455000,
-        gates: 2,
-        bits: 0,
-        verdict: TreeVerdict::BadShape(0),
-    },
-    TreeCase {
-        name: "a gate that contradicts itself is void where it is open",
-        market: TORN,
-        tree: &[
-            ItemRow::Gate(0),
-            ItemRow::Leaf(LeafRow::Bound(&[5000])),
-            ItemRow::Leaf(LeafRow::Void),
-        ],
-        cutoff: 0,
-        gates: 2,
-        bits: 0,
-        verdict: TreeVerdict::Holds,
-    },
-    TreeCase {
-        name: "and has no bound there",
-        market: TORN,
-        tree: &[
-            ItemRow::Gate(0),
-            ItemRow::Leaf(LeafRow::Bound(&[5000])),
-            ItemRow::Leaf(LeafRow::Bound(&[5000])),
-        ],
-        cutoff: 1000000,
-        gates: 2,
-        bits: 0,
-        verdict: TreeVerdict::BadLeaf(2),
-    },
-    TreeCase {
-        name: "nor a branch",
-        market: TORN,
-        tree: &[
-            ItemRow::Gate(0),
-            ItemRow::Leaf(LeafRow::Bound(&[5000])),
-            ItemRow::Gate(1),
-        ],
-        cutoff: 0,
-        gates: 2,
-        bits: 0,
-        verdict: TreeVerdict::BadShape(2),
-    },
-    TreeCase {
-        name: "a false leaf doesn't hide a branch behind it that may not stand there",
-        market: ONE_PRICE,
-        tree: &[
-            ItemRow::Gate(0),
-            ItemRow::Leaf(LeafRow::Void),
-            ItemRow::Gate(2),
-        ],
-        cutoff: 1455000,
-        gates: 2,
-        bits: 0,
-        verdict: TreeVerdict::BadShape(2),
-    },
-    TreeCase {
-        name: "nor a part that is missing",
-        market: ONE_PRICE,
-        tree: &[ItemRow::Gate(0), ItemRow::Leaf(LeafRow::Void)],
-        cutoff: 1455000,
-        gates: 2,
-        bits: 0,
-        verdict: TreeVerdict::BadShape(2),
-    },
-    TreeCase {
-        name: "nor an item that is left over",
-        market: ONE_PRICE,
-        tree: &[
-            ItemRow::Leaf(LeafRow::Void),
-            ItemRow::Leaf(LeafRow::Bound(&[3000, 3000])),
-        ],
-        cutoff: 1455000,
-        gates: 2,
-        bits: 0,
-        verdict: TreeVerdict::BadShape(1),
-    },
-    TreeCase {
-        name: "of two false leaves the first is named",
-        market: ONE_PRICE,
-        tree: &[
-            ItemRow::Price(1, 4999),
-            ItemRow::Leaf(LeafRow::Void),
-            ItemRow::Leaf(LeafRow::Void),
-        ],
-        cutoff: 1455000,
-        gates: 2,
-        bits: 0,
-        verdict: TreeVerdict::BadLeaf(1),
-    },
-    TreeCase {
-        name: "children of a second child have their parts last",
-        market: ONE_PRICE,
-        tree: &[
-            ItemRow::Gate(1),
-            ItemRow::Gate(0),
-            ItemRow::Leaf(LeafRow::Bound(&[3000, 3000])),
-            ItemRow::Price(1, 4999),
-            ItemRow::Leaf(LeafRow::Cut(CutSide::Out, 0)),
-            ItemRow::Leaf(LeafRow::Cut(CutSide::Out, 1)),
-            ItemRow::Leaf(LeafRow::Bound(&[3000, 3000])),
-        ],
-        cutoff: 1455000,
-        gates: 2,
-        bits: 0,
-        verdict: TreeVerdict::Holds,
-    },
-];
-
-fn item_of(alloc: Global, row: &ItemRow) -> Result<ReachItem, AllocError> {
-    match row {
-        ItemRow::Gate(gate) => Ok(ReachItem::Branch(Choice::OfGate(*gate))),
-        ItemRow::Price(zone, price) => Ok(ReachItem::Branch(Choice::OfPrice(*zone, Cents(*price)))),
-        ItemRow::Leaf(leaf) => Ok(ReachItem::Leaf(leaf_of(alloc, leaf)?)),
-    }
-}
-
-/// The verdict on a tree, where the market is valid and the word fits it.
-fn verdict(
-    alloc: Global,
-    market: &Market,
-    tree: &[ReachItem],
-    cutoff: i128,
-    word: &Prefix,
-) -> Option<TreeVerdict> {
-    if market.valid() && word.length as usize == market.gates.as_slice().len() {
-        check_tree(alloc, market, tree, Quarters(cutoff), word).ok()
-    } else {
-        None
-    }
-}
-
-/// The verdict on the tree of a case.
-fn verdict_in(alloc: Global, case: &TreeCase) -> Result<Option<TreeVerdict>, Fail> {
-    let market = market_of(alloc, &case.market)?;
-    let mut tree = Vec::new(alloc);
-    for row in case.tree {
-        tree.push(item_of(alloc, row)?)?;
-    }
-    let word = prefix(case.gates, case.bits);
-    let answer = verdict(alloc, &market, tree.as_slice(), case.cutoff, &word);
-    drop(tree);
-    drop(market);
-    Ok(answer)
-}
-
-#[test]
-fn trees_that_hold_or_not(rt: HostRuntime) -> Result<(), Fail> {
-    for case in TREES {
-        let answer = verdict_in(rt.alloc(), case)?;
-        same_in(&rt, case.name, answer, Some(case.verdict));
-    }
-    Ok(())
-}
-
-/// The dual value of potentials where nothing is decided, where they fit the market.
-fn root_in(alloc: Global, row: &MarketRow, cents: &[i64]) -> Result<Option<Quarters>, AllocError> {
-    let market = market_of(alloc, row)?;
-    let potentials = prices_of(alloc, cents)?;
-    let value = if market.valid() && market.are_prices(potentials.cents.as_slice()) {
-        Some(root_value(&market, &potentials))
-    } else {
-        None
-    };
-    drop(potentials);
-    drop(market);
-    Ok(value)
-}
-
-#[test]
-fn free_gates_and_the_demand_gain_at_the_root(rt: HostRuntime) -> Result<(), Fail> {
-    // 20.00 for 40 MW, nothing for the dearer bid, and 99949.00 for 30 MW.
-    let value = root_in(rt.alloc(), &OVERSIZED, &[5000])?;
-    same_in(&rt, "one zone", value, Some(Quarters(299_927_000)));
-    // 10.00 for 5 MW and 0.00 for 100 MW, 970.00 for 15 MW, and nothing for the dear bid and the border.
-    let value = root_in(rt.alloc(), &CHEAPER, &[3000, 3000])?;
-    same_in(&rt, "two zones", value, Some(Quarters(1_460_000)));
     Ok(())
 }

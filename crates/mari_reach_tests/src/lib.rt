@@ -6,6 +6,12 @@
 #[cfg(test)]
 mod leaves;
 #[cfg(test)]
+mod root;
+#[cfg(test)]
 mod same;
 #[cfg(test)]
 mod small;
+#[cfg(test)]
+mod trees;
+#[cfg(test)]
+mod twins;

@@ -95,6 +95,61 @@ pub(crate) const FAMILY: MarketRow = MarketRow {
     gates: &[(Some(1), None), (Some(1), None), (None, Some(0))],
 };
 
+/// Bids of up and down that are indivisible, most of 10 MW, and some of 2 to 8 MW, each of a gate of its own but for the
+/// two of the twelfth gate. The fifth gate is in a group, the sixth in the other zone, and the last is below the one
+/// before it.
+pub(crate) const TWINS: MarketRow = MarketRow {
+    limits: &[(100, 100)],
+    orders: &[
+        (0, UP, 10, 10, 2000, Some(0)),
+        (0, UP, 10, 10, 1000, Some(1)),
+        (0, UP, 10, 10, 2000, Some(2)),
+        (0, UP, 5, 5, 1500, Some(3)),
+        (0, UP, 10, 10, 1500, Some(4)),
+        (1, UP, 10, 10, 3000, Some(5)),
+        (0, UP, 2, 8, 1200, Some(6)),
+        (0, UP, 2, 8, 1200, Some(7)),
+        (0, UP, 2, 8, 1300, Some(8)),
+        (0, DOWN, 10, 10, 5000, Some(9)),
+        (0, DOWN, 10, 10, 6000, Some(10)),
+        (0, UP, 10, 10, 1800, Some(11)),
+        (0, UP, 1, 1, 1800, Some(11)),
+        (0, UP, 10, 10, 1700, Some(12)),
+        (0, UP, 10, 10, 1600, Some(13)),
+        (0, DOWN, 0, 30, 100_000, None),
+    ],
+    gates: &[
+        (None, None),
+        (None, None),
+        (None, None),
+        (None, None),
+        (Some(1), None),
+        (None, None),
+        (None, None),
+        (None, None),
+        (None, None),
+        (None, None),
+        (None, None),
+        (None, None),
+        (None, None),
+        (None, Some(12)),
+    ],
+};
+
+/// Three equal indivisible bids of 10 MW at 20.00 and a dearer one of up to 100 MW, for a demand of 25 MW: two of the
+/// three run, the later ones.
+pub(crate) const EQUAL: MarketRow = MarketRow {
+    limits: &[],
+    orders: &[
+        (0, UP, 10, 10, 2000, Some(0)),
+        (0, UP, 10, 10, 2000, Some(1)),
+        (0, UP, 10, 10, 2000, Some(2)),
+        (0, UP, 0, 100, 5000, None),
+        (0, DOWN, 0, 25, 100_000, None),
+    ],
+    gates: &[(None, None), (None, None), (None, None)],
+};
+
 /// The market of a row.
 pub(crate) fn market_of(alloc: Global, row: &MarketRow) -> Result<Market, AllocError> {
     let borders = row.limits.iter().map(|limits| Border {

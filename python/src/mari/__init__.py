@@ -43,7 +43,7 @@ from mari.publication import (
 from mari.reasons import Reason, Reasons, State, reasons
 from mari.rows import Bid, Block, Border, Demand, Limit, Link, Position, Run, Zone
 
-__version__ = "0.2.0"
+__version__ = "0.3.0"
 
 
 def clear(folder: StrPath | Folder, *, nodes: int | None = None, workers: int | None = None) -> Day:

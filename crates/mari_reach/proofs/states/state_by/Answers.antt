@@ -13,7 +13,7 @@ shut_by-shut-requires-clause-earlier c = rw c.as_slice-gates.ensures (parents_ea
 
 pub shut_themselves-own-requires-clause-prices : goal.shut_themselves-own-requires-clause-prices
 shut_themselves-own-requires-clause-prices c =
-    box_is c.args.market.now c.args.decisions.now c.opened_by-opened.result c.of-prices.result c.args.orders.now c.requires.market c.requires.orders (λ g l. c.opened_by-opened.ensures g)
+    box_is c.args.market.now c.args.decisions.now c.opened_by-opened.result c.of-prices.result c.args.orders.now c.requires.market c.requires.orders c.opened_by-opened.ensures
     c.of-prices.ensures.low c.of-prices.ensures.high
 
 pub returns : goal.returns
@@ -22,7 +22,7 @@ returns c =
     let ds = c.args.decisions.now in
     let marks = c.opened_by-opened.result in
     let same = c.as_slice-gates.ensures in
-    let opened : HasOpened m ds marks = λ g l. c.opened_by-opened.ensures g in
+    let opened : HasOpened m ds marks = c.opened_by-opened.ensures in
     record {
       opened = opened;
       shut = λ g l.

@@ -4,7 +4,7 @@ use Rattle.std.specs.List.{flat_map}
 use lib.Chars.{codes}
 use Rattle.std.specs.Fmt.{decimal}
 use Rattle.mari_rows.specs.Names.{name_at}
-use Rattle.mari_lines.specs.Spelling.{heading_fields, money_text, price_text, spaced}
+use Rattle.mari_lines.specs.Spelling.{heading_fields, money_text, price_text}
 use Rattle.mari_lines.specs.declared.line.Heading.{Heading}
 use Rattle.mari_lines.specs.declared.line.Line.TheVariants as line
 use Rattle.mari_publish.specs.Lines.{closing_lines_by, ending_lines, market_lines}

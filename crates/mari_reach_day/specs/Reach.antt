@@ -4,7 +4,6 @@ use Rattle.mari_units.specs.declared.numbers.Cents.{Cents}
 use Rattle.mari_links.specs.Links.{has_gate}
 use Rattle.mari_publish.specs.declared.publication.Block.{Block}
 use Rattle.mari_publish.specs.declared.publication.Block.TheVariants as block
-use Rattle.mari_publish.specs.declared.publication.FullBlock.{FullBlock}
 use Rattle.mari_remain.specs.declared.books.Books.{Books}
 use Rattle.mari_remain.specs.declared.market.RunMarket.{RunMarket}
 use Rattle.mari_progress.specs.After.{also_after, market_after, run_after}
@@ -12,7 +11,6 @@ use Rattle.mari_progress.specs.Money.{HasLedger}
 use Rattle.mari_progress.specs.Prices.{HasPrices}
 use Rattle.mari_progress.specs.Reported.{NamesMarket, activation_of, heading_of}
 use Rattle.mari_day.specs.Frame.{IsPartBy}
-use Rattle.mari_reach.specs.declared.decisions.ReachItem.{ReachItem}
 use Rattle.mari_reached.specs.Answer.{IsAnswer}
 use Rattle.mari_reached.specs.declared.answer.Answer.{Answer}
 use Rattle.mari_reached.specs.declared.answer.Answer.TheVariants as answer
@@ -64,20 +62,21 @@ pub record IsReachDay (books : Books) (budget : ℕ) (blocks : List ReachBlock) 
   pub part : IsReachPart books budget blocks
   pub every : length blocks ≡ length books.runs.runs
 
+-- a block states the first activation of its market, or one within a gap: 1 for the one, and for the other
+abbrev pub one_if_first : Claim → ℕ
+one_if_first First = 1
+one_if_first (Within gap) = 0
+
+abbrev pub one_if_within : Claim → ℕ
+one_if_within First = 0
+one_if_within (Within gap) = 1
+
 -- how many of the blocks state the first activation of their market
 abbrev pub first_in : List ReachBlock → ℕ
 first_in [] = 0
 first_in (r ∷ rs) = one_if_first r.claim + first_in rs
-  where
-    abbrev one_if_first : Claim → ℕ
-    one_if_first First = 1
-    one_if_first (Within gap) = 0
 
 -- and how many one within a gap
 abbrev pub within_in : List ReachBlock → ℕ
 within_in [] = 0
 within_in (r ∷ rs) = one_if_within r.claim + within_in rs
-  where
-    abbrev one_if_within : Claim → ℕ
-    one_if_within First = 0
-    one_if_within (Within gap) = 1

@@ -8,7 +8,7 @@ ghost use Rattle.mari_progress.specs.After.{run_after};
 ghost use Rattle.mari_progress.specs.Progress.{IsProgress};
 ghost use Rattle.mari_day.specs.Dated.{IsDated};
 ghost use Rattle.mari_reach_day.specs.declared.block.ReachBlock.{ReachBlock as PrintedReach};
-ghost use Rattle.mari_reach_day.specs.Reach.{blocks_of};
+ghost use Rattle.mari_reach_day.specs.Reach.{answered, blocks_of};
 ghost use Rattle.mari_reach_day.specs.Steps.{IsReachDone, ReachFits};
 
 use crate::block::{Claim, ReachBlock};
@@ -17,7 +17,7 @@ use mari_links::LinkBook;
 use mari_market::Clearing;
 use mari_progress::{Progress, SettledRun};
 use mari_reached::{Answer, Found, reach};
-use mari_remain::Books;
+use mari_remain::{Books, is_gated};
 use mari_units::{Items, Memory};
 use std::alloc::Global;
 
@@ -31,7 +31,9 @@ pub struct ReachDone {
 }
 
 /// What an answer found, and what it says of that.
-fn claimed(answer: Answer) -> (Found, Claim) {
+fn claimed(answer: Answer) -> (Found, Claim)
+    ensures { answered result.1 result.0 ≡ answer }
+{
     match answer {
         Answer::First(found) => (found, Claim::First),
         Answer::Within(found, gap) => (found, Claim::Within(gap)),
@@ -42,7 +44,13 @@ fn claimed(answer: Answer) -> (Found, Claim) {
 fn gated_among(alloc: Global, links: &LinkBook, numbers: &[u32]) -> Result<Vec<u32>, Memory>
     ensures { IfOk result (λ gated. gated.items ≡ filter (has_gate links.now) numbers.now) }
 {
-    todo!()
+    let mut gated = Vec::new(alloc);
+    for number in numbers {
+        if is_gated(links, *number) {
+            gated.push(*number)?;
+        }
+    }
+    Ok(gated)
 }
 
 /// Makes the market of a run after the blocks so far, finds an answer of it within a budget of nodes, and makes its block.

@@ -6,6 +6,7 @@ ghost use Rattle.mari_market.specs.Clearing.{IsBudget};
 ghost use Rattle.mari_remain.specs.Accepted.{IsAccepted};
 ghost use Rattle.mari_day.specs.Dated.{IsDated};
 ghost use Rattle.mari_reach_day.specs.Days.{EndsReach};
+ghost use Rattle.mari_reach_day.specs.Reach.{one_if_first as one_for};
 
 use crate::block::{Claim, ReachBlock};
 use crate::run::{ReachDone, run_reached};
@@ -31,6 +32,16 @@ pub enum ReachEnd {
     WriteFault,
     /// Out of memory.
     Memory,
+}
+
+/// 1 for a block that states the first activation of its market, and 0 for another.
+fn one_if_first(claim: Claim) -> u32
+    ensures { result ≡ one_for claim }
+{
+    match claim {
+        Claim::First => 1,
+        Claim::Within(_) => 0,
+    }
 }
 
 /// What is kept of such a day between its blocks.
@@ -79,12 +90,15 @@ impl<'a> DaySoFar<()> for ReachSoFar<'a> {
     }
 
     fn next(&mut self, alloc: Global, run: u32, _by: &mut ()) -> Result<Vec<u8>, Memory> {
-        let ReachDone { block, settled } =
-            run_reached(alloc, self.books, run, self.budget, &self.progress)?;
+        let ReachDone { block, settled } = run_reached(
+            alloc,
+            self.books,
+            run,
+            self.budget,
+            &self.progress,
+        )?;
         let text = block_text(alloc, self.books, &block)?;
-        if matches!(block.claim, Claim::First) {
-            self.first += 1;
-        }
+        self.first += one_if_first(block.claim);
         drop(block);
         self.progress.add(self.books, run, settled);
         Ok(text)

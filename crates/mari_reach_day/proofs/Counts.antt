@@ -1,0 +1,23 @@
+-- How many blocks of either kind there are.
+use Rattle.std.proofs.Common.{◌≡◌, ◌+◌, ◌≤◌, List, [], ◌∷◌, ◌++◌, length, refl, arith}
+use Rattle.mari_reach_day.specs.declared.block.Claim.{Claim}
+use Rattle.mari_reach_day.specs.declared.block.Claim.TheVariants.{First, Within}
+use Rattle.mari_reach_day.specs.declared.block.ReachBlock.{ReachBlock}
+use Rattle.mari_reach_day.specs.Reach.{first_in, one_if_first, one_if_within, within_in}
+
+either : (c : Claim) → one_if_first c + one_if_within c ≡ 1
+either First = refl
+either (Within gap) = refl
+
+-- each block is of one kind
+pub both_kinds : (blocks : List ReachBlock) → first_in blocks + within_in blocks ≡ length blocks
+both_kinds [] = refl
+both_kinds (r ∷ rs) = omega (arith, either r.claim, both_kinds rs)
+
+-- with one block more
+pub first_more : (blocks : List ReachBlock) (r : ReachBlock) → first_in (blocks ++ r ∷ []) ≡ first_in blocks + one_if_first r.claim
+first_more [] r = omega arith
+first_more (b ∷ bs) r = omega (arith, first_more bs r)
+
+pub at_most_one : (c : Claim) → one_if_first c ≤ 1
+at_most_one c = omega (arith, either c)

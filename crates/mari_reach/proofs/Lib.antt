@@ -8,6 +8,7 @@ pub mod LeafTables
 pub mod TreeWalk
 pub mod Exchanges
 pub mod Repeated
+pub mod TwinTests
 pub mod Needs
 pub mod RootLaws
 pub mod GateOrders

@@ -1,11 +1,13 @@
 -- Loops that go up a line of gates.
-use Rattle.std.proofs.Common.{◌≡◌, ◌||◌, Bool, true, false, ℕ, zero, suc, ◌+◌, ◌-◌, ◌<◌, ◌≤◌, List, [], ◌∷◌, length, get_or, Option, Some, None, arith, refl, sym, ap, ◌∙◌}
+use Rattle.std.proofs.Common.{◌≡◌, ◌==◌, ◌&&◌, ◌||◌, Bool, true, false, ℕ, zero, suc, ◌+◌, ◌-◌, ◌<◌, ◌≤◌, List, [], ◌∷◌, length, get_or, Option, Some, None, arith, refl, sym, ap, ◌∙◌, subst, inl, inr}
 use Rattle.std.specs.Prelude.{IfSome}
+use Rattle.std.proofs.lemmas.Bool.{cases_lt}
 use Rattle.std.specs.List.{list_any}
 use Rattle.mari_market.specs.declared.market.GateInfo.{GateInfo}
 use Rattle.mari_market.specs.Gates.{ParentsEarlier, parent_of}
 use Rattle.mari_gates.proofs.Decisions.{parent_at}
 use Rattle.mari_reach.specs.State.{is_opened, line_from, line_of}
+use Rattle.mari_reach.proofs.Ranges.{mark_here, mark_there}
 
 -- what is left of a line, by its first gate
 pub line_test : (test : ℕ → Bool) (gates : List GateInfo) (i at : ℕ) (next : Option ℕ) (d : GateInfo) → i < length gates → at < length gates → next ≡ Some at
@@ -83,7 +85,7 @@ line_up test closed n gates g (Some h) e early l before =
     let less : h < g = early g h e in
     before h less ∙ ap (list_any test) (line_fuel (suc n) n gates h early (omega arith) (omega arith))
 
-closed_up : (test closed : ℕ → Bool) (gates : List GateInfo) (g : ℕ) (d : GateInfo) → ParentsEarlier gates → g < length gates
+pub closed_up : (test closed : ℕ → Bool) (gates : List GateInfo) (g : ℕ) (d : GateInfo) → ParentsEarlier gates → g < length gates
     → ((h : ℕ) → h < g → closed h ≡ list_any test (line_of gates h))
     → (test g || is_opened closed (get_or gates g d).parent) ≡ list_any test (line_of gates g)
 closed_up test closed gates g d early l before =
@@ -92,9 +94,23 @@ closed_up test closed gates g d early l before =
     ∙ line_up test closed (length gates - 1) gates g (parent_of gates g) refl early (omega arith) (λ h k. before h k ∙ ap (λ (n : ℕ). list_any test (line_from n gates (Some h))) e))
     ∙ sym (ap (λ (n : ℕ). list_any test (line_from n gates (Some g))) e)
 
--- and where the gate itself isn't closed
-pub closed_above : (test closed : ℕ → Bool) (gates : List GateInfo) (g : ℕ) (d : GateInfo) (answer : Bool) → ParentsEarlier gates → g < length gates
-    → ((h : ℕ) → h < g → closed h ≡ list_any test (line_of gates h)) → test g ≡ false → answer ≡ is_opened closed (get_or gates g d).parent
-    → answer ≡ list_any test (line_of gates g)
-closed_above test closed gates g d answer early l before own e =
-    e ∙ ap (λ (b : Bool). b || is_opened closed (get_or gates g d).parent) (sym own) ∙ closed_up test closed gates g d early l before
+no_info : GateInfo
+no_info = record { group = None; parent = None }
+
+-- a gate more that is closed where its parent is
+pub closed_to : (shut old new : ℕ → Bool) (gates : List GateInfo) (i : ℕ) → ParentsEarlier gates → i < length gates
+    → ((g : ℕ) → g < i → old g ≡ list_any shut (line_of gates g)) → ((g : ℕ) → i ≤ g → old g ≡ shut g)
+    → ((g : ℕ) → new g ≡ (old g || (is_opened old (parent_of gates i) && (i == g)))) → (g : ℕ) → g < i + 1 → new g ≡ list_any shut (line_of gates g)
+closed_to shut old new gates i early l done left step g s = elim (cases_lt g i) [
+  | inl less ↦ step g ∙ mark_there (is_opened old (parent_of gates i)) (old g) i g (λ e. omega (arith, e, less)) ∙ done g less
+  | inr more ↦
+      let e : i ≡ g = omega arith in
+      let here : new i ≡ list_any shut (line_of gates i) =
+      step i ∙ mark_here (is_opened old (parent_of gates i)) (old i) i ∙ ap (λ (b : Bool). b || is_opened old (parent_of gates i)) (left i (omega arith))
+      ∙ ap (λ (p : Option ℕ). shut i || is_opened old p) (parent_at gates i no_info l) ∙ closed_up shut old gates i no_info early l done in
+      subst (λ (k : ℕ). new k ≡ list_any shut (line_of gates k)) e here
+]
+
+pub closed_from : (shut old new : ℕ → Bool) (gates : List GateInfo) (i : ℕ) → ((g : ℕ) → i ≤ g → old g ≡ shut g)
+    → ((g : ℕ) → new g ≡ (old g || (is_opened old (parent_of gates i) && (i == g)))) → (g : ℕ) → i + 1 ≤ g → new g ≡ shut g
+closed_from shut old new gates i left step g l = step g ∙ mark_there (is_opened old (parent_of gates i)) (old g) i g (λ e. omega (arith, e, l)) ∙ left g (omega (arith, l))

@@ -97,11 +97,11 @@ both_true false b e h = absurd (cc)
 
 -- ---- marks that are set number by number
 
-mark_here : (b was : Bool) (i : ℕ) → (was || (b && (i == i))) ≡ (was || b)
+pub mark_here : (b was : Bool) (i : ℕ) → (was || (b && (i == i))) ≡ (was || b)
 mark_here true was i = let same : (i == i) ≡ true = grind (arith, nat_tests) in ap (λ (c : Bool). was || c) same
 mark_here false was i = refl
 
-mark_there : (b was : Bool) (i g : ℕ) → (i ≡ g → ⊥) → (was || (b && (i == g))) ≡ was
+pub mark_there : (b was : Bool) (i g : ℕ) → (i ≡ g → ⊥) → (was || (b && (i == g))) ≡ was
 mark_there b was i g apart = by (i == g) (by_test (i == g) (λ e. absurd (apart (grind (arith, nat_tests)))) (λ e. e)) b was
   where
     by : (same : Bool) → same ≡ false → (c d : Bool) → (d || (c && same)) ≡ d

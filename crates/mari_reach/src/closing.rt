@@ -1,13 +1,13 @@
 //! The gates that decisions open and close.
 
-ghost use Rattle.std.specs.Prelude.{◌≡◌, ◌&&◌, ◌||◌, ◌<◌, ◌≤◌, ℕ, length};
+ghost use Rattle.std.specs.Prelude.{◌≡◌, ◌==◌, ◌&&◌, ◌||◌, ◌<◌, ◌≤◌, ℕ, length};
 ghost use Rattle.std.specs.List.{All, list_any};
 ghost use Rattle.mari_market.specs.declared.market.Order.{Order};
 ghost use Rattle.mari_market.specs.Activation.{is_gate};
-ghost use Rattle.mari_market.specs.Gates.{ParentsEarlier};
+ghost use Rattle.mari_market.specs.Gates.{ParentsEarlier, parent_of};
 ghost use Rattle.mari_market.specs.Market.{IsValid, IsValidOrder};
 ghost use Rattle.mari_market.specs.Prefix.{opens_in};
-ghost use Rattle.mari_reach.specs.State.{are_rivals, closes, closes_by, has_rival, is_shut, line_of, opens, opens_by, AreDecisions, IsDecision};
+ghost use Rattle.mari_reach.specs.State.{are_rivals, closes, closes_by, has_rival, is_opened, is_shut, line_of, opens, opens_by, AreDecisions, IsDecision};
 ghost use Rattle.mari_reach.specs.Tables.{HasOpened, HasPrices, IsTwinsOf, SpeaksFor, loses_in};
 ghost use Rattle.mari_reach.specs.Twins.{outranks};
 
@@ -193,28 +193,25 @@ pub(crate) fn shut_themselves(
     shut
 }
 
-/// Whether a gate is closed itself or its parent is closed, where that is known of all gates before it.
-fn is_closed(gates: &[GateInfo], shut: &Marks, closed: &Marks, gate: usize) -> bool
+/// Marks a gate whose parent is marked.
+fn close_below(closed: &mut Marks, gates: &[GateInfo], gate: usize)
     requires few { length gates.now ≤ MOST_GATES }
     requires there { gate < length gates.now }
-    requires earlier { ParentsEarlier gates.now }
-    requires before { (h : ℕ) → h < gate → opens_in closed.now h ≡ list_any (opens_in shut.now) (line_of gates.now h) }
-    ensures { result ≡ list_any (opens_in shut.now) (line_of gates.now gate) }
+    ensures { (g : ℕ) → opens_in closed.new g ≡ (opens_in closed.old g || (is_opened (opens_in closed.old) (parent_of gates.now gate) && (gate == g))) }
 {
-    shut.has(gate as u32) || closed.has_some(gates[gate].parent)
+    let is_below = closed.has_some(gates[gate].parent);
+    closed.mark_if(gate as u32, is_below);
 }
 
 /// The gates in whose line one is closed itself.
-pub(crate) fn shut_by(gates: &[GateInfo], shut: &Marks) -> Marks
+pub(crate) fn shut_by(gates: &[GateInfo], shut: Marks) -> Marks
     requires few { length gates.now ≤ MOST_GATES }
     requires earlier { ParentsEarlier gates.now }
-    ensures { (g : ℕ) → g < length gates.now → opens_in result g ≡ list_any (opens_in shut.now) (line_of gates.now g) }
+    ensures { (g : ℕ) → g < length gates.now → opens_in result g ≡ list_any (opens_in shut) (line_of gates.now g) }
 {
-    let mut closed = Marks::none();
+    let mut closed = shut;
     for gate in 0..gates.len() {
-        if is_closed(gates, shut, &closed, gate) {
-            closed.mark(gate as u32);
-        }
+        close_below(&mut closed, gates, gate);
     }
     closed
 }

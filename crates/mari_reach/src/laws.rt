@@ -19,7 +19,7 @@ ghost use Rattle.mari_reach.specs.declared.decisions.ReachItem.{ReachItem};
 ghost use Rattle.mari_reach.specs.Leaf.{IsBoundFor, dual_of, gain_of, is_needed};
 ghost use Rattle.mari_reach.specs.State.{IsReached, IsVoid, bounds_in, flows_in, high_of, low_of, opens, shuts, state_at};
 ghost use Rattle.mari_reach.specs.Tree.{ReachHolds};
-ghost use Rattle.mari_reach.specs.Twins.{AreTwins, IsAhead, RanksBefore, order_at};
+ghost use Rattle.mari_reach.specs.Twins.{AreTwins, IsAhead, RanksBefore, order_at, outranks};
 
 use mari_market::Market;
 
@@ -62,9 +62,17 @@ pub fn by_tree(market: &Market)
     ensures first { (w : ℤ) (word : List Bool) (items : List ReachItem) (a : Activation) → ReachHolds market.now w word items → IsAdmissible market.now a → welfare_of market.now a ≡ w → gate_word_of market.now a ≡ word → IsFirst market.now a }
 {}
 
-/// What twins show: an activation that opens a gate and closes a twin that ranks before it isn't the first.
+/// What twins show: which they are, what a state opens and closes with them, and that an activation that opens a gate and
+/// closes a twin that ranks before it isn't the first.
 pub fn twins(market: &Market)
     requires { IsValid market.now }
+
+    // A gate outranks another exactly where they are twins, each of one order at some place, and it ranks before the other.
+    ensures outranks { (g h : ℕ) → (outranks market.now g h ≡ true) ↔ ((i : ℕ) × ((j : ℕ) × (AreTwins market.now g h i j × RanksBefore (order_at market.now i) g (order_at market.now j) h))) }
+
+    // With a gate a state opens those that outrank it, and closes those that it outranks.
+    ensures opened { (ds : List Decision) (g h : ℕ) → outranks market.now g h ≡ true → opens market.now ds h ≡ true → opens market.now ds g ≡ true }
+    ensures shut { (ds : List Decision) (g h : ℕ) → outranks market.now g h ≡ true → shuts market.now ds g ≡ true → shuts market.now ds h ≡ true }
 
     // With the quantities of the two exchanged, the same prices are consistent, and the welfare is greater, or the same
     // with an earlier word.

@@ -47,7 +47,7 @@ pub(crate) fn state_by(
     let opened = opened_by(market, twins, decisions);
     let prices = PriceBox::of(market, &opened, decisions, orders);
     let own = shut_themselves(market, orders, twins, decisions, &opened, &prices);
-    let shut = shut_by(gates, &own);
+    let shut = shut_by(gates, own);
     State {
         opened,
         shut,

@@ -1,4 +1,4 @@
-use Rattle.std.proofs.Common.{◌≡◌, ◌<◌, ◌≤◌, ℕ, false}
+use Rattle.std.proofs.Common.{◌≡◌, ◌<◌, ◌≤◌, ℕ}
 use Rattle.std.specs.List.{list_any}
 use Rattle.mari_market.specs.Prefix.{opens_in}
 use Rattle.mari_reach.specs.State.{line_of}
@@ -6,6 +6,6 @@ use Rattle.mari_reach.proofs.closing.shut_by.Given as goal
 
 abbrev pub invariant-loop-gate : goal.invariant-loop-gate
 invariant-loop-gate l = record {
-  done : (g : ℕ) → g < l.gate → opens_in l.closed g ≡ list_any (opens_in l.shut) (line_of l.gates g);
-  left : (g : ℕ) → l.gate ≤ g → opens_in l.closed g ≡ false;
+  done : (g : ℕ) → g < l.gate → opens_in l.closed g ≡ list_any (opens_in l.fn.shut) (line_of l.gates g);
+  left : (g : ℕ) → l.gate ≤ g → opens_in l.closed g ≡ opens_in l.fn.shut g;
 }

@@ -1,5 +1,15 @@
 use Rattle.mari_reach.proofs.Exchanges.{exchanged, out_of_rank}
+use Rattle.mari_reach.proofs.TwinTests.{opened_by_rank, outranks_exactly, shut_by_rank}
 use Rattle.mari_reach.proofs.laws.twins.Goals as goal
+
+pub returns-clause-outranks : goal.returns-clause-outranks
+returns-clause-outranks c = λ g h. outranks_exactly c.args.market.now g h c.requires
+
+pub returns-clause-opened : goal.returns-clause-opened
+returns-clause-opened c = λ ds g h rank e. opened_by_rank c.args.market.now ds g h c.requires rank e
+
+pub returns-clause-shut : goal.returns-clause-shut
+returns-clause-shut c = λ ds g h rank e. shut_by_rank c.args.market.now ds g h c.requires rank e
 
 pub returns-clause-exchanged : goal.returns-clause-exchanged
 returns-clause-exchanged c = λ a ps g h i j t rank opened closed f k.

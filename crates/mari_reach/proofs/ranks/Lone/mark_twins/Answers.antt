@@ -1,4 +1,3 @@
-use Rattle.std.proofs.Common.{arith}
 use Rattle.mari_reach.proofs.LoneTables.{pairs_more}
 use Rattle.mari_reach.proofs.ranks.Lone.mark_twins.Goals as goal
 

@@ -39,6 +39,7 @@ fn clear<S: Shelf, K: Sink>(
     requires { IsBudget nodes }
     ensures same { S.pages shelf.new ≡ S.pages shelf.old }
     ensures reports { ReportsFolder (S.pages shelf.old) (Rose (S.faults shelf.old) (S.faults shelf.new)) folder.now nodes (K.taken sink.old) (K.taken sink.new) result }
+    ensures promise { (reported : Pages) → S.pages shelf.old ≡ Some reported → KeepsPromise (record { folder = folder.now; nodes = nodes }) reported (K.taken sink.old) (K.taken sink.new) result }
 
     // Why a page wasn't had, or a text not written.
     ensures read_fault { Counts (result ≡ Status.ReadFault) (S.faults shelf.old) (S.faults shelf.new) }

@@ -1,8 +1,9 @@
 //! What the words ask for.
 
-ghost use Rattle.std.specs.Prelude.{◌≡◌, List, map, string_bytes};
+ghost use Rattle.std.specs.Prelude.{◌≡◌, map, option_map, string_bytes};
 ghost use Rattle.std.specs.List.{list_any};
-ghost use Rattle.mari_reach_commands.specs.Words.{Reads, job_at, names_workers as workers_named};
+ghost use Rattle.mari_words.specs.Asked.{asked};
+ghost use Rattle.mari_reach_commands.specs.Words.{Reads, asked_job, job_at, job_of as job_asked, names_workers as workers_named};
 
 use mari_words::{Command, WordsFault, read_words};
 use std::alloc::Global;
@@ -17,21 +18,46 @@ pub struct Job {
 }
 
 /// Whether a word names the option of `mari` that this program doesn't have.
-fn names_workers(word: &String) -> bool
-    ensures { result ≡ workers_named (string_bytes word.now) }
+fn names_workers(word: &str) -> bool
+    ensures { result ≡ workers_named word.now }
 {
     word.as_bytes().starts_with(b"--workers")
+}
+
+/// Whether one of the words does.
+fn has_workers(words: &[String]) -> bool
+    ensures { result ≡ list_any workers_named (map string_bytes words.now) }
+{
+    for word in words {
+        if names_workers(word) {
+            return true;
+        }
+    }
+    false
+}
+
+/// What a command of `mari` asks this program for.
+fn job_of(command: Command) -> Option<Job>
+    ensures { option_map asked_job result ≡ job_asked (asked command) }
+{
+    match command {
+        Command::Clear { folder, nodes, .. } => Some(Job { folder, nodes }),
+        _ => None,
+    }
 }
 
 /// What the words after the program's name ask for: those by which `mari clear` is called, without its workers.
 pub fn read_job(alloc: Global, words: &[String]) -> Result<Job, WordsFault>
     ensures { Reads result (job_at (map string_bytes words.now)) }
 {
-    if words.iter().any(names_workers) {
+    if has_workers(words) {
         return Err(WordsFault::Usage);
     }
-    match read_words(alloc, words)? {
-        Command::Clear { folder, nodes, .. } => Ok(Job { folder, nodes }),
-        _ => Err(WordsFault::Usage),
+    match read_words(alloc, words) {
+        Ok(command) => match job_of(command) {
+            Some(job) => Ok(job),
+            None => Err(WordsFault::Usage),
+        },
+        Err(fault) => Err(fault),
     }
 }

@@ -1,0 +1,33 @@
+use Rattle.std.proofs.Common.{◌≡◌, subst, arith}
+use Rattle.mari_reach_commands.specs.Answers.Answers.{OfFolder, OfUsage}
+use Rattle.mari_reach_commands.specs.Promise.{KeepsPromise}
+use Rattle.mari_reach_commands.specs.Words.{Job, asked_job}
+use Rattle.mari_reach_commands.proofs.Causes.{no-page-of-usage}
+use Rattle.mari_reach_commands.proofs.program.run_reach.Goals as goal
+
+pub returns-in-Ok-clause-answers : goal.returns-in-Ok-clause-answers
+returns-in-Ok-clause-answers g c = OfFolder _ c.in-Ok.ensures (rw c.deref.ensures at c.clear.ensures.reports)
+
+pub returns-in-Ok-clause-promise : goal.returns-in-Ok-clause-promise
+returns-in-Ok-clause-promise g c = λ job reported is e.
+    let same : asked_job c.in-Ok.job ≡ job = let here = c.in-Ok.ensures in cc in
+    let P : Job → Type 0 = λ j. KeepsPromise j reported (g.K.Sink.taken c.args.sink.now) (g.K.Sink.taken c.clear.new.sink) c.clear.result in
+    subst P same (rw c.deref.ensures at (c.clear.ensures.promise reported e))
+
+pub returns-in-Err-Usage-clause-answers : goal.returns-in-Err-Usage-clause-answers
+returns-in-Err-Usage-clause-answers g c = OfUsage (rw c.in-Err-Usage.field-0-is at c.in-Err-Usage.ensures) (rw c.usage_line.ensures at c.say.ensures.reports)
+
+pub returns-in-Err-Usage-clause-promise : goal.returns-in-Err-Usage-clause-promise
+returns-in-Err-Usage-clause-promise g c = λ job reported is e. let none = rw c.in-Err-Usage.field-0-is at c.in-Err-Usage.ensures in absurd cc
+
+pub returns-in-Ok-clause-untouched : goal.returns-in-Ok-clause-untouched
+returns-in-Ok-clause-untouched g c = λ none. let there = c.in-Ok.ensures in absurd cc
+
+pub returns-in-Err-Usage-clause-read_fault : goal.returns-in-Err-Usage-clause-read_fault
+returns-in-Err-Usage-clause-read_fault g c = record { later = omega arith; rose = λ e. absurd ((no-page-of-usage _ _ _ _ c.say.ensures.reports).0 e) }
+
+pub returns-in-Err-Usage-clause-missing : goal.returns-in-Err-Usage-clause-missing
+returns-in-Err-Usage-clause-missing g c = record { later = omega arith; rose = λ e. absurd ((no-page-of-usage _ _ _ _ c.say.ensures.reports).1 e) }
+
+pub returns-in-Err-Usage-clause-too_long : goal.returns-in-Err-Usage-clause-too_long
+returns-in-Err-Usage-clause-too_long g c = record { later = omega arith; rose = λ e. absurd ((no-page-of-usage _ _ _ _ c.say.ensures.reports).2 e) }

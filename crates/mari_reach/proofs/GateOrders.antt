@@ -85,6 +85,10 @@ pub gated_if_any : {E : Type 0} (m : Market) (os : List Order) (r : Result (Vec 
 gated_if_any m os (Ok v) valid e h = gated_speak m os v.items valid e h
 gated_if_any m os (Err x) valid e h = tt
 
+pub items_if_any : {E : Type 0} (m : Market) (os : List Order) (r : Result (Vec Order Global) E) → os ≡ m.orders → IfOk r (λ v. v.items ≡ filter has_gate os) → IfOk r (λ v. v.items ≡ filter has_gate m.orders)
+items_if_any m os (Ok v) e h = h ∙ ap (filter has_gate) e
+items_if_any m os (Err x) e h = tt
+
 -- one item more of which those of gates are kept
 pub gated_more : (os : List Order) (i : ℕ) (d : Order) (old new : List Order) → i < length os → old ≡ filter has_gate (take i os) → new ≡ old ++ filter has_gate (get_or os i d ∷ [])
     → new ≡ filter has_gate (take (i + 1) os)

@@ -20,7 +20,7 @@ use mari_units::{Cents, MOST_BORDERS, MOST_FLOW, MOST_GATES, MOST_MW, MOST_ZONES
 pub const MOST_VALUE: u64 = (MOST_ORDERS as u64 + MOST_BORDERS as u64) * MOST_WORTH;
 
 /// What a quantity in MW gains, in quarter-cents, at a gain for each MW.
-fn amount(gap: i64, mw: u32) -> i64
+pub(crate) fn amount(gap: i64, mw: u32) -> i64
     requires low { neg_ℤ (pos MOST_GAP) ≤ℤ gap }
     requires high { gap ≤ℤ pos MOST_GAP }
     requires mw { mw ≤ MOST_FLOW }
@@ -32,7 +32,7 @@ fn amount(gap: i64, mw: u32) -> i64
 }
 
 /// How much an order gains for each MW at a potential.
-fn gap(order: &Order, potential: Cents) -> i64
+pub(crate) fn gap(order: &Order, potential: Cents) -> i64
     requires order { IsPrice order.now.price.0 }
     requires potential { IsPrice potential.0 }
     ensures gap { result ≡ gain_per_mw order.now.side order.now.price.0 potential.0 }
@@ -150,7 +150,7 @@ fn order_value(order: &Order, state: &State, potentials: &[Cents]) -> i64
 }
 
 /// A zone's potential.
-fn potential_at(potentials: &[Cents], zone: u32) -> Cents
+pub(crate) fn potential_at(potentials: &[Cents], zone: u32) -> Cents
     requires zone { zone < length potentials.now }
     requires potentials { All IsCapped potentials.now }
     ensures value { result.0 ≡ price_at potentials.now zone }
@@ -208,7 +208,7 @@ fn best_flow(border: &Border, state: &State, potentials: &[Cents]) -> i64
 }
 
 /// The most that all orders gain.
-fn orders_value(orders: &[Order], state: &State, potentials: &[Cents]) -> i64
+pub(crate) fn orders_value(orders: &[Order], state: &State, potentials: &[Cents]) -> i64
     requires few { length orders.now ≤ MOST_ORDERS }
     requires few_zones { length potentials.now ≤ MOST_ZONES }
     requires orders { All (IsValidOrder (length potentials.now) MOST_GATES) orders.now }
@@ -225,7 +225,7 @@ fn orders_value(orders: &[Order], state: &State, potentials: &[Cents]) -> i64
 }
 
 /// The most that all borders earn.
-fn borders_value(borders: &[Border], state: &State, potentials: &[Cents]) -> i64
+pub(crate) fn borders_value(borders: &[Border], state: &State, potentials: &[Cents]) -> i64
     requires few { length borders.now ≤ MOST_BORDERS }
     requires few_zones { length potentials.now ≤ MOST_ZONES }
     requires borders { All (IsValidBorder (length potentials.now)) borders.now }

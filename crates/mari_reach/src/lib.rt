@@ -10,6 +10,7 @@ mod gains;
 mod gated;
 mod laws;
 mod leaves;
+mod levels;
 mod marks;
 mod prices;
 mod ranks;

@@ -1,7 +1,7 @@
 -- The dual value by a survey: plain orders by levels, and orders of gates.
 use Rattle.std.proofs.Common.{◌≡◌, ◌∙◌, ◌||◌, not, if◌then◌else◌, Bool, true, false, ℕ, suc, ◌+◌, ◌≤◌, ◌<◌, ℤ, pos, ◌+ℤ◌, ◌-ℤ◌, ◌*ℤ◌, ◌≤ℤ◌, ◌<ℤ◌, List, [], ◌∷◌, length, Option, Some, None, arith, ap, refl, sym, subst, inl, inr, w64, to_z, of_z, neg_ℤ, ◌*◌}
 use Rattle.std.proofs.lemmas.Int.{ints, clamps, by_lt_z, fits_signed_from_abs, to_z-of_z}
-use Rattle.std.proofs.lemmas.Bool.{cases_lt, cases_eq}
+use Rattle.std.proofs.lemmas.Bool.{cases_lt}
 use Rattle.std.proofs.lemmas.List.Elements.{All-cons, All-nil, All-weaker}
 use Rattle.std.specs.Int.{int_max, int_min}
 use Rattle.std.specs.List.{All, filter}
@@ -20,7 +20,7 @@ use Rattle.mari_market.specs.Dual.{best_order, gain_per_mw}
 use Rattle.mari_market.specs.Market.{IsValid, IsValidOrder}
 use Rattle.mari_market.specs.Price.{price_at}
 use Rattle.mari_market.specs.Sums.{int_at, int_sum}
-use Rattle.mari_market.proofs.Rising.{is_less, less, not_less}
+use Rattle.mari_market.proofs.Rising.{is_less, not_less}
 use Rattle.mari_reach.specs.declared.levels.Levels.{Levels}
 use Rattle.mari_reach.specs.declared.states.State.{State}
 use Rattle.mari_reach.specs.Tables.{has_gate, is_plain, span_in}

@@ -18,9 +18,8 @@ ghost use Rattle.mari_reach.specs.Values.{ReachLeafHoldsBy, IsBoundBy, dual_in, 
 
 use crate::cuts::is_cut;
 use crate::decisions::{Decision, ReachLeaf};
-use crate::dual::total_value;
+use crate::dual::{total_by, total_value};
 use crate::gains::Gains;
-use crate::levels::total_by;
 use crate::states::{State, state_of};
 use crate::survey::Survey;
 use mari_gates::opens;

@@ -3,17 +3,16 @@
 ghost use Rattle.std.specs.Prelude.{◌≡◌, if◌then◌else◌, ℕ, ℤ, pos, ◌*◌, ◌≤ℤ◌, neg_ℤ, ◌≤◌, ◌<◌, None, length};
 ghost use Rattle.std.specs.List.{All};
 ghost use Rattle.mari_market.specs.Dual.{best_order};
-ghost use Rattle.mari_market.specs.Market.{IsValid, IsValidOrder};
+ghost use Rattle.mari_market.specs.Market.{IsValidOrder};
 ghost use Rattle.mari_market.specs.Price.{IsCapped, IsPrice, price_at};
 ghost use Rattle.mari_market.specs.Sums.{int_at, int_sum};
 ghost use Rattle.mari_reach.specs.declared.states.State.{State as StateRecord};
-ghost use Rattle.mari_reach.specs.Tables.{IsSurveyOf, span_in};
-ghost use Rattle.mari_reach.specs.Values.{HasLevels, dual_in, inject_below, runs_at, withdraw_above};
+ghost use Rattle.mari_reach.specs.Tables.{span_in};
+ghost use Rattle.mari_reach.specs.Values.{HasLevels, inject_below, runs_at, withdraw_above};
 
-use crate::dual::{amount, borders_value, gap, orders_value, potential_at};
 use crate::states::State;
-use crate::survey::Survey;
-use mari_market::{MOST_ORDERS, MOST_WORTH, Market, Order, Side};
+use crate::worth::{amount, gap, potential_at};
+use mari_market::{MOST_ORDERS, MOST_WORTH, Order, Side};
 use mari_units::{Cents, MOST_GATES, MOST_ZONES};
 
 /// For each zone the price below which a plain injection runs in full, and the price above which a withdrawal does, where
@@ -66,7 +65,7 @@ impl Levels {
     }
 
     /// The levels of the zones' potentials in a state.
-    fn of(state: &State, potentials: &[Cents]) -> Levels
+    pub(crate) fn of(state: &State, potentials: &[Cents]) -> Levels
         requires few { length potentials.now ≤ MOST_ZONES }
         requires potentials { All IsCapped potentials.now }
         ensures { HasLevels state.now potentials.now result }
@@ -93,7 +92,7 @@ impl Levels {
 }
 
 /// The most that a plain order gains at its zone's potential.
-fn plain_value(order: &Order, levels: &Levels, potentials: &[Cents]) -> i64
+pub(crate) fn plain_value(order: &Order, levels: &Levels, potentials: &[Cents]) -> i64
     requires order { IsValidOrder (length potentials.now) MOST_GATES order.now }
     requires plain { order.now.gate ≡ None }
     requires few { length potentials.now ≤ MOST_ZONES }
@@ -108,7 +107,7 @@ fn plain_value(order: &Order, levels: &Levels, potentials: &[Cents]) -> i64
 }
 
 /// The most that plain orders gain.
-fn plain_total(orders: &[Order], levels: &Levels, potentials: &[Cents]) -> i64
+pub(crate) fn plain_total(orders: &[Order], levels: &Levels, potentials: &[Cents]) -> i64
     requires few { length orders.now ≤ MOST_ORDERS }
     requires few_zones { length potentials.now ≤ MOST_ZONES }
     requires orders { All (IsValidOrder (length potentials.now) MOST_GATES) orders.now }
@@ -123,18 +122,4 @@ fn plain_total(orders: &[Order], levels: &Levels, potentials: &[Cents]) -> i64
         total += plain_value(order, levels, potentials);
     }
     total
-}
-
-/// The most that all orders gain and all borders earn, by the survey of the market.
-pub(crate) fn total_by(market: &Market, survey: &Survey, state: &State, potentials: &[Cents]) -> i64
-    requires market { IsValid market.now }
-    requires survey { IsSurveyOf market.now survey.now }
-    requires one_each { length potentials.now ≡ market.now.zones }
-    requires potentials { All IsCapped potentials.now }
-    ensures { result ≡ dual_in market.now state.now potentials.now }
-{
-    let levels = Levels::of(state, potentials);
-    plain_total(survey.plain.as_slice(), &levels, potentials)
-        + orders_value(survey.gated.as_slice(), state, potentials)
-        + borders_value(market.borders.as_slice(), state, potentials)
 }

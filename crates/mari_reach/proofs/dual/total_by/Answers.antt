@@ -1,5 +1,4 @@
-use Rattle.std.proofs.Common.{◌≡◌, ◌∙◌, ◌+ℤ◌, ◌≤◌, ℤ, List, None, arith, ap, length, subst, sym}
-use Rattle.std.proofs.lemmas.Int.{ints}
+use Rattle.std.proofs.Common.{◌≡◌, ◌∙◌, ◌+ℤ◌, ◌≤◌, List, None, arith, ap, length, subst, sym}
 use Rattle.std.proofs.lemmas.List.Elements.{All-filter}
 use Rattle.std.specs.List.{All}
 use Rattle.mari_market.specs.declared.market.Order.{Order}
@@ -9,7 +8,7 @@ use Rattle.mari_market.specs.Market.{IsValidOrder}
 use Rattle.mari_market.specs.Sums.{int_sum}
 use Rattle.mari_reach.specs.Tables.{flow_in, has_gate, is_plain, span_in}
 use Rattle.mari_reach.proofs.ByLevel.{all_plain, few_kept, split_sum, sum_of_three, valid_wide}
-use Rattle.mari_reach.proofs.levels.total_by.Goals as goal
+use Rattle.mari_reach.proofs.dual.total_by.Goals as goal
 
 pub plain_total-requires-clause-few : goal.plain_total-requires-clause-few
 plain_total-requires-clause-few c =

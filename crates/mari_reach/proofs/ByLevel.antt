@@ -25,12 +25,9 @@ use Rattle.mari_reach.specs.declared.levels.Levels.{Levels}
 use Rattle.mari_reach.specs.declared.states.State.{State}
 use Rattle.mari_reach.specs.Tables.{has_gate, is_plain, span_in}
 use Rattle.mari_reach.specs.Values.{inject_below, runs_at, runs_best, withdraw_above, HasLevels}
-use Rattle.mari_reach.proofs.Plain.{best_is}
+use Rattle.mari_reach.proofs.Plain.{best_is, is_not_less}
 
 -- ---- levels say where a plain order runs in full
-
-is_not_less : (x y : ℤ) → y ≤ℤ x → lt_z x y ≡ false
-is_not_less x y h = grind (arith, ints)
 
 or_not : (a : Bool) (x y : ℤ) → (a ≡ false → y ≤ℤ x) → (a || not (lt_z x y)) ≡ true
 or_not true x y h = refl

@@ -15,11 +15,7 @@ use Rattle.mari_market.specs.Market.{IsValid, IsValidOrder}
 use Rattle.mari_reach.specs.declared.prices.PriceBox.{PriceBox}
 use Rattle.mari_reach.specs.State.{ceiling_at, ceiling_of, ceiling_said, floor_at, floor_of, floor_said, high_said, is_opened, low_said}
 use Rattle.mari_reach.specs.Tables.{SpeaksFor, has_gate, has_loss_in, loses_in}
-use Rattle.mari_reach.proofs.Ranges.{max_from, min_to}
-
-and_none : (b c : Bool) → c ≡ false → (b && c) ≡ false
-and_none true c e = e
-and_none false c e = refl
+use Rattle.mari_reach.proofs.Ranges.{and_none, max_from, min_to}
 
 -- what is kept of a first item, and of the others
 kept : (o : Order) (os : List Order) (b : Bool) → is_some o.gate ≡ b → filter has_gate (o ∷ os) ≡ (if b then o ∷ filter has_gate os else filter has_gate os)

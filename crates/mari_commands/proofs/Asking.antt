@@ -1,8 +1,7 @@
 -- What a feed asks the shelf for.
-use Rattle.std.proofs.Common.{◌≡◌, ◌∙◌, sym, ℕ, List, Option, Some, None, inl, inr, arith}
+use Rattle.std.proofs.Common.{ℕ, Option, inr}
 use Rattle.mari_publish.specs.Streams.{AsksForPage}
 use Rattle.mari_words.specs.Asked.{Asked}
-use Rattle.mari_words.specs.Asked.Asked.{Feed}
 use Rattle.mari_commands.specs.Commands.{AsksForFeed}
 use Rattle.mari_commands.specs.Outcome.{AreQuarters, AsksForOne, IsOfWords}
 use Rattle.mari_commands.specs.declared.outcome.Outcome.{Outcome}

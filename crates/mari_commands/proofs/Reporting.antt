@@ -12,7 +12,7 @@ use Rattle.mari_feed.proofs.Feeding.{took_none}
 use Rattle.mari_answers.specs.declared.status.Status.{Status}
 use Rattle.mari_commands.specs.Commands.{text_refusal}
 use Rattle.mari_commands.specs.Outcome.{ReportsText, refusal_of}
-use Rattle.mari_answers.specs.Reports.{Reports, ReportsRefusal}
+use Rattle.mari_answers.specs.Reports.{ReportsRefusal}
 
 -- the refusal of a fault of a publication's text
 pub same_refusal : (fault : TextFault) (refusal : Refusal) (before after : Option (List ℕ)) (result : Status)

@@ -10,15 +10,13 @@ use Rattle.mari_day.specs.Files.Gap.{NotHeld, OverLimit}
 use Rattle.mari_day.specs.Reading.{BooksReport, NamesAFile}
 use Rattle.mari_day.specs.declared.reading.BooksFault.{BooksFault}
 use Rattle.mari_day.specs.declared.reading.BooksFault.TheVariants as why
-use Rattle.mari_check.specs.declared.verdict.Verdict.{Verdict}
-use Rattle.mari_check.specs.declared.verdict.Verdict.TheVariants as verdict
 use Rattle.mari_words.specs.Asked.{Asked}
 use Rattle.mari_words.specs.Asked.Asked.{Check, Generate, Migrate}
 use Rattle.mari_words.specs.declared.command.FilePart.{FilePart}
 use Rattle.mari_commands.specs.declared.outcome.Outcome.{Outcome}
-use Rattle.mari_commands.specs.declared.outcome.Outcome.TheVariants.{NoCommand, Day, Feed as Feeds, Blocks as Joins, Values, Text, Invalid, NoPage, Refused, Memory as NoMemory}
+use Rattle.mari_commands.specs.declared.outcome.Outcome.TheVariants.{Text, Refused, Memory as NoMemory}
 use Rattle.mari_commands.specs.Commands.{AsksForLines, ReadsFolder}
-use Rattle.mari_commands.specs.Outcome.{IsMigrated, IsOfWords, IsSummarised, IsReportedVerdict, Says, no_books, text_outcome}
+use Rattle.mari_commands.specs.Outcome.{IsMigrated, IsOfWords, IsSummarised, Says, no_books, text_outcome}
 use Rattle.mari_commands.specs.Outcome.Says.{OfRefusal, OfGap, Fails, Starves}
 
 pub says-fault : (asked : Option Asked) (pages : Pages) (folder : List ℕ) (fault : BooksFault) → ReadsFolder asked folder → BooksReport pages folder (Err fault) → Says asked pages (no_books fault)

@@ -28,7 +28,7 @@ use Rattle.mari_market.proofs.Lists.{by_test}
 use Rattle.mari_market.proofs.Sums.{AllZip-at, sum_along-set}
 use Rattle.mari_reach.specs.Twins.{no_order, order_at, AreTwins, IsAhead, IsBetter, RanksBefore}
 use Rattle.mari_reach.proofs.LeafLaws.{opens_map}
-use Rattle.mari_reach.proofs.Ranges.{both_true}
+use Rattle.mari_reach.proofs.Ranges.{both_true, or_first, or_later}
 
 -- ---- lists side by side
 
@@ -45,14 +45,6 @@ all_zip P (x ∷ xs) [] d e l h = absurd (omega (arith, l))
 all_zip P (x ∷ xs) (y ∷ ys) d e l h = (h 0 (omega arith), all_zip P xs ys d e (omega (arith, l)) (λ k s. h (suc k) (omega arith)))
 
 -- ---- gates that run
-
-or_first : (a b : Bool) → a ≡ true → (a || b) ≡ true
-or_first true b e = refl
-or_first false b e = absurd (cc)
-
-or_later : (a b : Bool) → b ≡ true → (a || b) ≡ true
-or_later true b e = refl
-or_later false b e = e
 
 or_none : (a b : Bool) → a ≡ false → b ≡ false → (a || b) ≡ false
 or_none true b e f = absurd (cc)

@@ -15,11 +15,7 @@ use Rattle.mari_market.specs.Market.{IsValid, IsValidOrder}
 use Rattle.mari_reach.specs.declared.prices.PriceBox.{PriceBox}
 use Rattle.mari_reach.specs.State.{ceiling_at, ceiling_of, ceiling_said, floor_at, floor_of, floor_said, high_said, is_opened, low_said}
 use Rattle.mari_reach.specs.Tables.{SpeaksFor, has_gate, has_loss_in, loses_in}
-use Rattle.mari_reach.proofs.Ranges.{max_from, min_to}
-
-and_none : (b c : Bool) → c ≡ false → (b && c) ≡ false
-and_none true c e = e
-and_none false c e = refl
+use Rattle.mari_reach.proofs.Ranges.{and_none, max_from, min_to}
 
 -- what is kept of a first item, and of the others
 kept : (o : Order) (os : List Order) (b : Bool) → is_some o.gate ≡ b → filter has_gate (o ∷ os) ≡ (if b then o ∷ filter has_gate os else filter has_gate os)
@@ -84,6 +80,10 @@ gated_speak m os gated v same e = subst (SpeaksFor m) (sym (e ∙ ap (filter has
 pub gated_if_any : {E : Type 0} (m : Market) (os : List Order) (r : Result (Vec Order Global) E) → IsValid m → os ≡ m.orders → IfOk r (λ v. v.items ≡ filter has_gate os) → IfOk r (λ v. SpeaksFor m v.items)
 gated_if_any m os (Ok v) valid e h = gated_speak m os v.items valid e h
 gated_if_any m os (Err x) valid e h = tt
+
+pub items_if_any : {E : Type 0} (m : Market) (os : List Order) (r : Result (Vec Order Global) E) → os ≡ m.orders → IfOk r (λ v. v.items ≡ filter has_gate os) → IfOk r (λ v. v.items ≡ filter has_gate m.orders)
+items_if_any m os (Ok v) e h = h ∙ ap (filter has_gate) e
+items_if_any m os (Err x) e h = tt
 
 -- one item more of which those of gates are kept
 pub gated_more : (os : List Order) (i : ℕ) (d : Order) (old new : List Order) → i < length os → old ≡ filter has_gate (take i os) → new ≡ old ++ filter has_gate (get_or os i d ∷ [])

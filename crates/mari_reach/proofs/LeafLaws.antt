@@ -35,7 +35,7 @@ use Rattle.mari_reach.specs.Leaf.{best_of_gate, dual_of, gain_of, is_needed, nee
 use Rattle.mari_reach.specs.State.{bounds_in, flows_in, opens, IsReached}
 use Rattle.mari_market.proofs.Cuts.{cut_has_none}
 use Rattle.mari_market.proofs.Duality.{weak_duality_within}
-use Rattle.mari_reach.proofs.Reaching.{all_opened, or_either, within_bounds, void_has_none}
+use Rattle.mari_reach.proofs.Reaching.{all_opened, or_either, same_number, void_has_none, within_bounds}
 
 -- ---- words
 
@@ -87,9 +87,6 @@ without g bounds o = if is_gate g o.gate then record { lo = 0; hi = 0 } else bou
 closed_runs_none : (b : Bool) (o : Order) (q : ℕ) → b ≡ false → IsWithin (gated_span (if b then Open else Closed) o) q → q ≤ 0
 closed_runs_none true o q e w = absurd (cc)
 closed_runs_none false o q e w = w.most
-
-same_number : (a b : ℕ) → (a == b) ≡ true → a ≡ b
-same_number a b e = grind (arith, nat_tests)
 
 if_gate : (t : Bool) (q : ℕ) (s : Span) → (t ≡ true → q ≤ 0) → IsWithin s q → IsWithin (if t then record { lo = 0; hi = 0 } else s) q
 if_gate true q s none h = record { least = omega arith; most = none refl }

@@ -14,3 +14,4 @@ pub mod RootLaws
 pub mod GateOrders
 pub mod LoneTables
 pub mod Plain
+pub mod ByLevel

@@ -7,7 +7,7 @@ use Rattle.mari_market.specs.declared.market.GateInfo.{GateInfo}
 use Rattle.mari_market.specs.Gates.{ParentsEarlier, parent_of}
 use Rattle.mari_gates.proofs.Decisions.{parent_at}
 use Rattle.mari_reach.specs.State.{is_opened, line_from, line_of}
-use Rattle.mari_reach.proofs.Ranges.{mark_here, mark_there}
+use Rattle.mari_reach.proofs.Ranges.{mark_here, mark_there, or_assoc}
 
 -- what is left of a line, by its first gate
 pub line_test : (test : ℕ → Bool) (gates : List GateInfo) (i at : ℕ) (next : Option ℕ) (d : GateInfo) → i < length gates → at < length gates → next ≡ Some at
@@ -44,19 +44,12 @@ pub marks_step : (gates : List GateInfo) (test : ℕ → Bool) (old new start wh
     → (new || list_any test (line_from (length gates - (i + 1)) gates (get_or gates at d).parent)) ≡ whole
 marks_step gates test old new start whole i at next d l k is before e =
     ap (λ (b : Bool). b || list_any test (line_from (length gates - (i + 1)) gates (get_or gates at d).parent)) e
-    ∙ regroup old (test at) (list_any test (line_from (length gates - (i + 1)) gates (get_or gates at d).parent))
+    ∙ or_assoc old (test at) (list_any test (line_from (length gates - (i + 1)) gates (get_or gates at d).parent))
     ∙ ap (λ (b : Bool). old || b) (sym (line_test test gates i at next d l k is)) ∙ before
-  where
-    regroup : (x y z : Bool) → ((x || y) || z) ≡ (x || (y || z))
-    regroup true y z = refl
-    regroup false y z = refl
-
-or_none : (b c whole : Bool) → (b || c) ≡ whole → c ≡ false → b ≡ whole
-or_none true c whole e n = e
-or_none false c whole e n = sym n ∙ e
 
 pub marks_end : (b c whole : Bool) → (b || c) ≡ whole → c ≡ false → b ≡ whole
-marks_end b c whole e n = or_none b c whole e n
+marks_end true c whole e n = e
+marks_end false c whole e n = sym n ∙ e
 
 -- ---- lines that are long enough
 

@@ -15,7 +15,7 @@ use Rattle.mari_reach.specs.declared.marks.Marks.{Marks}
 use Rattle.mari_reach.specs.declared.ranks.Lone.{Lone}
 use Rattle.mari_reach.specs.declared.ranks.Twins.{Twins}
 use Rattle.mari_reach.specs.Tables.{lone_in, outranks_in, AreMarked, IsLoneOf, IsTwinsOf}
-use Rattle.mari_reach.proofs.Ranges.{both_true}
+use Rattle.mari_reach.proofs.Ranges.{both_true, or_first, or_later}
 use Rattle.mari_reach.specs.Twins.{lone_order, orders_of, outranks, outranks_by, sole, stands_alone}
 
 -- ---- one order more
@@ -73,14 +73,6 @@ sifted_more gates was old new i done left here others g l = elim (cases_lt g i) 
 
 pub same_outranks : (m : Market) (t : Lone) (g h : ℕ) → IsLoneOf m t → g < length m.gates → h < length m.gates → outranks_in t g h ≡ outranks m g h
 same_outranks m t g h k l s = ap (λ (x : Option Order). outranks_by x g (lone_in t h) h) (k g l) ∙ ap (λ (x : Option Order). outranks_by (lone_order m g) g x h) (k h s)
-
-or_first : (a b : Bool) → a ≡ true → (a || b) ≡ true
-or_first true b e = refl
-or_first false b e = absurd (cc)
-
-or_later : (a b : Bool) → b ≡ true → (a || b) ≡ true
-or_later true b e = refl
-or_later false b e = e
 
 -- both of two twins are marked
 both_marked : (m : Market) (t : Twins) (g h : ℕ) → IsTwinsOf m t → g < length m.gates → h < length m.gates → outranks_in t.lone g h ≡ true → (opens_in t.twinned g ≡ true) × (opens_in t.twinned h ≡ true)

@@ -19,6 +19,7 @@ use Rattle.mari_reach.specs.Leaf.{best_of_gate, dual_of, gain_of, is_needed}
 use Rattle.mari_reach.specs.State.{bounds_in, gains, gate_span, loses, opens, reached_span, shuts, state_at, state_by}
 use Rattle.mari_reach.proofs.LeafLaws.{nothing}
 use Rattle.mari_reach.proofs.Reaching.{or_either, same_number}
+use Rattle.mari_reach.proofs.Ranges.{or_first, or_later}
 
 -- an order of a closed gate runs nothing
 closed_span : (s : ℕ → GateState) (gaining losing : Bool) (gate : Option ℕ) (o : Order) (g : ℕ) → s g ≡ Closed → is_gate g gate ≡ true → reached_span s gaining losing gate o ≡ record { lo = 0; hi = 0 }
@@ -40,14 +41,6 @@ closed_gains m ds ps g (o ∷ os) e = omega (arith, ints, one, closed_gains m ds
         ∙ ap (λ (s : Span). best_trade o.side o.price.0 (price_at ps o.zone) s) (closed_span (state_at m ds) (gains m ds o) (loses m ds o) o.gate o g e t)
         ∙ nothing (gain_per_mw o.side o.price.0 (price_at ps o.zone)))
         (λ f. ap (λ (b : Bool). if b then best_order (bounds_in m ds) ps o else pos 0) f)
-
-or_first : (a b : Bool) → a ≡ true → (a || b) ≡ true
-or_first true b e = refl
-or_first false b e = absurd (cc)
-
-or_later : (a b : Bool) → b ≡ true → (a || b) ≡ true
-or_later true b e = refl
-or_later false b e = e
 
 -- where the dual value is the cutoff, the gates that are needed are those that the state opens, and the free ones without
 -- whose gain the dual value is below the cutoff

@@ -16,6 +16,7 @@ use Rattle.mari_reach.specs.declared.states.State.{State}
 use Rattle.mari_reach.specs.State.{gains_within, loses_within, plain_span, reached_span}
 use Rattle.mari_reach.specs.Tables.{gains_in, loses_in, span_in, state_in}
 use Rattle.mari_reach.specs.Values.{runs_best}
+use Rattle.mari_reach.proofs.Ranges.{opposite}
 
 pub greatest_best : (gap : ℤ) (lo hi : ℕ) → lo ≤ hi → pos 0 <ℤ gap → gap *ℤ pos hi ≡ best_within gap (record { lo = lo; hi = hi })
 greatest_best gap lo hi l h = end_is_best gap (pos lo) (pos hi) (pos hi) (omega (arith, ints)) (omega (arith, ints)) (λ _. omega (arith, ints)) (λ s. absurd (omega (arith, ints, s)))
@@ -39,26 +40,22 @@ by_cases gap o false false true up down = greatest_no_less gap o.greatest ((up r
 by_cases gap o false true false up down = omega (arith, ints, clamps)
 by_cases gap o false false false up down = least_best gap 0 o.greatest (omega arith) (down refl refl)
 
-not_true : (b : Bool) → not b ≡ true → b ≡ false
-not_true true e = absurd (cc)
-not_true false e = refl
-
 not_false : (b : Bool) → not b ≡ false → b ≡ true
 not_false true e = refl
 not_false false e = absurd (cc)
 
-is_not_less : (x y : ℤ) → y ≤ℤ x → lt_z x y ≡ false
+pub is_not_less : (x y : ℤ) → y ≤ℤ x → lt_z x y ≡ false
 is_not_less x y h = grind (arith, ints)
 
 by_side : (side : Side) (c p low high : ℤ) (o : Order)
     → gain_per_mw side c p *ℤ pos (if runs_best side c p low high then o.greatest else 0) ≡ best_within (gain_per_mw side c p) (plain_span (gains_within side c low high) (loses_within side c low high) o)
 by_side Inject c p low high o =
     by_cases (p -ℤ c) o (lt_z c low) (lt_z high c) (not (lt_z (int_min p high) c))
-    (λ e. let l : c ≤ℤ int_min p high = not_less (int_min p high) c (not_true (lt_z (int_min p high) c) e) in (is_not_less high c (omega (arith, ints, clamps, l)), omega (arith, ints, clamps, l)))
+    (λ e. let l : c ≤ℤ int_min p high = not_less (int_min p high) c (opposite (lt_z (int_min p high) c) e) in (is_not_less high c (omega (arith, ints, clamps, l)), omega (arith, ints, clamps, l)))
     (λ e n. omega (arith, ints, clamps, less (int_min p high) c (not_false (lt_z (int_min p high) c) e), not_less high c n))
 by_side Withdraw c p low high o =
     by_cases (c -ℤ p) o (lt_z high c) (lt_z c low) (not (lt_z c (int_max p low)))
-    (λ e. let l : int_max p low ≤ℤ c = not_less c (int_max p low) (not_true (lt_z c (int_max p low)) e) in (is_not_less c low (omega (arith, ints, clamps, l)), omega (arith, ints, clamps, l)))
+    (λ e. let l : int_max p low ≤ℤ c = not_less c (int_max p low) (opposite (lt_z c (int_max p low)) e) in (is_not_less c low (omega (arith, ints, clamps, l)), omega (arith, ints, clamps, l)))
     (λ e n. omega (arith, ints, clamps, less c (int_max p low) (not_false (lt_z c (int_max p low)) e), not_less c low n))
 
 -- what a plain order gains at most by the tables

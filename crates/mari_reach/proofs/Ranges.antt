@@ -1,5 +1,5 @@
 -- Tests and greatest numbers, item by item.
-use Rattle.std.proofs.Common.{◌≡◌, ◌==◌, ◌&&◌, ◌||◌, Bool, true, false, ℕ, zero, suc, ◌+◌, ◌<◌, ◌≤◌, ℤ, pos, ◌≤ℤ◌, List, [], ◌∷◌, length, map, take, get_or, arith, refl, sym, ap, ◌∙◌, subst, inl, inr, zero-add}
+use Rattle.std.proofs.Common.{◌≡◌, ◌==◌, ◌&&◌, ◌||◌, not, Bool, true, false, ℕ, zero, suc, ◌+◌, ◌<◌, ◌≤◌, ℤ, pos, ◌≤ℤ◌, List, [], ◌∷◌, length, map, take, get_or, arith, refl, sym, ap, ◌∙◌, subst, inl, inr, zero-add}
 use Rattle.std.proofs.lemmas.Bool.{cases_lt}
 use Rattle.std.proofs.lemmas.Bool.Decides.{nat_tests}
 use Rattle.std.proofs.lemmas.Int.{ints, clamps}
@@ -120,3 +120,26 @@ marked_to i answer test was old new e done left step g l =
 pub marked_from : (i : ℕ) (answer : Bool) (was old new : ℕ → Bool) → ((g : ℕ) → i ≤ g → old g ≡ was g)
     → ((g : ℕ) → new g ≡ (old g || (answer && (i == g)))) → (g : ℕ) → i + 1 ≤ g → new g ≡ was g
 marked_from i answer was old new left step g l = step g ∙ mark_there answer (old g) i g (λ e. omega (arith, e, l)) ∙ left g (omega (arith, l))
+
+-- ---- tests put together
+
+pub or_first : (a b : Bool) → a ≡ true → (a || b) ≡ true
+or_first true b e = refl
+or_first false b e = absurd (cc)
+
+pub or_later : (a b : Bool) → b ≡ true → (a || b) ≡ true
+or_later true b e = refl
+or_later false b e = e
+
+pub and_none : (b c : Bool) → c ≡ false → (b && c) ≡ false
+and_none true c e = e
+and_none false c e = refl
+
+-- a test that is refused, and one whose opposite passes
+pub refused : (b : Bool) → (b ≡ true → ⊥) → b ≡ false
+refused true n = absurd (n refl)
+refused false n = refl
+
+pub opposite : (b : Bool) → not b ≡ true → b ≡ false
+opposite true e = absurd (cc)
+opposite false e = refl

@@ -32,6 +32,7 @@ use Rattle.mari_market.specs.Flows.{IsFlowWithin}
 use Rattle.mari_market.specs.Relaxation.{IsWithinSpans}
 use Rattle.mari_reach.specs.Twins.{outranks, KeepsRank}
 use Rattle.mari_reach.specs.State.{line_from, line_of, opens_by, opens, closes_by, closes, is_one_group, are_rivals, has_rival, is_opened, floor_of, ceiling_of, floor_at, ceiling_at, floor_said, ceiling_said, low_said, high_said, low_of, high_of, gains_within, loses_within, gains, loses, has_loss, is_shut, shuts, state_by, plain_span, gate_span, reached_span, bounds_in, border_span, rises, falls, flows_in, IsVoid, IsReached, Obeys, Agree}
+use Rattle.mari_reach.proofs.Ranges.{refused}
 
 -- ---- tests of lists
 
@@ -71,7 +72,7 @@ line_gives (suc n) gates on test rules (Some g) is e k = elim (or_either (test g
   | inr h ↦ line_gives n gates on test rules (parent_of gates g) (λ p parent. rules.parents g p (is g refl) parent) h k
 ]
 
-some_same : (a b : ℕ) → Some a ≡ Some b → a ≡ b
+pub some_same : (a b : ℕ) → Some a ≡ Some b → a ≡ b
 some_same a b e = cc
 
 line_of_open : {R : Type 0} (gates : List GateInfo) (on : ℕ → Bool) (test : ℕ → Bool) (g : ℕ) → KeepsGateRules gates on → on g ≡ true
@@ -128,6 +129,12 @@ pays_at on own us z o q k h e =
     subst (λ (y : ℕ). Pays o.side o.price.0 (price_at us y)) (same_number o.zone z both.0)
     (pays_where_opened on own o.gate o.side o.price.0 (price_at us o.zone) o.greatest q k h both.1)
 
+greatest : (x y p : ℤ) → x ≤ℤ p → y ≤ℤ p → int_max x y ≤ℤ p
+greatest x y p h k = omega (arith, ints, clamps)
+
+least : (x y p : ℤ) → p ≤ℤ x → p ≤ℤ y → p ≤ℤ int_min x y
+least x y p h k = omega (arith, ints, clamps)
+
 pub low_kept : (on own : ℕ → Bool) (us : List Cents) (z : ℕ) (a : ℤ) (os : List Order) (qs : List ℕ) → ((g : ℕ) → on g ≡ true → own g ≡ true)
     → IsPrice (price_at us z) → AllZip (IsConsistentOrder own us) os qs → a ≤ℤ price_at us z
     → fold int_max a (map (floor_at on z) os) ≤ℤ price_at us z
@@ -136,9 +143,6 @@ low_kept on own us z a (o ∷ os) [] k price h l = absurd h
 low_kept on own us z a (o ∷ os) (q ∷ qs) k price h l =
     let one : floor_at on z o ≤ℤ price_at us z = floor_is_low ((o.zone == z) && is_opened on o.gate) o.side o.price.0 (price_at us z) price (λ e. pays_at on own us z o q k h.0 e) in
     low_kept on own us z (int_max a (floor_at on z o)) os qs k price h.1 (greatest a (floor_at on z o) (price_at us z) l one)
-  where
-    greatest : (x y p : ℤ) → x ≤ℤ p → y ≤ℤ p → int_max x y ≤ℤ p
-    greatest x y p h k = omega (arith, ints, clamps)
 
 pub high_kept : (on own : ℕ → Bool) (us : List Cents) (z : ℕ) (a : ℤ) (os : List Order) (qs : List ℕ) → ((g : ℕ) → on g ≡ true → own g ≡ true)
     → IsPrice (price_at us z) → AllZip (IsConsistentOrder own us) os qs → price_at us z ≤ℤ a
@@ -148,9 +152,6 @@ high_kept on own us z a (o ∷ os) [] k price h l = absurd h
 high_kept on own us z a (o ∷ os) (q ∷ qs) k price h l =
     let one : price_at us z ≤ℤ ceiling_at on z o = ceiling_is_high ((o.zone == z) && is_opened on o.gate) o.side o.price.0 (price_at us z) price (λ e. pays_at on own us z o q k h.0 e) in
     high_kept on own us z (int_min a (ceiling_at on z o)) os qs k price h.1 (least a (ceiling_at on z o) (price_at us z) l one)
-  where
-    least : (x y p : ℤ) → p ≤ℤ x → p ≤ℤ y → p ≤ℤ int_min x y
-    least x y p h k = omega (arith, ints, clamps)
 
 pub all_opened : (m : Market) (ds : List Decision) (a : Activation) (us : List Cents) → IsReached m ds a us → (g : ℕ) → opens m ds g ≡ true → is_open m a g ≡ true
 all_opened m ds a us h g e = opened_is_open m ds (is_open m a) us g h.feasible.gates h.ranked h.agree e
@@ -177,16 +178,10 @@ ceiling_obeyed on us z (Above y p) price is = price.high
 fold_below : (f : Decision → ℤ) (p a : ℤ) (ds : List Decision) → All (λ (d : Decision). f d ≤ℤ p) ds → a ≤ℤ p → fold int_max a (map f ds) ≤ℤ p
 fold_below f p a [] h l = l
 fold_below f p a (d ∷ ds) h l = fold_below f p (int_max a (f d)) ds (All-tail (λ (x : Decision). f x ≤ℤ p) d ds h) (greatest a (f d) p l (All-head (λ (x : Decision). f x ≤ℤ p) d ds h))
-  where
-    greatest : (x y p : ℤ) → x ≤ℤ p → y ≤ℤ p → int_max x y ≤ℤ p
-    greatest x y p h k = omega (arith, ints, clamps)
 
 fold_above : (f : Decision → ℤ) (p a : ℤ) (ds : List Decision) → All (λ (d : Decision). p ≤ℤ f d) ds → p ≤ℤ a → p ≤ℤ fold int_min a (map f ds)
 fold_above f p a [] h l = l
 fold_above f p a (d ∷ ds) h l = fold_above f p (int_min a (f d)) ds (All-tail (λ (x : Decision). p ≤ℤ f x) d ds h) (least a (f d) p l (All-head (λ (x : Decision). p ≤ℤ f x) d ds h))
-  where
-    least : (x y p : ℤ) → p ≤ℤ x → p ≤ℤ y → p ≤ℤ int_min x y
-    least x y p h k = omega (arith, ints, clamps)
 
 low_said_kept : (ds : List Decision) (on : ℕ → Bool) (us : List Cents) (z : ℕ) → IsPrice (price_at us z) → Agree ds on us → low_said ds z ≤ℤ price_at us z
 low_said_kept ds on us z price agree =
@@ -393,9 +388,5 @@ within_flows m ds a us h =
 pub within_bounds : (m : Market) (ds : List Decision) (a : Activation) (us : List Cents) → IsReached m ds a us → IsWithinSpans (bounds_in m ds) (flows_in m ds) m a
 within_bounds m ds a us h = record { orders = within_state m ds a us h; borders = within_flows m ds a us h; balance = h.feasible.balance }
 
-not_true : (b : Bool) → (b ≡ true → ⊥) → b ≡ false
-not_true true n = absurd (n refl)
-not_true false n = refl
-
 pub all_closed_there : (m : Market) (ds : List Decision) (a : Activation) (us : List Cents) → IsReached m ds a us → (g : ℕ) → shuts m ds g ≡ true → is_open m a g ≡ false
-all_closed_there m ds a us h g e = not_true (is_open m a g) (all_shut m ds a us h g e)
+all_closed_there m ds a us h g e = refused (is_open m a g) (all_shut m ds a us h g e)

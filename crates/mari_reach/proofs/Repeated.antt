@@ -24,7 +24,7 @@ use Rattle.mari_market.proofs.Lists.{by_test}
 use Rattle.mari_market.proofs.Rising.{less}
 use Rattle.mari_reach.specs.Twins.{are_alike, are_indivisible, is_better, is_child, is_one_side, lone_order, may_exchange, no_order, order_at, orders_of, outranks, outranks_by, ranks_before, sole, stands_alone, AreAlike, AreIndivisible, AreTwins, IsAhead, IsBetter, IsLone, KeepsRank, RanksBefore}
 use Rattle.mari_reach.proofs.Exchanges.{gate_is, is_it, moved, moved_ahead, moved_consistent, moved_feasible, open_first, open_others, shut_second, Exchange}
-use Rattle.mari_reach.proofs.Ranges.{both_true, one_in_range}
+use Rattle.mari_reach.proofs.Ranges.{both_true, one_in_range, opposite, or_first}
 use Rattle.mari_reach.proofs.Reaching.{any_gives, or_either, same_number}
 
 -- ---- the only order of a gate
@@ -92,19 +92,11 @@ no_option (Some x) e = absurd (cc)
 childless : (g : ℕ) (gates : List GateInfo) → list_any (is_child g) gates ≡ false → (h : ℕ) → parent_of gates h ≡ Some g → ⊥
 childless g [] e h p = absurd (cc)
 childless g (x ∷ xs) e zero p = absurd (clash (is_child g x || list_any (is_child g) xs) (or_first (is_child g x) (list_any (is_child g) xs) (is_it g x.parent p)) e)
-  where
-    or_first : (a b : Bool) → a ≡ true → (a || b) ≡ true
-    or_first true b f = refl
-    or_first false b f = absurd (cc)
 childless g (x ∷ xs) e (suc h) p = childless g xs (or_rest (is_child g x) (list_any (is_child g) xs) e) h p
   where
     or_rest : (a b : Bool) → (a || b) ≡ false → b ≡ false
     or_rest true b f = absurd (cc)
     or_rest false b f = f
-
-not_false : (b : Bool) → not b ≡ true → b ≡ false
-not_false true e = absurd (cc)
-not_false false e = refl
 
 gate_there : (gate : Option ℕ) (gates least g : ℕ) → gate ≡ Some g → MatchOption gate (least ≡ 0) (λ k. (k < gates) × (1 ≤ least)) → g < gates
 gate_there None gates least g e f = absurd (cc)
@@ -132,7 +124,7 @@ lone_by m g o true v is e same =
         alone = s.alone;
         no_group = no_option (group_of m.gates g) first.0;
         no_parent = no_option (parent_of m.gates g) rest.0;
-        no_child = childless g m.gates (not_false (list_any (is_child g) m.gates) rest.1);
+        no_child = childless g m.gates (opposite (list_any (is_child g) m.gates) rest.1);
       };
       order = same ∙ ap Some (sym s.at);
     }
@@ -386,7 +378,7 @@ found m on e =
     let both = and_parts (on h) (list_any (closed_twin m on h) (range_with_len 0 (length m.gates))) test in
     any_gives (closed_twin m on h) (range_with_len 0 (length m.gates)) both.1 (λ g shut.
     let two = and_parts (outranks m g h) (not (on g)) shut in
-    record { better_gate = g; worse_gate = h; twins = two.0; opened = both.0; closed = not_false (on g) two.1 }))
+    record { better_gate = g; worse_gate = h; twins = two.0; opened = both.0; closed = opposite (on g) two.1 }))
 
 negated : (b : Bool) → b ≡ false → not b ≡ true
 negated true e = absurd (cc)

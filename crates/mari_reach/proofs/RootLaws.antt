@@ -19,6 +19,7 @@ use Rattle.mari_reach.specs.State.{bounds_in, ceiling_at, ceiling_of, floor_at, 
 use Rattle.mari_reach.specs.Tables.{IsStateOf}
 use Rattle.mari_reach.specs.Values.{dual_in}
 use Rattle.mari_reach.proofs.LeafTables.{same_dual}
+use Rattle.mari_reach.proofs.Ranges.{and_none}
 
 at_most : (v w : ℤ) → v ≡ w → v ≤ℤ w
 at_most v w e = omega (arith, ints, e)
@@ -26,10 +27,6 @@ at_most v w e = omega (arith, ints, e)
 no_gate : (m : Market) (gate : Option ℕ) → is_opened (opens m []) gate ≡ false
 no_gate m None = refl
 no_gate m (Some g) = refl
-
-and_none : (b c : Bool) → c ≡ false → (b && c) ≡ false
-and_none true c e = e
-and_none false c e = refl
 
 no_floor : (m : Market) (z : ℕ) (o : Order) → floor_at (opens m []) z o ≡ neg_ℤ CAP
 no_floor m z o = ap (λ (b : Bool). floor_of b o.side o.price.0) (and_none (o.zone == z) (is_opened (opens m []) o.gate) (no_gate m o.gate))

@@ -26,8 +26,8 @@ use Rattle.mari_reach.specs.Tables.{HasOpened, HasPrices, IsStateOf, SpeaksFor, 
 use Rattle.mari_reach.specs.Values.{is_void_by}
 use Rattle.mari_market.proofs.Lists.{by_test}
 use Rattle.mari_market.proofs.Rising.{is_less, less}
-use Rattle.mari_reach.proofs.Ranges.{both_true, one_in_range}
-use Rattle.mari_reach.proofs.Reaching.{or_either}
+use Rattle.mari_reach.proofs.Ranges.{both_true, one_in_range, or_first, or_later}
+use Rattle.mari_reach.proofs.Reaching.{or_either, some_same}
 
 -- ---- tests that agree
 
@@ -53,9 +53,6 @@ same_line (suc n) gates p q (Some g) early k there =
     let here : g < length gates = there g refl in
     ap (λ (b : Bool). b || list_any p (line_from n gates (parent_of gates g))) (k g here)
     ∙ ap (λ (b : Bool). q g || b) (same_line n gates p q (parent_of gates g) early k (λ h e. let before : h < g = early g h e in omega arith))
-
-some_same : (a b : ℕ) → Some a ≡ Some b → a ≡ b
-some_same a b e = cc
 
 pub same_line_of : (gates : List GateInfo) (p q : ℕ → Bool) (g : ℕ) → ParentsEarlier gates → ((h : ℕ) → h < length gates → p h ≡ q h) → g < length gates
     → list_any p (line_of gates g) ≡ list_any q (line_of gates g)
@@ -176,14 +173,6 @@ priceless_by m ds r h e =
 is_priceless_by : (m : Market) (ds : List Decision) (r : State) (z : ℕ) → IsStateOf m ds r → IsPriceless m ds z → list_any (is_priceless r) (range_with_len 0 m.zones) ≡ true
 is_priceless_by m ds r z h none =
     one_in_range (is_priceless r) m.zones z none.there (priceless_is m ds r z h none.there ∙ is_less (high_of m ds z) (low_of m ds z) none.none)
-
-or_first : (a b : Bool) → a ≡ true → (a || b) ≡ true
-or_first true b e = refl
-or_first false b e = absurd (cc)
-
-or_later : (a b : Bool) → b ≡ true → (a || b) ≡ true
-or_later true b e = refl
-or_later false b e = e
 
 -- the tables show exactly whether a state is void
 pub void_by : (m : Market) (ds : List Decision) (r : State) → IsStateOf m ds r → (is_void_by m r ≡ true) ↔ IsVoid m ds

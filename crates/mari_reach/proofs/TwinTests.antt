@@ -23,15 +23,11 @@ use Rattle.mari_reach.specs.declared.decisions.Decision.{Decision}
 use Rattle.mari_reach.specs.declared.decisions.Decision.TheVariants.{Above, AtMost, Gate}
 use Rattle.mari_reach.specs.State.{are_rivals, closes, closes_by, has_loss, has_rival, high_of, is_one_group, is_shut, line_from, line_of, loses, loses_within, low_of, opens, opens_by, shuts}
 use Rattle.mari_reach.proofs.Exchanges.{gate_is, is_it}
-use Rattle.mari_reach.proofs.Ranges.{both_true}
+use Rattle.mari_reach.proofs.Ranges.{both_true, or_first, or_later, refused}
 use Rattle.mari_reach.proofs.Reaching.{any_gives, or_either, same_number}
 use Rattle.mari_reach.proofs.Repeated.{ranked, Ranked}
 
 -- ---- the only order of a gate
-
-refused : (b : Bool) → (b ≡ true → ⊥) → b ≡ false
-refused true n = absurd (n refl)
-refused false n = refl
 
 skipped : (g : ℕ) (x : Order) (xs : List Order) → is_gate g x.gate ≡ false → orders_of (x ∷ xs) g ≡ orders_of xs g
 skipped g x xs e = ap (λ (b : Bool). if b then x ∷ orders_of xs g else orders_of xs g) e
@@ -90,14 +86,6 @@ side_is a b e = subst (λ (s : Side). is_one_side a s ≡ true) e (itself a)
     itself : (s : Side) → is_one_side s s ≡ true
     itself Inject = refl
     itself Withdraw = refl
-
-or_first : (a b : Bool) → a ≡ true → (a || b) ≡ true
-or_first true b e = refl
-or_first false b e = absurd (cc)
-
-or_later : (a b : Bool) → b ≡ true → (a || b) ≡ true
-or_later true b e = refl
-or_later false b e = e
 
 sizes_are : (o x : Order) → AreIndivisible o x ⊎ AreAlike o x → (are_indivisible o x || are_alike o x) ≡ true
 sizes_are o x s = elim s [

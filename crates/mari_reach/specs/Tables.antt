@@ -1,6 +1,6 @@
 -- States as tables.
-use Rattle.std.specs.Prelude.{◌≡◌, ◌&&◌, ◌||◌, Bool, true, ℕ, ◌<◌, ◌≤◌, List, length, Option, None, slice_index_or}
-use Rattle.std.specs.List.{All, list_any}
+use Rattle.std.specs.Prelude.{◌≡◌, ◌&&◌, ◌||◌, not, Bool, true, ℕ, ◌<◌, ◌≤◌, List, length, Option, None, slice_index_or}
+use Rattle.std.specs.List.{All, filter, list_any}
 use Rattle.std.specs.Option.{is_some}
 use lib.Signed.{lt_z}
 use Rattle.mari_market.specs.declared.market.Border.{Border}
@@ -76,6 +76,10 @@ pub record HasPrices (m : Market) (ds : List Decision) (box : PriceBox) : Type 0
 abbrev pub has_gate : Order → Bool
 has_gate o = is_some o.gate
 
+-- whether an order is of no gate
+abbrev pub is_plain : Order → Bool
+is_plain o = not (has_gate o)
+
 -- whether some of these orders is of the gate and always loses by the box
 abbrev pub has_loss_in : PriceBox → List Order → ℕ → Bool
 has_loss_in box os g = list_any (λ (o : Order). is_gate g o.gate && loses_in box o) os
@@ -90,6 +94,8 @@ pub record SpeaksFor (m : Market) (os : List Order) : Type 0 where
 -- the survey is that of a market
 pub record IsSurveyOf (m : Market) (s : Survey) : Type 0 where
   pub gated : SpeaksFor m s.gated.items
+  pub of_gates : s.gated.items ≡ filter has_gate m.orders
+  pub plain : s.plain.items ≡ filter is_plain m.orders
   pub twins : IsTwinsOf m s.twins
 
 -- the tables are those of a state

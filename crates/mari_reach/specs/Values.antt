@@ -1,5 +1,5 @@
 -- Leaves by the tables of a state.
-use Rattle.std.specs.Prelude.{◌≡◌, ◌||◌, not, Bool, true, false, ℕ, ℤ, pos, ◌≤ℤ◌, List, length, map}
+use Rattle.std.specs.Prelude.{◌≡◌, ◌||◌, not, Bool, true, false, ℕ, ◌<◌, ℤ, pos, ◌+ℤ◌, ◌-ℤ◌, ◌≤ℤ◌, List, length, map}
 use Rattle.std.specs.Int.{int_max, int_min}
 use Rattle.std.specs.List.{list_any, range_with_len}
 use lib.Signed.{lt_z}
@@ -15,9 +15,11 @@ use Rattle.mari_market.specs.Dual.{dual_value_within}
 use Rattle.mari_market.specs.First.{ComesBefore}
 use Rattle.mari_market.specs.Flows.{FlowSpan}
 use Rattle.mari_market.specs.Prefix.{opens_in}
-use Rattle.mari_market.specs.Price.{ArePrices}
+use Rattle.mari_market.specs.Price.{ArePrices, price_at}
+use Rattle.mari_market.specs.Sums.{int_at}
 use Rattle.mari_reach.specs.declared.decisions.ReachLeaf.{ReachLeaf}
 use Rattle.mari_reach.specs.declared.decisions.ReachLeaf.TheVariants.{Void, Bound, Cut}
+use Rattle.mari_reach.specs.declared.levels.Levels.{Levels}
 use Rattle.mari_reach.specs.declared.states.State.{State}
 use Rattle.mari_reach.specs.Leaf.{gain_of}
 use Rattle.mari_reach.specs.Tables.{flow_in, is_priceless, is_torn, span_in}
@@ -31,6 +33,24 @@ dual_in m r ps = dual_value_within (span_in r) (flow_in r) m ps
 abbrev pub runs_best : Side → (c p low high : ℤ) → Bool
 runs_best Inject c p low high = lt_z c low || not (lt_z (int_min p high) c)
 runs_best Withdraw c p low high = lt_z high c || not (lt_z c (int_max p low))
+
+-- the price below which a plain injection is worth most at its greatest quantity
+abbrev pub inject_below : (p low high : ℤ) → ℤ
+inject_below p low high = int_max low (int_min p high +ℤ pos 1)
+
+-- the price above which a plain withdrawal is
+abbrev pub withdraw_above : (p low high : ℤ) → ℤ
+withdraw_above p low high = int_min high (int_max p low -ℤ pos 1)
+
+-- whether a price is at the better side of its side's level
+abbrev pub runs_at : Side → (c below above : ℤ) → Bool
+runs_at Inject c below above = lt_z c below
+runs_at Withdraw c below above = lt_z above c
+
+-- the levels are those of the zones' potentials in the state of the tables
+pub record HasLevels (r : State) (ps : List Cents) (levels : Levels) : Type 0 where
+  pub injects : (z : ℕ) → z < length ps → int_at levels.injects z ≡ inject_below (price_at ps z) (int_at r.prices.low z) (int_at r.prices.high z)
+  pub withdraws : (z : ℕ) → z < length ps → int_at levels.withdraws z ≡ withdraw_above (price_at ps z) (int_at r.prices.low z) (int_at r.prices.high z)
 
 -- whether the tables have the gate as open, or it gains
 abbrev pub is_needed_in : Market → State → List Cents → ℕ → Bool

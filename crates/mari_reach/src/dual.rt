@@ -3,47 +3,22 @@
 
 ghost use Rattle.std.specs.Prelude.{◌≡◌, if◌then◌else◌, ℤ, pos, ◌*◌, ◌-ℤ◌, ◌*ℤ◌, ◌≤ℤ◌, neg_ℤ, ◌≤◌, ◌<◌, length};
 ghost use Rattle.std.specs.List.{All};
-ghost use Rattle.mari_market.specs.declared.market.Side.TheVariants.{Inject, Withdraw};
-ghost use Rattle.mari_reach.specs.Tables.{flow_in, span_in};
-ghost use Rattle.mari_reach.specs.Values.{dual_in, runs_best};
+ghost use Rattle.mari_reach.specs.Tables.{IsSurveyOf, flow_in, span_in};
+ghost use Rattle.mari_reach.specs.Values.{HasLevels, dual_in};
 ghost use Rattle.mari_market.specs.Dual.{gain_per_mw, best_within, best_border, best_flow, best_order};
 ghost use Rattle.mari_market.specs.Market.{IsValid, IsValidOrder, IsValidBorder};
 ghost use Rattle.mari_market.specs.Price.{IsCapped, IsPrice, ArePrices, price_at};
 ghost use Rattle.mari_market.specs.Sums.{int_at, int_sum};
 
-use crate::prices::PriceBox;
+use crate::levels::{Levels, plain_total, plain_value};
 use crate::states::State;
-use mari_market::{Border, MOST_GAP, MOST_ORDERS, MOST_WORTH, Market, Order, Side};
+use crate::survey::Survey;
+use crate::worth::{amount, gap, potential_at};
+use mari_market::{Border, MOST_GAP, MOST_ORDERS, MOST_WORTH, Market, Order};
 use mari_units::{Cents, MOST_BORDERS, MOST_FLOW, MOST_GATES, MOST_MW, MOST_ZONES};
 
 /// A number that no dual value is above, and whose negative none is below, in quarter-cents.
 pub const MOST_VALUE: u64 = (MOST_ORDERS as u64 + MOST_BORDERS as u64) * MOST_WORTH;
-
-/// What a quantity in MW gains, in quarter-cents, at a gain for each MW.
-fn amount(gap: i64, mw: u32) -> i64
-    requires low { neg_ℤ (pos MOST_GAP) ≤ℤ gap }
-    requires high { gap ≤ℤ pos MOST_GAP }
-    requires mw { mw ≤ MOST_FLOW }
-    ensures value { result ≡ gap *ℤ pos mw }
-    ensures low { neg_ℤ (pos MOST_WORTH) ≤ℤ result }
-    ensures high { result ≤ℤ pos MOST_WORTH }
-{
-    gap * i64::from(mw)
-}
-
-/// How much an order gains for each MW at a potential.
-fn gap(order: &Order, potential: Cents) -> i64
-    requires order { IsPrice order.now.price.0 }
-    requires potential { IsPrice potential.0 }
-    ensures gap { result ≡ gain_per_mw order.now.side order.now.price.0 potential.0 }
-    ensures low { neg_ℤ (pos MOST_GAP) ≤ℤ result }
-    ensures high { result ≤ℤ pos MOST_GAP }
-{
-    match order.side {
-        Side::Inject => potential.0 - order.price.0,
-        Side::Withdraw => order.price.0 - potential.0,
-    }
-}
 
 /// The most that quantities from the least to the greatest of a span gain, in quarter-cents, at a gain for each MW.
 fn best_within(gap: i64, span: (u32, u32)) -> i64
@@ -79,63 +54,9 @@ pub(crate) fn best_order(order: &Order, state: &State, potentials: &[Cents]) -> 
     best_within(gap, state.span(order))
 }
 
-/// Whether a plain order that injects is worth most at its greatest quantity, and not at 0.
-fn injects_best(price: i64, potential: i64, low: i64, high: i64) -> bool
-    ensures { result ≡ runs_best Inject price potential low high }
-{
-    price < low || price <= potential.min(high)
-}
-
-/// The same of one that withdraws.
-fn withdraws_best(price: i64, potential: i64, low: i64, high: i64) -> bool
-    ensures { result ≡ runs_best Withdraw price potential low high }
-{
-    high < price || potential.max(low) <= price
-}
-
-/// The same of any plain order.
-fn runs_best(order: &Order, potential: Cents, prices: &PriceBox) -> bool
-    requires { order.now.zone < MOST_ZONES }
-    ensures { result ≡ runs_best order.now.side order.now.price.0 potential.0 (int_at prices.now.low order.now.zone) (int_at prices.now.high order.now.zone) }
-{
-    let low = prices.low[order.zone as usize];
-    let high = prices.high[order.zone as usize];
-    match order.side {
-        Side::Inject => injects_best(order.price.0, potential.0, low, high),
-        Side::Withdraw => withdraws_best(order.price.0, potential.0, low, high),
-    }
-}
-
-/// The quantity at which a plain order is worth most.
-fn best_quantity(order: &Order, potential: Cents, prices: &PriceBox) -> u32
-    requires { order.now.zone < MOST_ZONES }
-    ensures value { result ≡ (if runs_best order.now.side order.now.price.0 potential.0 (int_at prices.now.low order.now.zone) (int_at prices.now.high order.now.zone) then order.now.greatest else 0) }
-    ensures most { result ≤ order.now.greatest }
-{
-    if runs_best(order, potential, prices) {
-        order.greatest
-    } else {
-        0
-    }
-}
-
-/// The most that a plain order gains at its zone's potential, without its bounds.
-fn best_plain(order: &Order, state: &State, potentials: &[Cents]) -> i64
-    requires order { IsValidOrder (length potentials.now) MOST_GATES order.now }
-    requires plain { order.now.gate ≡ None }
-    requires few { length potentials.now ≤ MOST_ZONES }
-    requires potentials { All IsCapped potentials.now }
-    ensures value { result ≡ best_order (span_in state.now) potentials.now order.now }
-    ensures low { neg_ℤ (pos MOST_WORTH) ≤ℤ result }
-    ensures high { result ≤ℤ pos MOST_WORTH }
-{
-    let potential = potential_at(potentials, order.zone);
-    let mw = best_quantity(order, potential, &state.prices);
-    amount(gap(order, potential), mw)
-}
-
 /// The most that any order gains at its zone's potential.
-fn order_value(order: &Order, state: &State, potentials: &[Cents]) -> i64
+fn order_value(order: &Order, state: &State, levels: &Levels, potentials: &[Cents]) -> i64
+    requires levels { HasLevels state.now potentials.now levels.now }
     requires order { IsValidOrder (length potentials.now) MOST_GATES order.now }
     requires few { length potentials.now ≤ MOST_ZONES }
     requires potentials { All IsCapped potentials.now }
@@ -144,19 +65,9 @@ fn order_value(order: &Order, state: &State, potentials: &[Cents]) -> i64
     ensures high { result ≤ℤ pos MOST_WORTH }
 {
     match order.gate {
-        None => best_plain(order, state, potentials),
+        None => plain_value(order, levels, potentials),
         Some(_) => best_order(order, state, potentials),
     }
-}
-
-/// A zone's potential.
-fn potential_at(potentials: &[Cents], zone: u32) -> Cents
-    requires zone { zone < length potentials.now }
-    requires potentials { All IsCapped potentials.now }
-    ensures value { result.0 ≡ price_at potentials.now zone }
-    ensures price { IsPrice result.0 }
-{
-    potentials[zone as usize]
 }
 
 /// How much dearer one potential is than another.
@@ -208,7 +119,8 @@ fn best_flow(border: &Border, state: &State, potentials: &[Cents]) -> i64
 }
 
 /// The most that all orders gain.
-fn orders_value(orders: &[Order], state: &State, potentials: &[Cents]) -> i64
+fn orders_value(orders: &[Order], state: &State, levels: &Levels, potentials: &[Cents]) -> i64
+    requires levels { HasLevels state.now potentials.now levels.now }
     requires few { length orders.now ≤ MOST_ORDERS }
     requires few_zones { length potentials.now ≤ MOST_ZONES }
     requires orders { All (IsValidOrder (length potentials.now) MOST_GATES) orders.now }
@@ -219,7 +131,7 @@ fn orders_value(orders: &[Order], state: &State, potentials: &[Cents]) -> i64
 {
     let mut total = 0;
     for order in orders {
-        total += order_value(order, state, potentials);
+        total += order_value(order, state, levels, potentials);
     }
     total
 }
@@ -250,6 +162,21 @@ pub(crate) fn total_value(market: &Market, state: &State, potentials: &[Cents]) 
     ensures low { neg_ℤ (pos MOST_VALUE) ≤ℤ result }
     ensures high { result ≤ℤ pos MOST_VALUE }
 {
-    orders_value(market.orders.as_slice(), state, potentials)
+    let levels = Levels::of(state, potentials);
+    orders_value(market.orders.as_slice(), state, &levels, potentials)
+        + borders_value(market.borders.as_slice(), state, potentials)
+}
+
+/// The most that all orders gain and all borders earn, by the survey of the market.
+pub(crate) fn total_by(market: &Market, survey: &Survey, state: &State, potentials: &[Cents]) -> i64
+    requires market { IsValid market.now }
+    requires survey { IsSurveyOf market.now survey.now }
+    requires one_each { length potentials.now ≡ market.now.zones }
+    requires potentials { All IsCapped potentials.now }
+    ensures { result ≡ dual_in market.now state.now potentials.now }
+{
+    let levels = Levels::of(state, potentials);
+    plain_total(survey.plain.as_slice(), &levels, potentials)
+        + orders_value(survey.gated.as_slice(), state, &levels, potentials)
         + borders_value(market.borders.as_slice(), state, potentials)
 }

@@ -1,28 +1,30 @@
 //! The test of one leaf.
 
-ghost use Rattle.std.specs.Prelude.{◌≡◌, ◌↔◌, ◌||◌, ◌<◌, ℕ, ℤ, pos, ◌-ℤ◌, ◌≤ℤ◌, List, length, IsTrue};
+ghost use Rattle.std.specs.Prelude.{◌≡◌, ◌↔◌, ◌||◌, ◌<◌, ℕ, ℤ, pos, ◌-ℤ◌, ◌≤ℤ◌, List, length, IfSome, IsTrue};
 ghost use lib.Signed.{lt_z};
+ghost use Rattle.std.specs.List.{All};
 ghost use Rattle.mari_units.specs.declared.numbers.Cents.{Cents};
 ghost use Rattle.mari_market.specs.declared.activation.Activation.{Activation};
 ghost use Rattle.mari_market.specs.Activation.{gate_word_of, welfare_of};
 ghost use Rattle.mari_market.specs.First.{ComesBefore};
 ghost use Rattle.mari_market.specs.Market.{IsValid};
 ghost use Rattle.mari_market.specs.Prefix.{opens_in, word_of};
-ghost use Rattle.mari_market.specs.Price.{ArePrices};
+ghost use Rattle.mari_market.specs.Price.{ArePrices, IsCapped};
 ghost use Rattle.mari_market.specs.Sums.{int_at};
 ghost use Rattle.mari_reach.specs.Leaf.{ReachLeafHolds};
 ghost use Rattle.mari_reach.specs.State.{AreDecisions, IsReached};
-ghost use Rattle.mari_reach.specs.Tables.{IsStateOf};
-ghost use Rattle.mari_reach.specs.Values.{ReachLeafHoldsBy, IsBoundBy, needed_in};
+ghost use Rattle.mari_reach.specs.Tables.{IsStateOf, IsSurveyOf};
+ghost use Rattle.mari_reach.specs.Values.{ReachLeafHoldsBy, IsBoundBy, dual_in, needed_in};
 
 use crate::cuts::is_cut;
 use crate::decisions::{Decision, ReachLeaf};
-use crate::dual::total_value;
+use crate::dual::{total_by, total_value};
 use crate::gains::Gains;
 use crate::states::{State, state_of};
+use crate::survey::Survey;
 use mari_gates::opens;
 use mari_market::{Market, Prefix, Prices};
-use mari_units::{MOST_GATES, Quarters};
+use mari_units::{Cents, MOST_GATES, Quarters};
 
 /// Whether a gate is open in the state, or gains.
 fn is_needed(state: &State, gains: &Gains, gate: u32) -> bool
@@ -63,20 +65,36 @@ fn is_equal(value: i64, cutoff: Quarters) -> bool
     i128::from(value) == cutoff.0
 }
 
+/// The dual value of a state, by the survey of the market if there is one.
+fn value_of(market: &Market, survey: Option<&Survey>, state: &State, potentials: &[Cents]) -> i64
+    requires market { IsValid market.now }
+    requires survey { IfSome survey (λ s. IsSurveyOf market.now s.now) }
+    requires one_each { length potentials.now ≡ market.now.zones }
+    requires potentials { All IsCapped potentials.now }
+    ensures { result ≡ dual_in market.now state.now potentials.now }
+{
+    match survey {
+        None => total_value(market, state, potentials),
+        Some(survey) => total_by(market, survey, state, potentials),
+    }
+}
+
 /// Whether potentials within the cap bound the state at the cutoff for a gate word.
 fn is_bound_at(
     market: &Market,
+    survey: Option<&Survey>,
     state: &State,
     potentials: &Prices,
     cutoff: Quarters,
     word: &Prefix,
 ) -> bool
     requires market { IsValid market.now }
+    requires survey { IfSome survey (λ s. IsSurveyOf market.now s.now) }
     requires potentials { ArePrices market.now potentials.now.cents }
     requires full { word.now.length ≡ length market.now.gates }
     ensures { IsTrue result ↔ IsBoundBy market.now cutoff.0 (word_of word.now) state.now potentials.now.cents }
 {
-    let value = total_value(market, state, potentials.cents.as_slice());
+    let value = value_of(market, survey, state, potentials.cents.as_slice());
     if is_below(value, cutoff) {
         return true;
     }
@@ -89,28 +107,32 @@ fn is_bound_at(
 /// Whether potentials bound the state at the cutoff for a gate word.
 fn is_bound(
     market: &Market,
+    survey: Option<&Survey>,
     state: &State,
     potentials: &Prices,
     cutoff: Quarters,
     word: &Prefix,
 ) -> bool
     requires market { IsValid market.now }
+    requires survey { IfSome survey (λ s. IsSurveyOf market.now s.now) }
     requires full { word.now.length ≡ length market.now.gates }
     ensures { IsTrue result ↔ IsBoundBy market.now cutoff.0 (word_of word.now) state.now potentials.now.cents }
 {
     market.are_prices(potentials.cents.as_slice())
-        && is_bound_at(market, state, potentials, cutoff, word)
+        && is_bound_at(market, survey, state, potentials, cutoff, word)
 }
 
 /// Whether a leaf holds by the tables of a state.
 fn holds_by(
     market: &Market,
+    survey: Option<&Survey>,
     state: &State,
     leaf: &ReachLeaf,
     cutoff: Quarters,
     word: &Prefix,
 ) -> bool
     requires market { IsValid market.now }
+    requires survey { IfSome survey (λ s. IsSurveyOf market.now s.now) }
     requires full { word.now.length ≡ length market.now.gates }
     ensures { IsTrue result ↔ ReachLeafHoldsBy market.now cutoff.0 (word_of word.now) state.now leaf.now }
 {
@@ -118,7 +140,7 @@ fn holds_by(
     match leaf {
         ReachLeaf::Void => is_void,
         ReachLeaf::Bound(potentials) => {
-            !is_void && is_bound(market, state, potentials, cutoff, word)
+            !is_void && is_bound(market, survey, state, potentials, cutoff, word)
         }
         ReachLeaf::Cut(cut) => !is_void && is_cut(market, state, cut),
     }
@@ -127,6 +149,7 @@ fn holds_by(
 /// Whether a leaf holds for a state, by its tables, at a cutoff in quarter-cents for a gate word.
 pub(crate) fn check_leaf_by(
     market: &Market,
+    survey: Option<&Survey>,
     decisions: &[Decision],
     state: &State,
     leaf: &ReachLeaf,
@@ -134,11 +157,12 @@ pub(crate) fn check_leaf_by(
     word: &Prefix,
 ) -> bool
     requires market { IsValid market.now }
+    requires survey { IfSome survey (λ s. IsSurveyOf market.now s.now) }
     requires state { IsStateOf market.now decisions.now state.now }
     requires full { word.now.length ≡ length market.now.gates }
     ensures { IsTrue result ↔ ReachLeafHolds market.now cutoff.0 (word_of word.now) decisions.now leaf.now }
 {
-    holds_by(market, state, leaf, cutoff, word)
+    holds_by(market, survey, state, leaf, cutoff, word)
 }
 
 /// Whether a leaf holds for the state of these decisions, at a cutoff in quarter-cents for a gate word.
@@ -163,5 +187,5 @@ pub fn check_leaf(
     ensures earlier { IsTrue result → (a : Activation) (ps : List Cents) → IsReached market.now decisions.now a ps → ComesBefore (gate_word_of market.now a) (word_of word.now) → welfare_of market.now a ≤ℤ (cutoff.0 -ℤ pos 1) }
 {
     let state = state_of(market, decisions);
-    check_leaf_by(market, decisions, &state, leaf, cutoff, word)
+    check_leaf_by(market, None, decisions, &state, leaf, cutoff, word)
 }

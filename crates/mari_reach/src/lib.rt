@@ -10,6 +10,7 @@ mod gains;
 mod gated;
 mod laws;
 mod leaves;
+mod levels;
 mod marks;
 mod prices;
 mod ranks;
@@ -18,6 +19,7 @@ mod states;
 mod survey;
 mod trees;
 mod walk;
+mod worth;
 
 pub use decisions::{Choice, Decision, ReachItem, ReachLeaf, are_decisions};
 pub use dual::MOST_VALUE;

@@ -6,17 +6,18 @@ ghost use Rattle.mari_reach.specs.State.{AreDecisions};
 ghost use Rattle.mari_reach.specs.Tables.{IsStateOf, IsSurveyOf};
 
 use crate::decisions::Decision;
-use crate::gated::gated_orders;
+use crate::gated::{gated_orders, plain_among};
 use crate::ranks::Twins;
 use crate::states::{State, state_by};
 use mari_market::{Market, Order};
 use mari_units::Memory;
 use std::alloc::Global;
 
-/// The orders of a market's gates, and those of its lone gates.
+/// The orders of a market's gates, the others, and which gates are twins.
 #[derive(Drop)]
 pub(crate) struct Survey {
     pub(crate) gated: Vec<Order>,
+    pub(crate) plain: Vec<Order>,
     pub(crate) twins: Twins,
 }
 
@@ -27,8 +28,13 @@ impl Survey {
         ensures { IfOk result (IsSurveyOf market.now) }
     {
         let gated = gated_orders(alloc, market)?;
+        let plain = plain_among(alloc, market.orders.as_slice())?;
         let twins = Twins::of(market);
-        Ok(Survey { gated, twins })
+        Ok(Survey {
+            gated,
+            plain,
+            twins,
+        })
     }
 
     /// What decisions leave.

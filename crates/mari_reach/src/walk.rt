@@ -121,7 +121,8 @@ impl Walk {
             ReachItem::Leaf(leaf) => {
                 let decisions = self.path.as_slice();
                 let state = survey.state(market, decisions);
-                self.is_left && !check_leaf_by(market, decisions, &state, leaf, cutoff, word)
+                self.is_left
+                    && !check_leaf_by(market, Some(survey), decisions, &state, leaf, cutoff, word)
             }
         }
     }

@@ -7,6 +7,8 @@
 #[cfg(test)]
 mod answers;
 #[cfg(test)]
+mod equal;
+#[cfg(test)]
 mod random;
 #[cfg(test)]
 mod reported;

@@ -37,13 +37,16 @@ impl Turn {
     }
 }
 
-/// An order on its zone's ladder: by price, and of equal prices by turn.
+/// An order on its zone's ladder: by price, of equal prices by turn, and of equal turns so that the later in the file run
+/// first, which of twins rank before the earlier.
 #[derive(Clone, Copy, Debug, Drop, PartialEq, Eq, PartialOrd, Ord)]
 pub(crate) struct Rung {
     /// Its price, in cents per MWh.
     pub(crate) price: i64,
     /// Which of equal prices it is.
     pub(crate) turn: Turn,
+    /// Which of equal turns it is.
+    tie: i64,
     /// The order's number.
     pub(crate) order: u32,
 }
@@ -82,12 +85,21 @@ fn add_to(lists: &mut [Vec<u32>], place: u32, number: u32) -> Result<(), AllocEr
     Ok(())
 }
 
+/// The place of an order among those of equal turns: injections run from the first rung on, withdrawals from the last.
+fn tie_of(order: &Order, number: u32) -> i64 {
+    match order.side {
+        Side::Inject => -i64::from(number),
+        Side::Withdraw => i64::from(number),
+    }
+}
+
 /// Adds an order to its ladder.
 fn add_rung(ladders: &mut [Vec<Rung>], order: &Order, number: u32) -> Result<(), AllocError> {
     if let Some(ladder) = ladders.get_mut(order.zone as usize) {
         ladder.push(Rung {
             price: order.price.0,
             turn: Turn::of(order),
+            tie: tie_of(order, number),
             order: number,
         })?;
     }

@@ -11,7 +11,6 @@ use Rattle.mari_commands.proofs.Decided.{decided-answer, joined-answer}
 use Rattle.mari_commands.proofs.Joint.{answers-of}
 use Rattle.mari_commands.proofs.Asking.{feed-no-quarters}
 use Rattle.mari_commands.proofs.Outcomes.{files-no-feed}
-use Rattle.mari_commands.specs.Outcome.{AsksForOne}
 use Rattle.mari_commands.proofs.program.run_program.Goals as goal
 
 pub returns-clause-answers : goal.returns-clause-answers

@@ -1,1 +1,0 @@
-use Rattle.mari_commands.proofs.valuing.valued_books.Goals as goal

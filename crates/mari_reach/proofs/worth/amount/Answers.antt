@@ -2,8 +2,8 @@ use Rattle.std.proofs.Common.{arith}
 use Rattle.mari_units.specs.declared.limits.TheConstants.{MOST_FLOW}
 use Rattle.mari_market.specs.declared.limits.TheConstants.{MOST_GAP, MOST_WORTH}
 use Rattle.mari_proofs.proofs.Products.{product, IsProduct}
-use Rattle.mari_reach.proofs.dual.amount.Goals as goal
-use Rattle.mari_reach.proofs.dual.amount.Goals.{After-from}
+use Rattle.mari_reach.proofs.worth.amount.Goals as goal
+use Rattle.mari_reach.proofs.worth.amount.Goals.{After-from}
 
 -- the product that is answered
 whole : (c : After-from) → IsProduct MOST_WORTH c.args.gap c.args.mw c.from.result

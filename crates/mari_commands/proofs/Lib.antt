@@ -9,7 +9,6 @@ pub mod Joint
 pub mod Decided
 pub mod Gates
 pub mod GeneratedBooks
-pub mod Limits
 pub mod Naming
 pub mod Reporting
 pub mod ShortWords

@@ -4,7 +4,7 @@ use Rattle.mari_words.specs.Asked.{Asked, asked}
 use Rattle.mari_words.specs.declared.command.Command.{Command}
 use Rattle.mari_commands.specs.Outcome.Says.{OfBlocks, OfFeed, OfGenerate}
 use Rattle.mari_commands.specs.declared.outcome.JointJob.{JointJob}
-use Rattle.mari_commands.proofs.Limits.{IsWithin, within}
+use Rattle.mari_answers.proofs.Limits.{IsWithin, within}
 use Rattle.mari_commands.specs.Commands.{AsksForFiles, folder_of}
 use Rattle.mari_commands.proofs.Folder.{reads}
 use Rattle.mari_commands.proofs.Stating.{words-of-summary}

@@ -1,5 +1,7 @@
-use Rattle.std.proofs.Common.{◌≡◌, subst, arith}
-use Rattle.mari_reach_commands.specs.Answers.Answers.{OfFolder, OfUsage}
+use Rattle.std.proofs.Common.{◌≡◌, ◌∙◌, ℕ, Global, Option, Some, map, subst, sym, ap, arith, refl}
+use Rattle.std.specs.Prelude.{string_bytes}
+use Rattle.mari_reach_commands.proofs.Budgets.{budget-asked}
+use Rattle.mari_reach_commands.specs.Answers.Answers.{OfFolder, OfUsage, Starved}
 use Rattle.mari_reach_commands.specs.Promise.{KeepsPromise}
 use Rattle.mari_reach_commands.specs.Words.{Job, asked_job}
 use Rattle.mari_reach_commands.proofs.Causes.{no-page-of-usage}
@@ -31,3 +33,9 @@ returns-in-Err-Usage-clause-missing g c = record { later = omega arith; rose = �
 
 pub returns-in-Err-Usage-clause-too_long : goal.returns-in-Err-Usage-clause-too_long
 returns-in-Err-Usage-clause-too_long g c = record { later = omega arith; rose = λ e. absurd ((no-page-of-usage _ _ _ _ c.say.ensures.reports).2 e) }
+
+pub clear-requires : goal.clear-requires
+clear-requires g c = budget-asked (map (string_bytes {Z = Global}) c.args.words.now) _ c.in-Ok.ensures
+
+pub returns-in-Err-Memory-clause-answers : goal.returns-in-Err-Memory-clause-answers
+returns-in-Err-Memory-clause-answers g c = Starved refl refl

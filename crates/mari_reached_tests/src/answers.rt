@@ -6,7 +6,7 @@ use crate::small::{
     CHEAPER, FAMILY, MarketRow, OVERSIZED, PARADOX, PLAIN, TIE, TWICE_PARADOX, market_of,
 };
 use mari_market::Market;
-use mari_reached::{Answer, reach};
+use mari_reached::reach;
 use std::alloc::Global;
 use std::test::Fail;
 

@@ -1,7 +1,7 @@
 #!/usr/bin/env python3
 """Days of the shape of the European platform: how many of their runs `mari clear` and `reach clear` settle.
 
-usage: python3 bench/real.py [--seeds N] [--quarters N] [--nodes N] [--shares A,B,..] [--mari PROGRAM] [--reach PROGRAM]
+usage: python3 bench/real.py [MARI] [--reach PROGRAM] [--seeds N] [--quarters N] [--nodes N] [--shares A,B,..]
        python3 bench/real.py --folder FOLDER [--seed N] [--share PERCENT] [--quarters N]
 
 The first form makes a day for each seed from 1 on and each share of indivisible bids, clears it by both programs within N
@@ -194,11 +194,11 @@ def measure(share, asked):
 
 def main():
     words = argparse.ArgumentParser(description=__doc__, formatter_class=argparse.RawDescriptionHelpFormatter)
-    words.add_argument("--seeds", type=int, default=16)
-    words.add_argument("--quarters", type=int, default=6)
+    words.add_argument("--seeds", type=int, default=4)
+    words.add_argument("--quarters", type=int, default=12)
     words.add_argument("--nodes", type=int, default=10_000)
     words.add_argument("--shares", default="5,15,30,60")
-    words.add_argument("--mari", default=str(TOP / "release/mari"))
+    words.add_argument("mari", nargs="?", default=str(TOP / "release/mari"))
     words.add_argument("--reach", default=str(TOP / "release/mari_reach"))
     words.add_argument("--folder")
     words.add_argument("--seed", type=int, default=1)

@@ -1,12 +1,13 @@
 #!/usr/bin/env python3
-"""Days of the shape of the European platform: how many of their runs `mari clear` and `reach clear` settle.
+"""Days of the shape of the European platform: how many of their runs `mari clear`, `mari split` and `reach clear` settle.
 
 usage: python3 bench/real.py [MARI] [--reach PROGRAM] [--seeds N] [--quarters N] [--nodes N] [--shares A,B,..]
        python3 bench/real.py --folder FOLDER [--seed N] [--share PERCENT] [--quarters N]
 
 The first form makes a day for each seed from 1 on and each share of indivisible bids, clears it by both programs within N
-nodes a run, and prints a table in Markdown: runs published by `clear`; runs of which `reach` shows the first activation, and
-the gaps of the others, as a part of their welfare; times of the whole program by the clock. The second form makes one folder.
+nodes a run, and prints a table in Markdown: runs published by `clear` and by `split`; runs of which `reach` shows the first
+activation, and the gaps of the others, as a part of their welfare; times of `clear` and of `reach` by the clock. The second
+form makes one folder.
 
 Zones and borders are the public ones of the bidding zone map. Bids, demands and limits are drawn: 20 to 150 bids a zone and
 quarter hour of 1 to 100 MW, prices about a level for each zone with a long tail, blocks, groups, parents with children;
@@ -158,10 +159,10 @@ def write(folder, found):
         (path / name).write_text("\n".join(lines) + "\n")
 
 
-def clear(program, folder, nodes):
+def printed(program, word, folder, nodes):
     """What a program prints of a folder's day, and how many seconds it takes."""
     began = time.monotonic()
-    done = subprocess.run([program, "clear", folder, "--nodes", str(nodes)], stdout=subprocess.PIPE, check=False)
+    done = subprocess.run([program, word, folder, "--nodes", str(nodes)], stdout=subprocess.PIPE, check=False)
     if done.returncode not in (0, 1):
         raise SystemExit(f"real: {program} ends with {done.returncode} on {folder}: {done.stdout[:200]!r}")
     return done.stdout.decode(), time.monotonic() - began
@@ -175,13 +176,14 @@ def gaps(text):
 
 def measure(share, asked):
     """A row of the table."""
-    runs, published, first, far, items, times = 0, 0, 0, [], 0, [0.0, 0.0]
+    runs, published, split, first, far, items, times = 0, 0, 0, 0, [], 0, [0.0, 0.0]
     with tempfile.TemporaryDirectory() as room:
         for seed in range(1, asked.seeds + 1):
             folder = f"{room}/{seed}"
             write(folder, pages(seed, share, asked.quarters))
-            own, seconds = clear(asked.mari, folder, asked.nodes)
-            other, more = clear(asked.reach, folder, asked.nodes)
+            own, seconds = printed(asked.mari, "clear", folder, asked.nodes)
+            other, more = printed(asked.reach, "clear", folder, asked.nodes)
+            split += len(re.findall(r"^run .* published$", printed(asked.mari, "split", folder, asked.nodes)[0], re.M))
             times = [times[0] + seconds, times[1] + more]
             runs += asked.quarters
             published += len(re.findall(r"^run .* published$", own, re.M))
@@ -189,7 +191,8 @@ def measure(share, asked):
             items += sum(map(int, re.findall(r"^tree (\d+)$", other, re.M)))
             far += gaps(other)
     gap = f"{statistics.median(far):.5%}, {max(far):.3%}" if far else ""
-    return f"| {share} % | {runs} | {published / runs:.1%} | {times[0]:.1f} | {first / runs:.1%} | {gap} | {items / runs:.0f} | {times[1]:.1f} |"
+    shares = f"{published / runs:.0%} | {split / runs:.0%} | {times[0]:.1f} | {first / runs:.0%}"
+    return f"| {share} % | {runs} | {shares} | {gap} | {items / runs:.0f} | {times[1]:.1f} |"
 
 
 def main():
@@ -207,8 +210,8 @@ def main():
     if asked.folder:
         write(asked.folder, pages(asked.seed, asked.share, asked.quarters))
         return
-    print("| indivisible | runs | `clear` publishes | s | `reach` first | gap: median, greatest | items a run | s |")
-    print("|---|---|---|---|---|---|---|---|")
+    print("| indivisible | runs | `clear` publishes | `split` | `clear`, s | `reach` first | gap: median, greatest | items a run | `reach`, s |")
+    print("|---|---|---|---|---|---|---|---|---|")
     for share in map(int, asked.shares.split(",")):
         print(measure(share, asked), flush=True)
 

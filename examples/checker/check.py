@@ -4,7 +4,7 @@
 usage: examples/checker/check.py FOLDER [TEXT]
 
 TEXT is FOLDER/publication.txt where it isn't given. The answer is that of `mari check`: `valid PUBLISHED UNPUBLISHED` with
-exit code 0, or `invalid RUN FAULT` with 7. It is written from docs/RULES.md, docs/PROBLEM.md and docs/FORMATS.md alone,
+exit code 0, or `invalid RUN FAULT` with 7. It is written from docs/RULES.md, PROBLEM.md, FORMATS.md and REACH.md alone,
 on Python's standard library, and shares no code with the program. It tests what a text says and not its form: folders and
 texts that `mari check` refuses may come to any answer here, or end in a traceback.
 

@@ -23,7 +23,7 @@ ghost use Rattle.mari_reach.specs.Twins.{AreTwins, IsAhead, RanksBefore, order_a
 
 use mari_market::Market;
 
-/// What a state says of each admissible activation, with consistent prices, whose gates and prices are as it decides.
+/// What a state says of each activation that it reaches, with consistent prices.
 pub fn reached(market: &Market)
     requires { IsValid market.now }
 

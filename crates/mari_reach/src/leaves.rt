@@ -181,8 +181,8 @@ pub fn check_leaf(
     requires full { word.now.length ≡ length market.now.gates }
     ensures holds { IsTrue result ↔ ReachLeafHolds market.now cutoff.0 (word_of word.now) decisions.now leaf.now }
 
-    // No admissible activation with consistent prices, whose gates and prices are as decided, is better than the cutoff;
-    // and one whose gate word comes before the word is worse.
+    // No activation that the state reaches is better than the cutoff; and one whose gate word comes before the word is
+    // worse.
     ensures bounds { IsTrue result → (a : Activation) (ps : List Cents) → IsReached market.now decisions.now a ps → welfare_of market.now a ≤ℤ cutoff.0 }
     ensures earlier { IsTrue result → (a : Activation) (ps : List Cents) → IsReached market.now decisions.now a ps → ComesBefore (gate_word_of market.now a) (word_of word.now) → welfare_of market.now a ≤ℤ (cutoff.0 -ℤ pos 1) }
 {

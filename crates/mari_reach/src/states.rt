@@ -30,7 +30,7 @@ pub struct State {
     pub prices: PriceBox,
 }
 
-/// What decisions leave, by orders among which are all of a gate, and by the orders of lone gates.
+/// What decisions leave, by orders among which are all of a gate, and by the market's twins.
 pub(crate) fn state_by(
     market: &Market,
     orders: &[Order],

@@ -20,7 +20,7 @@ use Rattle.mari_reach_commands.specs.Words.{Job}
 -- market after the blocks printed before, with its welfare, the prices of its zones, and its ledger: it is the first one, or
 -- no admissible activation is better by more than the gap that is printed; and a tree shows it. Over the day no bid runs
 -- above its offer, and a gated one in at most one block; the operators' nets sum to 0 in each block and in the totals, and no
--- rent is negative. Each run has the first activation, or not
+-- rent is negative. `whole` says whether each run has the first activation
 pub record HasReachDay (job : Job) (pages : Pages) (whole : Bool) (text : List ℕ) : Type 0 where
   pub books : Books
   pub gives : HasBooks pages job.folder books

@@ -14,7 +14,7 @@ use Rattle.mari_reach_commands.specs.declared.words.Job.{Job as OwnedJob}
 unfoldable pub usage_line : List ℕ
 usage_line = codes "usage: reach clear FOLDER [--nodes N]\n"
 
--- a folder whose day is to be answered, with the most nodes of each run's search
+-- a folder whose day is to be answered, with the most items of a tree
 pub record Job : Type 0 where
   pub folder : List ℕ
   pub nodes : ℕ

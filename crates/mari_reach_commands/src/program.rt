@@ -57,8 +57,8 @@ fn clear<S: Shelf, K: Sink>(
 }
 
 /// Does all that the program does, by the words after its name: `clear FOLDER [--nodes N]` answers each run of the folder's
-/// day and prints the day as it is made. A run's search makes at most N nodes, 1 to `MOST_NODES`, or `USUAL_NODES` where the
-/// words don't say.
+/// day and prints the day as it is made. A tree has at most N items, 1 to `MOST_NODES`, or `USUAL_NODES` where the words don't
+/// say.
 ///
 /// The market files of the folder are fetched in their order and then read in that order. It uses only calls that return.
 pub fn run_reach<S: Shelf, K: Sink>(

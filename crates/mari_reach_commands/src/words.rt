@@ -13,7 +13,7 @@ use std::alloc::Global;
 pub struct Job {
     /// The folder.
     pub folder: String,
-    /// How many nodes the search of each run may make, 1 to `MOST_NODES`.
+    /// How many items a tree may have, 1 to `MOST_NODES`.
     pub nodes: u32,
 }
 

@@ -190,7 +190,7 @@ def measure(share, asked):
             first += len(re.findall(r"^run .* first$", other, re.M))
             items += sum(map(int, re.findall(r"^tree (\d+)$", other, re.M)))
             far += gaps(other)
-    gap = f"{statistics.median(far):.5%}, {max(far):.3%}" if far else ""
+    gap = f"{statistics.median(far):.5%}, {max(far):.5%}" if far else ""
     shares = f"{published / runs:.0%} | {split / runs:.0%} | {times[0]:.1f} | {first / runs:.0%}"
     return f"| {share} % | {runs} | {shares} | {gap} | {items / runs:.0f} | {times[1]:.1f} |"
 

@@ -1,5 +1,5 @@
 #!/usr/bin/env python3
-"""Takes the pictures of README.md and docs/GUIDE.md anew: the page of examples/eight-zones, light and dark."""
+"""Takes the pictures of README.md anew: the page of examples/eight-zones, light and dark."""
 import os
 
 from browser import Browser

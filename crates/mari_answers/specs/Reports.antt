@@ -1,7 +1,8 @@
 -- How a text, a refusal, a page that can't be had and a folder without books are reported: what a sink takes, and the
 -- status.
-use Rattle.std.specs.Prelude.{ℕ, ◌≡◌, List, Option}
+use Rattle.std.specs.Prelude.{ℕ, ◌≡◌, List, Option, Some}
 use Rattle.mari_units.specs.declared.faults.Refusal.{Refusal}
+use Rattle.mari_io.specs.Outside.{Pages}
 use Rattle.mari_io.specs.Taken.{TookPart, then_took}
 use Rattle.mari_io.specs.declared.shelf.Fetch.{Fetch}
 use Rattle.mari_io.specs.declared.shelf.Fetch.TheVariants as fetch
@@ -10,6 +11,10 @@ use Rattle.mari_day.specs.declared.reading.BooksFault.TheVariants as why
 use Rattle.mari_answers.specs.declared.status.Status.{Status}
 use Rattle.mari_answers.specs.declared.status.Status.TheVariants as status
 use Rattle.mari_answers.specs.Lines.{file_line, page_status, page_word, refused_line}
+
+-- where the pages are reported, this is so of them
+abbrev pub WhereReported : Option Pages → (Pages → Type 0) → Type 0
+WhereReported pages IsSo = (reported : Pages) → pages ≡ Some reported → IsSo reported
 
 -- how a text is reported with a status: it is printed whole; or a write failed, and a first part of it was taken; or
 -- memory ran out, and nothing was taken

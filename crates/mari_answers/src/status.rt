@@ -10,9 +10,11 @@ use std::process::ExitCode;
 /// How the program ended.
 #[derive(Clone, Copy, Debug, PartialEq, Eq)]
 pub enum Status {
-    /// All is printed; where a day or a joint market was cleared, each run, or it, is published.
+    /// All is printed; where a day or a joint market was cleared, each run, or it, is published, in the second form with its
+    /// first activation.
     Done,
-    /// A day with a run that isn't published is printed, or a joint market that isn't.
+    /// A day with a run that isn't published is printed, or a joint market that isn't; in the second form a day with a run
+    /// whose activation is within a gap.
     Unpublished,
     /// The words are no command.
     Usage,

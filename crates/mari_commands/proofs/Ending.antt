@@ -24,8 +24,8 @@ use Rattle.mari_answers.specs.declared.status.Status.{Status}
 use Rattle.mari_answers.specs.declared.status.Status.TheVariants as status
 use Rattle.mari_commands.specs.Commands.{AreCleared, AsksForBlocks, AsksForFeed, AsksToClear}
 use Rattle.mari_commands.specs.Headline.{WroteDay}
-use Rattle.mari_commands.specs.Outcome.{IsNoPage, IsOfWords, IsReady, IsReportable, Reported, ReportsDay, Says, WhereReported, day_status}
-use Rattle.mari_answers.specs.Reports.{Reports}
+use Rattle.mari_commands.specs.Outcome.{IsNoPage, IsOfWords, IsReady, IsReportable, Reported, ReportsDay, Says, day_status}
+use Rattle.mari_answers.specs.Reports.{Reports, WhereReported}
 use Rattle.mari_answers.specs.Reports.Reports.{Printed, CutOff, Starved}
 use Rattle.mari_commands.specs.Printing.{usage_line}
 use Rattle.mari_answers.specs.Lines.{file_line, invalid_line, refused_line}

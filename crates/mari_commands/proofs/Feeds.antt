@@ -20,8 +20,8 @@ use Rattle.mari_answers.specs.declared.status.Status.TheVariants as status
 use Rattle.mari_commands.specs.Commands.{HasFeed, IsRefused, LacksPage, publication_path, text_refusal}
 use Rattle.mari_commands.specs.Commands.IsRefused.{OfFeed as refused-feed}
 use Rattle.mari_commands.specs.Commands.LacksPage.{NoFeed as lacks-feed, LongFeed as lacks-long}
-use Rattle.mari_commands.specs.Outcome.{MayWant, ReportsFeed, ReportsParts, WhereReported}
-use Rattle.mari_answers.specs.Reports.{Reports, ReportsRefusal}
+use Rattle.mari_commands.specs.Outcome.{MayWant, ReportsFeed, ReportsParts}
+use Rattle.mari_answers.specs.Reports.{Reports, ReportsRefusal, WhereReported}
 use Rattle.mari_answers.specs.Reports.Reports.{Printed, CutOff, Starved}
 use Rattle.mari_answers.specs.Lines.{file_line}
 use Rattle.mari_commands.specs.Program.{Answers, IsCutOff, IsDone, IsStarved, TookFirstPart, TookOf, TookSummary, TookVerdict, gap_status, gap_word}

@@ -21,8 +21,8 @@ use Rattle.mari_answers.specs.declared.status.Status.TheVariants as status
 use Rattle.mari_commands.specs.Commands.{AsksForBlocks}
 use Rattle.mari_commands.specs.Joint.{AnswersOf, AreCutOff, BlocksAnswers}
 use Rattle.mari_commands.specs.Joint.AreCutOff.{Text as CutText, Refuses, Lacks, Fails}
-use Rattle.mari_commands.specs.Outcome.{IsNoPage, IsOfWords, IsReportable, IsSayable, Reported, ReportsBlocks, ReportsQuarters, Says, WhereReported, joint_command}
-use Rattle.mari_answers.specs.Reports.{Reports}
+use Rattle.mari_commands.specs.Outcome.{IsNoPage, IsOfWords, IsReportable, IsSayable, Reported, ReportsBlocks, ReportsQuarters, Says, joint_command}
+use Rattle.mari_answers.specs.Reports.{Reports, WhereReported}
 use Rattle.mari_answers.specs.Reports.Reports.{Printed, CutOff, Starved}
 use Rattle.mari_answers.specs.Lines.{file_line, refused_line}
 use Rattle.mari_commands.proofs.Ending.{answers}

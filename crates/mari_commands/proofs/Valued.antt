@@ -16,12 +16,13 @@ use Rattle.mari_feed.specs.Streams.{TookAll}
 use Rattle.mari_words.specs.Asked.{Asked}
 use Rattle.mari_answers.specs.declared.status.Status.{Status}
 use Rattle.mari_answers.specs.declared.status.Status.TheVariants as status
+use Rattle.mari_answers.specs.Reports.{WhereReported}
 use Rattle.mari_commands.specs.Commands.{AsksForFiles, AsksForValues, EndsValues, StatesValues, text_refusal}
 use Rattle.mari_commands.specs.Commands.IsInvalid.{OfValues as invalid-values}
 use Rattle.mari_commands.specs.Commands.IsRefused.{OfValues as refused-values}
 use Rattle.mari_commands.specs.Commands.LacksPage.{OfValues as lacks-values}
 use Rattle.mari_commands.specs.Commands.Prints.{Valued as prints-values}
-use Rattle.mari_commands.specs.Outcome.{MayWant, ReportsValues, WhereReported}
+use Rattle.mari_commands.specs.Outcome.{MayWant, ReportsValues}
 use Rattle.mari_answers.specs.Reports.Reports.{Printed, CutOff, Starved}
 use Rattle.mari_answers.specs.Lines.{refused_line}
 use Rattle.mari_commands.specs.Program.{Answers, IsFailedEnd, IsGapEnd, IsInvalidEnd, IsRefusedEnd, TookFirstPart, TookLine, TookSummary, TookVerdict}

@@ -19,7 +19,7 @@ use Rattle.mari_answers.specs.declared.status.Status.{Status}
 use Rattle.mari_answers.specs.declared.status.Status.TheVariants.{Done, Unpublished, Usage, Refused, ReadFault, WriteFault, Memory, Invalid, Missing, TooLong}
 use Rattle.mari_answers.specs.Lines.{file_line, page_word, refused_line}
 use Rattle.mari_answers.specs.Refusals.{HasName}
-use Rattle.mari_commands.specs.Outcome.{WhereReported}
+use Rattle.mari_answers.specs.Reports.{WhereReported}
 use Rattle.mari_commands.specs.Program.{Answers, gap_word}
 
 -- ---- what each answer says

@@ -48,7 +48,7 @@ use Rattle.mari_commands.specs.Splits.{EndsBy, command_by}
 use Rattle.mari_commands.specs.Summary.{IsGenerated}
 use Rattle.mari_commands.specs.Printing.{usage_line, valid_line}
 use Rattle.mari_answers.specs.Lines.{invalid_line}
-use Rattle.mari_answers.specs.Reports.{Reports, ReportsNoPage, ReportsRefusal}
+use Rattle.mari_answers.specs.Reports.{Reports, ReportsNoPage, ReportsRefusal, WhereReported}
 use Rattle.mari_answers.specs.Refusals.{HasName}
 use Rattle.mari_commands.specs.Values.{value_line, value_status}
 
@@ -160,10 +160,6 @@ ReportsFeed (Err (stop.Fetch why)) before after result = ReportsNoPage PUBLICATI
 ReportsFeed (Err (stop.Text fault)) before after result = ReportsText fault before after result
 ReportsFeed (Err stop.Sink) before after result = (result ≡ status.WriteFault) × (after ≡ before)
 ReportsFeed (Err stop.Memory) before after result = (result ≡ status.Memory) × (after ≡ before)
-
--- where the pages are reported, this is so of them
-abbrev pub WhereReported : Option Pages → (Pages → Type 0) → Type 0
-WhereReported pages IsSo = (reported : Pages) → pages ≡ Some reported → IsSo reported
 
 -- how the feed of a folder is reported: lines of the publication's parts are printed, as its printing ended, and then
 -- the line of the status; that a call of the shelf failed is reported only where one did

@@ -87,8 +87,7 @@ fn stop_of(stop: ReadStop<FeedStop>) -> FeedStop
 }
 
 /// Prints the publication whose text is the page of that name: a line of compact JSON for each part. The page is read
-/// in pieces, and a line is written as soon as its part is there. A fault of the text is reported after the lines of
-/// all parts that are whole before it. After a fault of the shelf, or when out of memory, the lines of the first parts
+/// in pieces. A fault of the text is reported after the lines of all parts that are whole before it. After a fault of the shelf, or when out of memory, the lines of the first parts
 /// are printed, or of none; after a failed write a first part of such lines. Over a shelf that doesn't report its pages
 /// nothing is said of what was printed.
 pub fn print_feed<S: Shelf, K: Sink>(

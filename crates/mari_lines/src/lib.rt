@@ -19,6 +19,6 @@ pub use reading::{is_date, leading_bid, read_line, split_once};
 pub use writing::{
     put_at, put_bid, put_border, put_bound, put_branch, put_conflict, put_cut, put_demand,
     put_done, put_end, put_field, put_flow_line, put_head, put_heading, put_money, put_mw_line,
-    put_number_field, put_operator, put_provider, put_run, put_total_operator, put_total_provider,
-    put_tree, put_unpublished, put_welfare, put_zone,
+    put_number_field, put_operator, put_price, put_provider, put_run, put_total_operator,
+    put_total_provider, put_tree, put_unpublished, put_welfare, put_zone,
 };

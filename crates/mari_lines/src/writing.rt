@@ -11,8 +11,8 @@ mod tree;
 
 use crate::line::{AmountLine, BidLine, BorderLine, Heading, MoneyLine, ZoneLine};
 use mari_units::{Memory, Name, put, put_number_end};
-pub use pieces::{put_field, put_money, put_number_field};
-use pieces::{put_flow, put_price};
+use pieces::put_flow;
+pub use pieces::{put_field, put_money, put_number_field, put_price};
 use std::alloc::Global;
 pub use tree::{put_at, put_bound, put_branch, put_conflict, put_cut, put_flow_line, put_mw_line};
 

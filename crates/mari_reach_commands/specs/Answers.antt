@@ -8,7 +8,7 @@ use Rattle.mari_day.specs.declared.reading.BooksFault.{BooksFault}
 use Rattle.mari_reach_day.specs.Days.{EndsReach}
 use Rattle.mari_reach_day.specs.declared.writing.ReachEnd.{ReachEnd}
 use Rattle.mari_reach_day.specs.declared.writing.ReachEnd.TheVariants as end
-use Rattle.mari_answers.specs.Reports.{Reports, ReportsNoBooks}
+use Rattle.mari_answers.specs.Reports.{Reports, ReportsNoBooks, WhereReported}
 use Rattle.mari_answers.specs.declared.status.Status.{Status}
 use Rattle.mari_answers.specs.declared.status.Status.TheVariants as status
 use Rattle.mari_reach_commands.specs.Words.{Job, usage_line}
@@ -18,10 +18,6 @@ abbrev pub status_of : ReachEnd → Status
 status_of (end.Done first within) = if within == 0 then status.Done else status.Unpublished
 status_of end.WriteFault = status.WriteFault
 status_of end.Memory = status.Memory
-
--- where the pages are reported, this is so of them
-abbrev pub WhereReported : Option Pages → (Pages → Type 0) → Type 0
-WhereReported pages IsSo = (reported : Pages) → pages ≡ Some reported → IsSo reported
 
 -- how a folder is reported whose day is to be answered: it has books, and their day is written as far as it ended; or it has
 -- none, and the line that says why is written. That a fetch failed is said only where one did

@@ -1,21 +1,20 @@
 //! The texts of a day of the second form.
 
-ghost use Rattle.std.specs.Prelude.{◌≡◌, ◌++◌, ◌∷◌, ◌≤◌, IfOk, OnOk, length, slice_index_or};
+ghost use Rattle.std.specs.Prelude.{◌≡◌, ◌++◌, ◌≤◌, IfOk, OnOk, length, slice_index_or};
 ghost use Rattle.mari_rows.specs.Names.{name_at};
-ghost use Rattle.mari_lines.specs.Spelling.{price_text};
 ghost use Rattle.mari_reach_day.specs.Lines.{choice_text, item_text, leaf_text, reach_block_text, reach_head, reach_tree_text, run_text};
 ghost use Rattle.mari_reach_day.specs.Steps.{ClaimFits, ReachFits};
 
 use crate::block::{Claim, ReachBlock};
 use mari_lines::{
-    Heading, put_bound, put_cut, put_field, put_heading, put_money, put_number_field, put_tree,
-    put_welfare,
+    Heading, put_bound, put_cut, put_field, put_heading, put_money, put_number_field, put_price,
+    put_tree, put_welfare,
 };
 use mari_publish::{put_ending, put_market};
 use mari_reach::{Choice, ReachItem, ReachLeaf};
 use mari_remain::Books;
 use mari_rows::NameIndex;
-use mari_units::{Cents, MOST_NODES, Memory, Name, put, put_cents};
+use mari_units::{MOST_NODES, Memory, Name, put};
 use std::alloc::Global;
 
 /// The text of the first line.
@@ -62,14 +61,6 @@ fn bid_of_gate(gated: &[u32], gate: u32) -> u32
     ensures { result ≡ slice_index_or gated.now gate 0 }
 {
     gated.get(gate as usize).copied().unwrap_or(0)
-}
-
-/// Appends a space and a price.
-fn put_price(alloc: Global, out: &mut Vec<u8>, price: Cents) -> Result<(), Memory>
-    ensures { OnOk result (out.new.items ≡ out.old.items ++ 32 ∷ price_text price) }
-{
-    put(out, b" ")?;
-    put_cents(alloc, out, price)
 }
 
 /// Appends the line of a choice.

@@ -218,8 +218,7 @@ fn within_answer(
 /// The answer of what a search is said to have found in a market: of its word and tree, where the checks say that they
 /// hold, or else the closed optimum within the gap to the potentials' bound.
 ///
-/// The tree has at most the budget's items. A search that ended is answered by First where its tree passes the check and the
-/// budget, and else by Within, as one that didn't end is.
+/// The tree has at most the budget's items.
 pub fn answer_of(
     alloc: Global,
     market: &Market,

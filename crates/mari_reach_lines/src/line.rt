@@ -23,7 +23,7 @@ pub enum ReachLine {
     Branch(Name),
     /// An item of a tree: the price of the zone of this name is at most this, or more.
     Price(Name, Cents),
-    /// An item of a tree: nothing is within the decisions.
+    /// An item of a tree: the decisions leave nothing.
     Void,
     /// A line that the first form has too.
     Shared(Line),

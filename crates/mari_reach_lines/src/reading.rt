@@ -40,7 +40,8 @@ fn read_head(alloc: Global, rest: &[u8]) -> Result<ReachLine, FormFault>
 
 /// The line of a published run of the first form that has these fields.
 fn run_text(alloc: Global, run: &[u8], quarter: &[u8], kind: &[u8]) -> Result<Vec<u8>, FormFault>
-    ensures { MatchResult result (λ text. text.items ≡ codes "run" ++ spaced (run.now ∷ quarter.now ∷ kind.now ∷ published_text true ∷ [])) (λ fault. fault ≡ form_fault.Memory) }
+    ensures { MatchResult result (λ text. text.items ≡ codes "run" ++ spaced (run.now ∷ quarter.now ∷ kind.now ∷ published_text true ∷ []))
+        (λ fault. fault ≡ form_fault.Memory) }
 {
     let mut text = Vec::new(alloc);
     append(&mut text, b"run")?;
@@ -153,7 +154,7 @@ fn read_shared(alloc: Global, here: &[u8]) -> Result<ReachLine, FormFault>
     Ok(ReachLine::Shared(line))
 }
 
-/// A line of one word, or one whose first word the first form has.
+/// A line of one word.
 fn read_lone(alloc: Global, here: &[u8]) -> Result<ReachLine, FormFault>
     requires { words_of here.now ≡ here.now ∷ [] }
     ensures { Reads ReachInRange reach_spelling here.now result }

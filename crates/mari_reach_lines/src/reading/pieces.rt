@@ -33,7 +33,8 @@ pub fn after_version(text: &[u8]) -> Option<&[u8]>
 
 /// The first word of a text of several, and what stands after the space behind it.
 pub fn next_word(text: &[u8]) -> Result<(&[u8], &[u8]), FormFault>
-    ensures { MatchResult result (λ x. Lacks 32 x.0.now × (words_of text.now ≡ x.0.now ∷ words_of x.1.now)) (λ fault. (fault ≡ form_fault.Formless) × (words_of text.now ≡ text.now ∷ [])) }
+    ensures { MatchResult result (λ x. Lacks 32 x.0.now × (words_of text.now ≡ x.0.now ∷ words_of x.1.now))
+        (λ fault. (fault ≡ form_fault.Formless) × (words_of text.now ≡ text.now ∷ [])) }
 {
     match split_once(b' ', text) {
         Some(parts) => Ok(parts),

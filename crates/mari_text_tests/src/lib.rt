@@ -1,4 +1,4 @@
-//! Tests of texts: pages and sinks in memory and real files, the lines of a day, whole publications, texts that come in
+//! Tests of texts: pages and sinks in memory and real files, the lines of a day of either form, whole publications, texts that come in
 //! pieces, parts as JSON, and the words of a command.
 //!
 //! They call what is public alone, so they stand apart from what they test, which then is proved once.
@@ -18,6 +18,8 @@ mod pieces;
 mod printing;
 #[cfg(test)]
 mod publications;
+#[cfg(test)]
+mod reach_lines;
 #[cfg(test)]
 mod same;
 #[cfg(test)]

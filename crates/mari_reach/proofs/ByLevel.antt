@@ -131,7 +131,7 @@ valid_wide m zones e v =
     (λ o h. record { zone = h.zone; price = h.price; in_order = h.in_order; small = h.small; gate = gate_fits (length m.gates) o.gate o.least v.few_gates h.gate }) m.orders v.orders)
 
 -- three numbers that are small enough are summed without a loss
-pub sum_of_three : (p g b orders borders : ℤ) → neg_ℤ (pos (MOST_ORDERS * MOST_WORTH)) ≤ℤ p → p ≤ℤ pos (MOST_ORDERS * MOST_WORTH) → neg_ℤ (pos (MOST_ORDERS * MOST_WORTH)) ≤ℤ g → g ≤ℤ pos (MOST_ORDERS * MOST_WORTH)
+pub sum_of_three : (p g b orders borders : ℤ) → neg_ℤ (pos (4 * (MOST_WORTH * MOST_ORDERS) * 64)) ≤ℤ p → p ≤ℤ pos (4 * (MOST_WORTH * MOST_ORDERS) * 64) → neg_ℤ (pos (MOST_ORDERS * MOST_WORTH)) ≤ℤ g → g ≤ℤ pos (MOST_ORDERS * MOST_WORTH)
     → neg_ℤ (pos (MOST_BORDERS * MOST_WORTH)) ≤ℤ b → b ≤ℤ pos (MOST_BORDERS * MOST_WORTH) → p +ℤ g ≡ orders → b ≡ borders
     → to_z w64 (of_z w64 (to_z w64 (of_z w64 (to_z w64 (of_z w64 p) +ℤ to_z w64 (of_z w64 g))) +ℤ to_z w64 (of_z w64 b))) ≡ orders +ℤ borders
 sum_of_three p g b orders borders pl ph gl gh bl bh e k =

@@ -16,4 +16,5 @@ pub mod LoneTables
 pub mod Plain
 pub mod Offers
 pub mod PlainOrders
+pub mod PlainPuts
 pub mod ByLevel

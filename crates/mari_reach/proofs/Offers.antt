@@ -16,6 +16,7 @@ use Rattle.mari_market.specs.declared.market.Order.{Order}
 use Rattle.mari_market.specs.declared.market.Market.{Market}
 use Rattle.mari_market.specs.Market.{IsValidOrder}
 use Rattle.mari_market.specs.Price.{IsPrice}
+use Rattle.mari_market.specs.Cut.{is_in}
 use Rattle.mari_market.specs.Rising.{RisesBy}
 use Rattle.mari_market.specs.Sums.{int_sum}
 use Rattle.mari_market.proofs.Ints.{mul-add_z, pos_mul_le, sub-mul_z}
@@ -28,7 +29,7 @@ use Rattle.mari_reach.proofs.Plain.{is_not_less}
 use Rattle.mari_reach.specs.declared.ladders.Ladder.{Ladder}
 use Rattle.mari_reach.specs.declared.ladders.Offer.{Offer}
 use Rattle.mari_reach.specs.declared.ladders.Sums.{Sums}
-use Rattle.mari_reach.specs.Ladders.{before, gain_at, mw_of, of_offer, offer_at, offer_by, offer_of, place_of, up_to, worth_of, AreOffersOf, AreSmall, AreSumsBefore, AreSumsOf, AreSumsUpTo, IsLadderOf, IsOffer}
+use Rattle.mari_reach.specs.Ladders.{before, gain_at, mw_in, mw_of, of_offer, offer_at, offer_by, offer_of, place_of, up_to, worth_of, AreOffersOf, AreSmall, AreSumsBefore, AreSumsOf, AreSumsUpTo, IsLadderOf, IsOffer}
 
 -- what is read past the end of a list of offers
 abbrev pub no_offer : Offer
@@ -311,6 +312,31 @@ all_zones f lv n (x ∷ xs) a =
       one_zone f lv x n (All-head (IsOffer n) x xs a).zone,
       all_zones f lv n xs (All-tail (IsOffer n) x xs a),
     )
+
+-- ---- puts
+
+none_in : (z : ℕ) (level : ℤ) (zones : List ℕ) (k : ℕ) (xs : List Offer) → is_in zones k ≡ false → int_sum (up_to (mw_in zones k) z level) xs ≡ pos 0
+none_in z level zones k [] e = refl
+none_in z level zones k (x ∷ xs) e = omega (arith, ints, one ((x.zone == z) && lt_z x.price level) (is_in zones k) (pos x.mw) e, none_in z level zones k xs e)
+  where
+    one : (b t : Bool) (v : ℤ) → t ≡ false → (if b then (if t then v else pos 0) else pos 0) ≡ pos 0
+    one true t v e = ap (λ (t : Bool). if t then v else pos 0) e
+    one false t v e = refl
+
+some_in : (z : ℕ) (level : ℤ) (zones : List ℕ) (k : ℕ) (xs : List Offer) → is_in zones k ≡ true → int_sum (up_to (mw_in zones k) z level) xs ≡ int_sum (up_to mw_of z level) xs
+some_in z level zones k [] e = refl
+some_in z level zones k (x ∷ xs) e = omega (arith, ints, one ((x.zone == z) && lt_z x.price level) (is_in zones k) (pos x.mw) e, some_in z level zones k xs e)
+  where
+    one : (b t : Bool) (v : ℤ) → t ≡ true → (if b then (if t then v else pos 0) else pos 0) ≡ (if b then v else pos 0)
+    one true t v e = ap (λ (t : Bool). if t then v else pos 0) e
+    one false t v e = refl
+
+-- a zone of the set, or another
+pub put_in : (z : ℕ) (level : ℤ) (zones : List ℕ) (xs : List Offer) (b : Bool) (put : ℤ) → b ≡ is_in zones z → b ≡ true → put ≡ int_sum (up_to mw_of z level) xs → put ≡ int_sum (up_to (mw_in zones z) z level) xs
+put_in z level zones xs b put is there e = e ∙ sym (some_in z level zones z xs (sym is ∙ there))
+
+pub put_out : (z : ℕ) (level : ℤ) (zones : List ℕ) (xs : List Offer) (b : Bool) → b ≡ is_in zones z → b ≡ false → pos 0 ≡ int_sum (up_to (mw_in zones z) z level) xs
+put_out z level zones xs b is absent = sym (none_in z level zones z xs (sym is ∙ absent))
 
 abbrev stored : ℤ → ℤ
 stored x = to_z w64 (of_z w64 x)

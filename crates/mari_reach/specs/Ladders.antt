@@ -12,6 +12,7 @@ use Rattle.mari_market.specs.declared.market.Order.{Order}
 use Rattle.mari_market.specs.declared.market.Market.{Market}
 use Rattle.mari_units.specs.declared.numbers.Cents.{Cents}
 use Rattle.mari_market.specs.Price.{IsPrice, price_at}
+use Rattle.mari_market.specs.Cut.{is_in}
 use Rattle.mari_market.specs.Rising.{RisesBy}
 use Rattle.mari_market.specs.Sums.{int_at, int_sum}
 use Rattle.mari_proofs.specs.Tables.{level_of}
@@ -129,3 +130,9 @@ gain_at p x = (p -ℤ x.price) *ℤ pos x.mw
 -- what an offer of a side gains at its zone's potential where it is better than the level there, and else 0
 abbrev pub gain_by : Side → Levels → List Cents → Offer → ℤ
 gain_by side levels ps x = if lt_z x.price (rung_of side (level_at levels side x.zone)) then gain_at (level_of side (price_at ps x.zone)) x else pos 0
+
+-- ---- cuts
+
+-- the quantity of an offer where the zone is one of the set, and else 0
+abbrev pub mw_in : List ℕ → ℕ → Offer → ℤ
+mw_in zones z x = if is_in zones z then pos x.mw else pos 0

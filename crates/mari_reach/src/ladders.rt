@@ -7,13 +7,16 @@ ghost use Rattle.mari_market.specs.Market.{IsValid};
 ghost use Rattle.mari_market.specs.Price.{IsCapped, IsPrice};
 ghost use Rattle.mari_proofs.specs.Tables.{level_of};
 ghost use Rattle.mari_market.specs.Rising.{RisesBy};
-ghost use Rattle.mari_market.specs.Sums.{int_sum};
-ghost use Rattle.mari_reach.specs.Ladders.{gain_at, gain_by, offer_of, place_of, rung_of, up_to, AreOffersOf, AreSmall, AreSumsBefore, AreSumsOf, AreSumsUpTo, IsLadder, IsLadderOf, IsOffer};
+ghost use Rattle.mari_market.specs.Sums.{int_at, int_sum};
+ghost use Rattle.mari_reach.specs.Ladders.{gain_at, gain_by, mw_in, offer_of, place_of, rung_of, up_to, AreOffersOf, AreSmall, AreSumsBefore, AreSumsOf, AreSumsUpTo, IsLadder, IsLadderOf, IsOffer};
+ghost use Rattle.mari_reach.specs.Values.{cut_level, put_by};
 ghost use Rattle.mari_reach.specs.declared.ladders.Offer.{Offer as OfferRecord};
 
-use crate::levels::Levels;
+use crate::cuts::is_in;
+use crate::levels::{Levels, cut_level};
+use crate::prices::PriceBox;
 use crate::worth::{amount, potential_at};
-use mari_market::{MOST_ORDERS, MOST_WORTH, Market, Order, Side};
+use mari_market::{CutSide, MOST_ORDERS, MOST_WORTH, Market, Order, Side};
 use mari_units::{CAP, Cents, MOST_MW, MOST_ZONES, Memory};
 use std::alloc::Global;
 
@@ -303,6 +306,37 @@ impl Ladder {
         for zone in 0..potentials.len() as u32 {
             let level = rung_of(side, levels.at(side, zone));
             total += self.gain_at(zone, level, price_on(side, potential_at(potentials, zone)));
+        }
+        total
+    }
+
+    /// What a cut counts of the offers of a zone, if it is one of the set.
+    fn put_at(&self, cut: CutSide, side: Side, prices: &PriceBox, zones: &[u32], zone: u32) -> i64
+        requires ladder { IsLadder self.now }
+        requires zone { zone < length self.now.starts.items }
+        ensures value { result ≡ int_sum (up_to (mw_in zones.now zone) zone (rung_of side (cut_level cut side (int_at prices.now.low zone) (int_at prices.now.high zone)))) self.now.offers.items }
+        ensures least { pos 0 ≤ℤ result }
+        ensures most { result ≤ℤ pos (MOST_MW * MOST_ORDERS) }
+    {
+        if !is_in(zones, zone) {
+            return 0;
+        }
+        let low = prices.low[zone as usize];
+        let high = prices.high[zone as usize];
+        self.up_to(zone, rung_of(side, cut_level(cut, side, low, high)))
+            .mw
+    }
+
+    /// What a cut counts of the offers of a side.
+    pub(crate) fn put(&self, cut: CutSide, side: Side, prices: &PriceBox, zones: &[u32]) -> i64
+        requires ladder { IsLadder self.now }
+        ensures value { result ≡ int_sum (put_by cut side prices.now zones.now) self.now.offers.items }
+        ensures least { pos 0 ≤ℤ result }
+        ensures most { result ≤ℤ pos (MOST_MW * MOST_ORDERS * MOST_ZONES) }
+    {
+        let mut total = 0;
+        for zone in 0..self.starts.len() as u32 {
+            total += self.put_at(cut, side, prices, zones, zone);
         }
         total
     }

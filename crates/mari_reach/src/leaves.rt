@@ -156,7 +156,7 @@ fn holds_by(
         ReachLeaf::Bound(potentials) => {
             !is_void && is_bound(market, survey, state, potentials, cutoff, word)
         }
-        ReachLeaf::Cut(cut) => !is_void && is_cut(market, state, cut),
+        ReachLeaf::Cut(cut) => !is_void && is_cut(market, survey, state, cut),
     }
 }
 

@@ -9,12 +9,12 @@ ghost use Rattle.mari_market.specs.Sums.{int_at};
 ghost use Rattle.mari_reach.specs.declared.states.State.{State as StateRecord};
 ghost use Rattle.mari_reach.specs.Ladders.{level_at};
 ghost use Rattle.mari_reach.specs.Tables.{span_in};
-ghost use Rattle.mari_reach.specs.Values.{HasLevels, inject_below, runs_at, withdraw_above};
+ghost use Rattle.mari_reach.specs.Values.{cut_level, HasLevels, inject_below, runs_at, withdraw_above};
 
 use crate::states::State;
 use crate::worth::{amount, gap, potential_at};
-use mari_market::{MOST_WORTH, Order, Side};
-use mari_units::{Cents, MOST_GATES, MOST_ZONES};
+use mari_market::{CutSide, MOST_WORTH, Order, Side};
+use mari_units::{CAP, Cents, MOST_GATES, MOST_ZONES};
 
 /// For each zone the price below which a plain injection runs in full, and the price above which a withdrawal does, where
 /// they are worth most.
@@ -38,6 +38,18 @@ fn withdraw_above(potential: Cents, low: i64, high: i64) -> i64
     ensures { result ≡ withdraw_above potential.0 low high }
 {
     high.min(potential.0.max(low) - 1)
+}
+
+/// The level of a side at whose better side a plain order puts in the most that a cut counts of it.
+pub(crate) fn cut_level(cut: CutSide, side: Side, low: i64, high: i64) -> i64
+    ensures { result ≡ cut_level cut side low high }
+{
+    match (cut, side) {
+        (CutSide::Out, Side::Inject) => low,
+        (CutSide::Out, Side::Withdraw) => withdraw_above(Cents(-CAP), low, high),
+        (CutSide::In, Side::Inject) => inject_below(Cents(CAP), low, high),
+        (CutSide::In, Side::Withdraw) => high,
+    }
 }
 
 impl Levels {

@@ -1,5 +1,5 @@
 -- What a cut counts of plain orders by ladders is what they put in at least or at most.
-use Rattle.std.proofs.Common.{◌≡◌, ◌∙◌, ◌||◌, not, if◌then◌else◌, Bool, true, false, ℕ, ◌<◌, ℤ, pos, neg_ℤ, ◌+ℤ◌, ◌-ℤ◌, ◌*ℤ◌, ◌≤ℤ◌, ◌<ℤ◌, List, [], ◌∷◌, length, Option, Some, None, arith, ap, refl, sym}
+use Rattle.std.proofs.Common.{◌≡◌, ◌∙◌, ◌||◌, not, if◌then◌else◌, Bool, true, false, ℕ, ℤ, pos, neg_ℤ, ◌-ℤ◌, List, [], ◌∷◌, Option, Some, None, arith, ap, refl, sym}
 use Rattle.std.proofs.lemmas.Int.{ints, clamps, by_lt_z}
 use Rattle.std.proofs.lemmas.List.Elements.{All-head, All-tail}
 use Rattle.std.specs.Int.{int_max, int_min}
@@ -12,7 +12,6 @@ use Rattle.mari_market.specs.declared.certificate.CutSide.TheVariants.{Out, In}
 use Rattle.mari_market.specs.declared.market.Order.{Order}
 use Rattle.mari_market.specs.declared.market.Side.{Side}
 use Rattle.mari_market.specs.declared.market.Side.TheVariants.{Inject, Withdraw}
-use Rattle.mari_market.specs.Bounds.{Span}
 use Rattle.mari_market.specs.Cut.{is_in}
 use Rattle.mari_market.specs.Market.{IsValidOrder}
 use Rattle.mari_market.specs.Price.{IsPrice}
@@ -20,11 +19,10 @@ use Rattle.mari_market.specs.Sums.{int_at, int_sum}
 use Rattle.mari_market.proofs.Rising.{is_less}
 use Rattle.mari_proofs.specs.NetInjections.{net_put, put_of}
 use Rattle.mari_reach.specs.declared.states.State.{State}
-use Rattle.mari_reach.specs.Ladders.{mw_in, of_offer, offer_at, offer_by, offer_of, rung_of}
+use Rattle.mari_reach.specs.Ladders.{mw_in, of_offer, offer_at, offer_by, offer_of}
 use Rattle.mari_reach.specs.Values.{cut_level, put_by}
 use Rattle.mari_reach.specs.State.{gains_within, loses_within, plain_span, reached_span}
 use Rattle.mari_reach.specs.Tables.{gains_in, is_plain, loses_in, span_in, state_in}
-use Rattle.mari_reach.specs.Twins.{is_better}
 use Rattle.mari_reach.proofs.ByLevel.{level_says}
 use Rattle.mari_reach.proofs.Plain.{is_not_less}
 use Rattle.mari_reach.proofs.PlainOrders.{by_rung}

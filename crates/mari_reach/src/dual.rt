@@ -1,14 +1,14 @@
 //! The dual value by the tables of a state: what all orders gain and all borders earn at most, at one potential for each
 //! zone.
 
-ghost use Rattle.std.specs.Prelude.{◌≡◌, if◌then◌else◌, ℤ, pos, ◌*◌, ◌-ℤ◌, ◌*ℤ◌, ◌≤ℤ◌, neg_ℤ, ◌≤◌, ◌<◌, length};
+ghost use Rattle.std.specs.Prelude.{◌≡◌, ℤ, pos, ◌*◌, ◌-ℤ◌, ◌≤ℤ◌, neg_ℤ, ◌≤◌, length};
 ghost use Rattle.std.specs.List.{All, filter};
 ghost use Rattle.mari_reach.specs.Tables.{flow_in, has_gate, span_in, AreLaddersOf};
 ghost use Rattle.mari_reach.specs.Values.{HasLevels, dual_in};
-ghost use Rattle.mari_market.specs.Dual.{gain_per_mw, best_within, best_border, best_flow, best_order};
+ghost use Rattle.mari_market.specs.Dual.{best_within, best_border, best_flow, best_order};
 ghost use Rattle.mari_market.specs.Market.{IsValid, IsValidOrder, IsValidBorder};
-ghost use Rattle.mari_market.specs.Price.{IsCapped, IsPrice, ArePrices, price_at};
-ghost use Rattle.mari_market.specs.Sums.{int_at, int_sum};
+ghost use Rattle.mari_market.specs.Price.{IsCapped, IsPrice};
+ghost use Rattle.mari_market.specs.Sums.{int_sum};
 
 use crate::levels::{Levels, plain_value};
 use crate::sides::Ladders;

@@ -1,6 +1,6 @@
 //! The test of one leaf.
 
-ghost use Rattle.std.specs.Prelude.{◌≡◌, ◌↔◌, ◌||◌, ◌<◌, ℕ, ℤ, pos, ◌-ℤ◌, ◌≤ℤ◌, List, length, IfSome, IsTrue};
+ghost use Rattle.std.specs.Prelude.{◌≡◌, ◌↔◌, ◌||◌, ◌<◌, ℤ, pos, ◌-ℤ◌, ◌≤ℤ◌, List, length, IfSome, IsTrue};
 ghost use lib.Signed.{lt_z};
 ghost use Rattle.std.specs.List.{All};
 ghost use Rattle.mari_units.specs.declared.numbers.Cents.{Cents};

@@ -1,10 +1,10 @@
 //! Plain orders' part of the dual value, by a level for each zone and side: at the better side of it they run in full.
 
-ghost use Rattle.std.specs.Prelude.{◌≡◌, if◌then◌else◌, ℕ, ℤ, pos, ◌*◌, ◌≤ℤ◌, neg_ℤ, ◌≤◌, ◌<◌, None, length};
+ghost use Rattle.std.specs.Prelude.{◌≡◌, if◌then◌else◌, ℕ, ℤ, pos, ◌≤ℤ◌, neg_ℤ, ◌≤◌, ◌<◌, None, length};
 ghost use Rattle.std.specs.List.{All};
 ghost use Rattle.mari_market.specs.Dual.{best_order};
 ghost use Rattle.mari_market.specs.Market.{IsValidOrder};
-ghost use Rattle.mari_market.specs.Price.{IsCapped, IsPrice, price_at};
+ghost use Rattle.mari_market.specs.Price.{IsCapped, IsPrice};
 ghost use Rattle.mari_market.specs.Sums.{int_at};
 ghost use Rattle.mari_reach.specs.declared.states.State.{State as StateRecord};
 ghost use Rattle.mari_reach.specs.Ladders.{level_at};

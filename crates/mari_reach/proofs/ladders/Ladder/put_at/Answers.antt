@@ -1,4 +1,4 @@
-use Rattle.std.proofs.Common.{◌≡◌, ◌∙◌, ℤ, arith, ap, rules, to_z-of_z, FitsSigned, w64}
+use Rattle.std.proofs.Common.{◌∙◌, ℤ, arith, ap, rules, to_z-of_z, FitsSigned, w64}
 use Rattle.std.proofs.lemmas.Int.{ints}
 use Rattle.mari_market.specs.Sums.{int_at, int_sum}
 use Rattle.mari_reach.specs.Ladders.{mw_of, rung_of, up_to}

@@ -37,7 +37,8 @@ neither : (a : Bool) (x y : ℤ) → a ≡ false → x <ℤ y → (a || not (lt_
 neither true x y e h = absurd (cc)
 neither false x y e h = ap not (is_less x y h)
 
-level_says : (side : Side) (c p low high : ℤ) → runs_at side c (inject_below p low high) (withdraw_above p low high) ≡ runs_best side c p low high
+-- whether a price is at the better side of its side's level is whether it runs in full
+pub level_says : (side : Side) (c p low high : ℤ) → runs_at side c (inject_below p low high) (withdraw_above p low high) ≡ runs_best side c p low high
 level_says Inject c p low high =
     by_lt_z c (inject_below p low high)
     (λ l. is_less c (inject_below p low high) l ∙ sym (or_not (lt_z c low) (int_min p high) c (λ e. omega (arith, ints, clamps, l, not_less c low e))))
@@ -130,8 +131,14 @@ valid_wide m zones e v =
     (All-weaker (IsValidOrder m.zones (length m.gates)) (IsValidOrder m.zones 512)
     (λ o h. record { zone = h.zone; price = h.price; in_order = h.in_order; small = h.small; gate = gate_fits (length m.gates) o.gate o.least v.few_gates h.gate }) m.orders v.orders)
 
+-- and for as many zones as there may be
+pub valid_widest : (m : Market) → IsValid m → All (IsValidOrder 64 512) m.orders
+valid_widest m v =
+    All-weaker (IsValidOrder m.zones 512) (IsValidOrder 64 512)
+    (λ o h. record { zone = omega (arith, h.zone, v.zones.1); price = h.price; in_order = h.in_order; small = h.small; gate = h.gate }) m.orders (valid_wide m m.zones refl v)
+
 -- three numbers that are small enough are summed without a loss
-pub sum_of_three : (p g b orders borders : ℤ) → neg_ℤ (pos (MOST_ORDERS * MOST_WORTH)) ≤ℤ p → p ≤ℤ pos (MOST_ORDERS * MOST_WORTH) → neg_ℤ (pos (MOST_ORDERS * MOST_WORTH)) ≤ℤ g → g ≤ℤ pos (MOST_ORDERS * MOST_WORTH)
+pub sum_of_three : (p g b orders borders : ℤ) → neg_ℤ (pos (4 * (MOST_WORTH * MOST_ORDERS) * 64)) ≤ℤ p → p ≤ℤ pos (4 * (MOST_WORTH * MOST_ORDERS) * 64) → neg_ℤ (pos (MOST_ORDERS * MOST_WORTH)) ≤ℤ g → g ≤ℤ pos (MOST_ORDERS * MOST_WORTH)
     → neg_ℤ (pos (MOST_BORDERS * MOST_WORTH)) ≤ℤ b → b ≤ℤ pos (MOST_BORDERS * MOST_WORTH) → p +ℤ g ≡ orders → b ≡ borders
     → to_z w64 (of_z w64 (to_z w64 (of_z w64 (to_z w64 (of_z w64 p) +ℤ to_z w64 (of_z w64 g))) +ℤ to_z w64 (of_z w64 b))) ≡ orders +ℤ borders
 sum_of_three p g b orders borders pl ph gl gh bl bh e k =

@@ -14,4 +14,7 @@ pub mod RootLaws
 pub mod GateOrders
 pub mod LoneTables
 pub mod Plain
+pub mod Offers
+pub mod PlainOrders
+pub mod PlainPuts
 pub mod ByLevel

@@ -5,3 +5,4 @@ pub mod Tables
 pub mod Values
 pub mod Places
 pub mod Twins
+pub mod Ladders

@@ -1,11 +1,12 @@
 -- States as tables.
-use Rattle.std.specs.Prelude.{◌≡◌, ◌&&◌, ◌||◌, not, Bool, true, ℕ, ◌<◌, ◌≤◌, List, length, Option, None, slice_index_or}
+use Rattle.std.specs.Prelude.{◌≡◌, ◌&&◌, ◌||◌, not, Bool, true, ℕ, ◌<◌, ◌≤◌, List, length, Option, None, slice_index_or, IfSome}
 use Rattle.std.specs.List.{All, filter, list_any}
 use Rattle.std.specs.Option.{is_some}
 use lib.Signed.{lt_z}
 use Rattle.mari_market.specs.declared.market.Border.{Border}
 use Rattle.mari_market.specs.declared.market.Order.{Order}
 use Rattle.mari_market.specs.declared.market.Market.{Market}
+use Rattle.mari_market.specs.declared.market.Side.TheVariants.{Inject, Withdraw}
 use Rattle.mari_market.specs.Bounds.{Span, GateState}
 use Rattle.mari_market.specs.Flows.{FlowSpan}
 use Rattle.mari_market.specs.Activation.{is_gate}
@@ -16,9 +17,11 @@ use Rattle.mari_reach.specs.declared.decisions.Decision.{Decision}
 use Rattle.mari_reach.specs.declared.marks.Marks.{Marks}
 use Rattle.mari_reach.specs.declared.prices.PriceBox.{PriceBox}
 use Rattle.mari_reach.specs.declared.states.State.{State}
+use Rattle.mari_reach.specs.declared.sides.Ladders.{Ladders}
 use Rattle.mari_reach.specs.declared.survey.Survey.{Survey}
 use Rattle.mari_reach.specs.declared.ranks.Lone.{Lone}
 use Rattle.mari_reach.specs.declared.ranks.Twins.{Twins}
+use Rattle.mari_reach.specs.Ladders.{IsLadderOf}
 use Rattle.mari_reach.specs.Twins.{lone_order, outranks_by}
 use Rattle.mari_reach.specs.State.{border_span, gains_within, high_by, high_of, loses_within, low_by, low_of, opens, reached_span, shuts, state_by}
 
@@ -91,11 +94,16 @@ pub record SpeaksFor (m : Market) (os : List Order) : Type 0 where
   pub high : (on : ℕ → Bool) (ds : List Decision) (z : ℕ) → high_by on ds os z ≡ high_by on ds m.orders z
   pub losses : (box : PriceBox) (g : ℕ) → has_loss_in box os g ≡ has_loss_in box m.orders g
 
+-- the ladders are those of a market's plain orders
+pub record AreLaddersOf (m : Market) (l : Ladders) : Type 0 where
+  pub injecting : IsLadderOf m Inject l.injecting
+  pub withdrawing : IsLadderOf m Withdraw l.withdrawing
+
 -- the survey is that of a market
 pub record IsSurveyOf (m : Market) (s : Survey) : Type 0 where
   pub gated : SpeaksFor m s.gated.items
   pub of_gates : s.gated.items ≡ filter has_gate m.orders
-  pub plain : s.plain.items ≡ filter is_plain m.orders
+  pub ladders : IfSome s.ladders (AreLaddersOf m)
   pub twins : IsTwinsOf m s.twins
 
 -- the tables are those of a state

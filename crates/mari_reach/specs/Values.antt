@@ -1,5 +1,5 @@
 -- Leaves by the tables of a state.
-use Rattle.std.specs.Prelude.{◌≡◌, ◌||◌, not, Bool, true, false, ℕ, ◌<◌, ℤ, pos, ◌+ℤ◌, ◌-ℤ◌, ◌≤ℤ◌, List, length, map}
+use Rattle.std.specs.Prelude.{◌≡◌, ◌||◌, not, Bool, true, false, ℕ, ◌<◌, ℤ, pos, ◌+ℤ◌, ◌-ℤ◌, ◌≤ℤ◌, neg_ℤ, if◌then◌else◌, List, length, map}
 use Rattle.std.specs.Int.{int_max, int_min}
 use Rattle.std.specs.List.{list_any, range_with_len}
 use lib.Signed.{lt_z}
@@ -19,8 +19,12 @@ use Rattle.mari_market.specs.Price.{ArePrices, price_at}
 use Rattle.mari_market.specs.Sums.{int_at}
 use Rattle.mari_reach.specs.declared.decisions.ReachLeaf.{ReachLeaf}
 use Rattle.mari_reach.specs.declared.decisions.ReachLeaf.TheVariants.{Void, Bound, Cut}
+use Rattle.mari_reach.specs.declared.ladders.Offer.{Offer}
 use Rattle.mari_reach.specs.declared.levels.Levels.{Levels}
+use Rattle.mari_reach.specs.declared.prices.PriceBox.{PriceBox}
 use Rattle.mari_reach.specs.declared.states.State.{State}
+use Rattle.mari_units.specs.declared.numbers.TheConstants.{CAP}
+use Rattle.mari_reach.specs.Ladders.{mw_in, rung_of}
 use Rattle.mari_reach.specs.Leaf.{gain_of}
 use Rattle.mari_reach.specs.Tables.{flow_in, is_priceless, is_torn, span_in}
 
@@ -80,3 +84,15 @@ abbrev pub ReachLeafHoldsBy : Market → ℤ → List Bool → State → ReachLe
 ReachLeafHoldsBy m cutoff word r Void = is_void_by m r ≡ true
 ReachLeafHoldsBy m cutoff word r (Bound potentials) = (is_void_by m r ≡ false) × IsBoundBy m cutoff word r potentials.cents
 ReachLeafHoldsBy m cutoff word r (Cut cut) = (is_void_by m r ≡ false) × IsCutWithin (span_in r) (flow_in r) m cut
+
+-- the level of a side at whose better side a plain order puts in the most that a cut counts of it: of a cut of side Out
+-- the least of an injection, and the greatest of a withdrawal
+abbrev pub cut_level : CutSide → Side → (low high : ℤ) → ℤ
+cut_level Out Inject low high = low
+cut_level Out Withdraw low high = withdraw_above (neg_ℤ CAP) low high
+cut_level In Inject low high = inject_below CAP low high
+cut_level In Withdraw low high = high
+
+-- what a cut counts of an offer of a side
+abbrev pub put_by : CutSide → Side → PriceBox → List ℕ → Offer → ℤ
+put_by cut side box zones x = if lt_z x.price (rung_of side (cut_level cut side (int_at box.low x.zone) (int_at box.high x.zone))) then mw_in zones x.zone x else pos 0

@@ -1,20 +1,22 @@
 //! Cuts: sets of zones that have too much energy, or too little, for any activation to balance.
 
-ghost use Rattle.std.specs.Prelude.{◌≡◌, ◌↔◌, ℤ, pos, ◌*◌, ◌≤ℤ◌, neg_ℤ, ◌≤◌, ◌<◌, length, IsTrue};
-ghost use Rattle.std.specs.List.{All};
-ghost use Rattle.mari_reach.specs.Tables.{flow_in, span_in};
+ghost use Rattle.std.specs.Prelude.{◌≡◌, ◌↔◌, ℤ, pos, ◌*◌, ◌≤ℤ◌, neg_ℤ, ◌≤◌, ◌<◌, length, IfSome, IsTrue};
+ghost use Rattle.std.specs.List.{All, filter};
+ghost use Rattle.mari_reach.specs.Tables.{flow_in, has_gate, span_in, AreLaddersOf, IsSurveyOf};
 ghost use Rattle.mari_reach.specs.Values.{carried_by};
 ghost use Rattle.mari_market.specs.Cut.{CannotBalanceWithin, IsCutWithin, is_in};
 ghost use Rattle.mari_market.specs.Market.{IsValid, IsValidOrder, IsValidBorder};
 ghost use Rattle.mari_market.specs.Sums.{int_sum};
 ghost use Rattle.mari_proofs.specs.NetInjections.{net_put, put_of, Exceeds};
 
+use crate::sides::Ladders;
 use crate::states::State;
+use crate::survey::Survey;
 use mari_market::{Border, Cut, CutSide, MOST_ORDERS, Market, Order, Side, are_rising};
 use mari_units::{MOST_BORDERS, MOST_FLOW, MOST_GATES, MOST_MW, MOST_ZONES};
 
 /// Whether the zone is one of the set.
-fn is_in(zones: &[u32], zone: u32) -> bool
+pub(crate) fn is_in(zones: &[u32], zone: u32) -> bool
     ensures { result ≡ is_in zones.now zone }
 {
     zones.iter().any(|other| *other == zone)
@@ -113,21 +115,66 @@ fn exceeds(side: CutSide, put: i64, carried: i64) -> bool
     }
 }
 
+/// What all orders of the set put in at least, or at most, by the survey of the market if it has ladders.
+fn put_by(
+    market: &Market,
+    survey: Option<&Survey>,
+    state: &State,
+    side: CutSide,
+    zones: &[u32],
+) -> i64
+    requires market { IsValid market.now }
+    requires survey { IfSome survey (λ s. IsSurveyOf market.now s.now) }
+    ensures { result ≡ int_sum (put_of side (span_in state.now) zones.now) market.now.orders }
+{
+    if let Some(survey) = survey
+        && let Some(ladders) = &survey.ladders
+    {
+        return surveyed_put(market, survey.gated.as_slice(), ladders, state, side, zones);
+    }
+    orders_put(side, zones, market.orders.as_slice(), state)
+}
+
+/// What all orders of the set put in at least, or at most, by the orders of gates and the ladders of the others.
+fn surveyed_put(
+    market: &Market,
+    gated: &[Order],
+    ladders: &Ladders,
+    state: &State,
+    side: CutSide,
+    zones: &[u32],
+) -> i64
+    requires market { IsValid market.now }
+    requires gated { gated.now ≡ filter has_gate market.now.orders }
+    requires ladders { AreLaddersOf market.now ladders.now }
+    ensures { result ≡ int_sum (put_of side (span_in state.now) zones.now) market.now.orders }
+{
+    ladders.put(market, state, side, zones) + orders_put(side, zones, gated, state)
+}
+
 /// Whether the set has more than can leave it, or lacks more than can enter it.
-fn cannot_balance(market: &Market, state: &State, side: CutSide, zones: &[u32]) -> bool
-    requires { IsValid market.now }
+fn cannot_balance(
+    market: &Market,
+    survey: Option<&Survey>,
+    state: &State,
+    side: CutSide,
+    zones: &[u32],
+) -> bool
+    requires market { IsValid market.now }
+    requires survey { IfSome survey (λ s. IsSurveyOf market.now s.now) }
     ensures { IsTrue result ↔ CannotBalanceWithin (span_in state.now) (flow_in state.now) market.now side zones.now }
 {
-    let put = orders_put(side, zones, market.orders.as_slice(), state);
+    let put = put_by(market, survey, state, side, zones);
     let carried = borders_carry(side, zones, market.borders.as_slice(), state);
     exceeds(side, put, carried)
 }
 
 /// Whether a cut holds by the tables of a state.
-pub(crate) fn is_cut(market: &Market, state: &State, cut: &Cut) -> bool
-    requires { IsValid market.now }
+pub(crate) fn is_cut(market: &Market, survey: Option<&Survey>, state: &State, cut: &Cut) -> bool
+    requires market { IsValid market.now }
+    requires survey { IfSome survey (λ s. IsSurveyOf market.now s.now) }
     ensures { IsTrue result ↔ IsCutWithin (span_in state.now) (flow_in state.now) market.now cut.now }
 {
     let zones = cut.zones.as_slice();
-    are_rising(zones, market.zones) && cannot_balance(market, state, cut.side, zones)
+    are_rising(zones, market.zones) && cannot_balance(market, survey, state, cut.side, zones)
 }

@@ -1,18 +1,18 @@
 //! The dual value by the tables of a state: what all orders gain and all borders earn at most, at one potential for each
 //! zone.
 
-ghost use Rattle.std.specs.Prelude.{◌≡◌, if◌then◌else◌, ℤ, pos, ◌*◌, ◌-ℤ◌, ◌*ℤ◌, ◌≤ℤ◌, neg_ℤ, ◌≤◌, ◌<◌, length};
-ghost use Rattle.std.specs.List.{All};
-ghost use Rattle.mari_reach.specs.Tables.{IsSurveyOf, flow_in, span_in};
+ghost use Rattle.std.specs.Prelude.{◌≡◌, ℤ, pos, ◌*◌, ◌-ℤ◌, ◌≤ℤ◌, neg_ℤ, ◌≤◌, length};
+ghost use Rattle.std.specs.List.{All, filter};
+ghost use Rattle.mari_reach.specs.Tables.{flow_in, has_gate, span_in, AreLaddersOf};
 ghost use Rattle.mari_reach.specs.Values.{HasLevels, dual_in};
-ghost use Rattle.mari_market.specs.Dual.{gain_per_mw, best_within, best_border, best_flow, best_order};
+ghost use Rattle.mari_market.specs.Dual.{best_within, best_border, best_flow, best_order};
 ghost use Rattle.mari_market.specs.Market.{IsValid, IsValidOrder, IsValidBorder};
-ghost use Rattle.mari_market.specs.Price.{IsCapped, IsPrice, ArePrices, price_at};
-ghost use Rattle.mari_market.specs.Sums.{int_at, int_sum};
+ghost use Rattle.mari_market.specs.Price.{IsCapped, IsPrice};
+ghost use Rattle.mari_market.specs.Sums.{int_sum};
 
-use crate::levels::{Levels, plain_total, plain_value};
+use crate::levels::{Levels, plain_value};
+use crate::sides::Ladders;
 use crate::states::State;
-use crate::survey::Survey;
 use crate::worth::{amount, gap, potential_at};
 use mari_market::{Border, MOST_GAP, MOST_ORDERS, MOST_WORTH, Market, Order};
 use mari_units::{Cents, MOST_BORDERS, MOST_FLOW, MOST_GATES, MOST_MW, MOST_ZONES};
@@ -167,16 +167,23 @@ pub(crate) fn total_value(market: &Market, state: &State, potentials: &[Cents]) 
         + borders_value(market.borders.as_slice(), state, potentials)
 }
 
-/// The most that all orders gain and all borders earn, by the survey of the market.
-pub(crate) fn total_by(market: &Market, survey: &Survey, state: &State, potentials: &[Cents]) -> i64
+/// The most that all orders gain and all borders earn, by the orders of gates and the ladders of the others.
+pub(crate) fn total_by(
+    market: &Market,
+    gated: &[Order],
+    ladders: &Ladders,
+    state: &State,
+    potentials: &[Cents],
+) -> i64
     requires market { IsValid market.now }
-    requires survey { IsSurveyOf market.now survey.now }
+    requires gated { gated.now ≡ filter has_gate market.now.orders }
+    requires ladders { AreLaddersOf market.now ladders.now }
     requires one_each { length potentials.now ≡ market.now.zones }
     requires potentials { All IsCapped potentials.now }
     ensures { result ≡ dual_in market.now state.now potentials.now }
 {
     let levels = Levels::of(state, potentials);
-    plain_total(survey.plain.as_slice(), &levels, potentials)
-        + orders_value(survey.gated.as_slice(), state, &levels, potentials)
+    ladders.gain(market, &levels, potentials)
+        + orders_value(gated, state, &levels, potentials)
         + borders_value(market.borders.as_slice(), state, potentials)
 }

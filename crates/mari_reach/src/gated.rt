@@ -3,7 +3,7 @@
 ghost use Rattle.std.specs.Prelude.{◌≡◌, ◌∷◌, ◌++◌, [], IfOk, OnOk};
 ghost use Rattle.std.specs.List.{filter};
 ghost use Rattle.mari_market.specs.Market.{IsValid};
-ghost use Rattle.mari_reach.specs.Tables.{SpeaksFor, has_gate, is_plain};
+ghost use Rattle.mari_reach.specs.Tables.{SpeaksFor, has_gate};
 
 use mari_market::{Market, Order};
 use mari_units::Memory;
@@ -37,25 +37,4 @@ pub(crate) fn gated_orders(alloc: Global, market: &Market) -> Result<Vec<Order>,
     ensures items { IfOk result (λ v. v.items ≡ filter has_gate market.now.orders) }
 {
     gated_among(alloc, market.orders.as_slice())
-}
-
-/// Adds an order, if it is of no gate.
-fn add_plain(plain: &mut Vec<Order>, order: &Order) -> Result<(), Memory>
-    ensures { OnOk result (plain.new.items ≡ plain.old.items ++ filter is_plain (order.now ∷ [])) }
-{
-    if order.gate.is_none() {
-        plain.push(*order)?;
-    }
-    Ok(())
-}
-
-/// The orders of no gate among these.
-pub(crate) fn plain_among(alloc: Global, orders: &[Order]) -> Result<Vec<Order>, Memory>
-    ensures { IfOk result (λ v. v.items ≡ filter is_plain orders.now) }
-{
-    let mut plain = Vec::new(alloc);
-    for order in orders {
-        add_plain(&mut plain, order)?;
-    }
-    Ok(plain)
 }

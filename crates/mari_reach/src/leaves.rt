@@ -1,6 +1,6 @@
 //! The test of one leaf.
 
-ghost use Rattle.std.specs.Prelude.{◌≡◌, ◌↔◌, ◌||◌, ◌<◌, ℕ, ℤ, pos, ◌-ℤ◌, ◌≤ℤ◌, List, length, IfSome, IsTrue};
+ghost use Rattle.std.specs.Prelude.{◌≡◌, ◌↔◌, ◌||◌, ◌<◌, ℤ, pos, ◌-ℤ◌, ◌≤ℤ◌, List, length, IfSome, IsTrue};
 ghost use lib.Signed.{lt_z};
 ghost use Rattle.std.specs.List.{All};
 ghost use Rattle.mari_units.specs.declared.numbers.Cents.{Cents};
@@ -65,6 +65,20 @@ fn is_equal(value: i64, cutoff: Quarters) -> bool
     i128::from(value) == cutoff.0
 }
 
+/// The dual value of a state, by the ladders of the market's survey if it has some.
+fn survey_value(market: &Market, survey: &Survey, state: &State, potentials: &[Cents]) -> i64
+    requires market { IsValid market.now }
+    requires survey { IsSurveyOf market.now survey.now }
+    requires one_each { length potentials.now ≡ market.now.zones }
+    requires potentials { All IsCapped potentials.now }
+    ensures { result ≡ dual_in market.now state.now potentials.now }
+{
+    match &survey.ladders {
+        None => total_value(market, state, potentials),
+        Some(ladders) => total_by(market, survey.gated.as_slice(), ladders, state, potentials),
+    }
+}
+
 /// The dual value of a state, by the survey of the market if there is one.
 fn value_of(market: &Market, survey: Option<&Survey>, state: &State, potentials: &[Cents]) -> i64
     requires market { IsValid market.now }
@@ -75,7 +89,7 @@ fn value_of(market: &Market, survey: Option<&Survey>, state: &State, potentials:
 {
     match survey {
         None => total_value(market, state, potentials),
-        Some(survey) => total_by(market, survey, state, potentials),
+        Some(survey) => survey_value(market, survey, state, potentials),
     }
 }
 
@@ -142,7 +156,7 @@ fn holds_by(
         ReachLeaf::Bound(potentials) => {
             !is_void && is_bound(market, survey, state, potentials, cutoff, word)
         }
-        ReachLeaf::Cut(cut) => !is_void && is_cut(market, state, cut),
+        ReachLeaf::Cut(cut) => !is_void && is_cut(market, survey, state, cut),
     }
 }
 

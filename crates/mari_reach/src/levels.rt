@@ -1,19 +1,20 @@
 //! Plain orders' part of the dual value, by a level for each zone and side: at the better side of it they run in full.
 
-ghost use Rattle.std.specs.Prelude.{◌≡◌, if◌then◌else◌, ℕ, ℤ, pos, ◌*◌, ◌≤ℤ◌, neg_ℤ, ◌≤◌, ◌<◌, None, length};
+ghost use Rattle.std.specs.Prelude.{◌≡◌, if◌then◌else◌, ℕ, ℤ, pos, ◌≤ℤ◌, neg_ℤ, ◌≤◌, ◌<◌, None, length};
 ghost use Rattle.std.specs.List.{All};
 ghost use Rattle.mari_market.specs.Dual.{best_order};
 ghost use Rattle.mari_market.specs.Market.{IsValidOrder};
-ghost use Rattle.mari_market.specs.Price.{IsCapped, IsPrice, price_at};
-ghost use Rattle.mari_market.specs.Sums.{int_at, int_sum};
+ghost use Rattle.mari_market.specs.Price.{IsCapped, IsPrice};
+ghost use Rattle.mari_market.specs.Sums.{int_at};
 ghost use Rattle.mari_reach.specs.declared.states.State.{State as StateRecord};
+ghost use Rattle.mari_reach.specs.Ladders.{level_at};
 ghost use Rattle.mari_reach.specs.Tables.{span_in};
-ghost use Rattle.mari_reach.specs.Values.{HasLevels, inject_below, runs_at, withdraw_above};
+ghost use Rattle.mari_reach.specs.Values.{cut_level, HasLevels, inject_below, runs_at, withdraw_above};
 
 use crate::states::State;
 use crate::worth::{amount, gap, potential_at};
-use mari_market::{MOST_ORDERS, MOST_WORTH, Order, Side};
-use mari_units::{Cents, MOST_GATES, MOST_ZONES};
+use mari_market::{CutSide, MOST_WORTH, Order, Side};
+use mari_units::{CAP, Cents, MOST_GATES, MOST_ZONES};
 
 /// For each zone the price below which a plain injection runs in full, and the price above which a withdrawal does, where
 /// they are worth most.
@@ -37,6 +38,18 @@ fn withdraw_above(potential: Cents, low: i64, high: i64) -> i64
     ensures { result ≡ withdraw_above potential.0 low high }
 {
     high.min(potential.0.max(low) - 1)
+}
+
+/// The level of a side at whose better side a plain order puts in the most that a cut counts of it.
+pub(crate) fn cut_level(cut: CutSide, side: Side, low: i64, high: i64) -> i64
+    ensures { result ≡ cut_level cut side low high }
+{
+    match (cut, side) {
+        (CutSide::Out, Side::Inject) => low,
+        (CutSide::Out, Side::Withdraw) => withdraw_above(Cents(-CAP), low, high),
+        (CutSide::In, Side::Inject) => inject_below(Cents(CAP), low, high),
+        (CutSide::In, Side::Withdraw) => high,
+    }
 }
 
 impl Levels {
@@ -77,6 +90,17 @@ impl Levels {
         levels
     }
 
+    /// A side's level in a zone.
+    pub(crate) fn at(&self, side: Side, zone: u32) -> i64
+        requires { zone < MOST_ZONES }
+        ensures { result ≡ level_at self.now side zone }
+    {
+        match side {
+            Side::Inject => self.injects[zone as usize],
+            Side::Withdraw => self.withdraws[zone as usize],
+        }
+    }
+
     /// The quantity at which a plain order is worth most.
     fn quantity(&self, order: &Order) -> u32
         requires { order.now.zone < MOST_ZONES }
@@ -104,22 +128,4 @@ pub(crate) fn plain_value(order: &Order, levels: &Levels, potentials: &[Cents]) 
     let potential = potential_at(potentials, order.zone);
     let mw = levels.quantity(order);
     amount(gap(order, potential), mw)
-}
-
-/// The most that plain orders gain.
-pub(crate) fn plain_total(orders: &[Order], levels: &Levels, potentials: &[Cents]) -> i64
-    requires few { length orders.now ≤ MOST_ORDERS }
-    requires few_zones { length potentials.now ≤ MOST_ZONES }
-    requires orders { All (IsValidOrder (length potentials.now) MOST_GATES) orders.now }
-    requires plain { All (λ (o : _). o.gate ≡ None) orders.now }
-    requires potentials { All IsCapped potentials.now }
-    ensures value { (r : StateRecord) → HasLevels r potentials.now levels.now → result ≡ int_sum (best_order (span_in r) potentials.now) orders.now }
-    ensures low { neg_ℤ (pos (MOST_ORDERS * MOST_WORTH)) ≤ℤ result }
-    ensures high { result ≤ℤ pos (MOST_ORDERS * MOST_WORTH) }
-{
-    let mut total = 0;
-    for order in orders {
-        total += plain_value(order, levels, potentials);
-    }
-    total
 }

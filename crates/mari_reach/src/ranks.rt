@@ -228,7 +228,7 @@ impl Lone {
 
 /// Which gates of a market are twins, and which of two ranks before the other.
 #[derive(Drop)]
-pub struct Twins {
+pub(crate) struct Twins {
     /// The orders of lone gates.
     lone: Lone,
     /// Gates among which are all that have a twin.
@@ -247,7 +247,7 @@ impl Twins {
     }
 
     /// The same without a look at each pair of gates, for a few states: any gate may have a twin.
-    pub(crate) fn at_once(market: &Market) -> Twins
+    pub(crate) fn of_few_states(market: &Market) -> Twins
         requires { IsValid market.now }
         ensures { IsTwinsOf market.now result }
     {

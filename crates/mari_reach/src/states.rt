@@ -1,6 +1,6 @@
 //! States: what decisions of gates and prices leave to other gates, to prices, to orders and to borders.
 
-ghost use Rattle.std.specs.Prelude.{◌≡◌, ◌↔◌, ◌<◌, ◌≤◌, ℕ, ℤ, pos, neg_ℤ, ◌≤ℤ◌, ◌<ℤ◌, IsTrue, List, length};
+ghost use Rattle.std.specs.Prelude.{◌≡◌, ◌↔◌, ◌<◌, ◌≤◌, ℤ, pos, neg_ℤ, ◌≤ℤ◌, ◌<ℤ◌, IsTrue, List, length};
 ghost use Rattle.std.specs.List.{list_any, range_with_len};
 ghost use Rattle.mari_market.specs.declared.market.Market.{Market};
 ghost use Rattle.mari_market.specs.Bounds.GateState.{Free};
@@ -61,7 +61,7 @@ pub fn state_of(market: &Market, decisions: &[Decision]) -> State
     requires decisions { AreDecisions market.now decisions.now }
     ensures { IsStateOf market.now decisions.now result }
 {
-    let twins = Twins::at_once(market);
+    let twins = Twins::of_few_states(market);
     state_by(market, market.orders.as_slice(), &twins, decisions)
 }
 

@@ -1,38 +1,52 @@
 //! What all states of a market have in common.
 
-ghost use Rattle.std.specs.Prelude.{IfOk};
+ghost use Rattle.std.specs.Prelude.{IfOk, IfSome};
 ghost use Rattle.mari_market.specs.Market.{IsValid};
 ghost use Rattle.mari_reach.specs.State.{AreDecisions};
-ghost use Rattle.mari_reach.specs.Tables.{IsStateOf, IsSurveyOf};
+ghost use Rattle.mari_reach.specs.Tables.{AreLaddersOf, IsStateOf, IsSurveyOf};
 
 use crate::decisions::Decision;
-use crate::gated::{gated_orders, plain_among};
+use crate::gated::gated_orders;
 use crate::ranks::Twins;
+use crate::sides::Ladders;
 use crate::states::{State, state_by};
 use mari_market::{Market, Order};
+use mari_proofs::FEW_ITEMS;
 use mari_units::Memory;
 use std::alloc::Global;
 
-/// The orders of a market's gates, the others, and which gates are twins.
+/// The orders of a market's gates, the others by ladders, and which gates are twins.
 #[derive(Drop)]
 pub(crate) struct Survey {
     pub(crate) gated: Vec<Order>,
-    pub(crate) plain: Vec<Order>,
+    /// None where few leaves are tested, which pays for no ladders.
+    pub(crate) ladders: Option<Ladders>,
     pub(crate) twins: Twins,
 }
 
+/// The ladders of a market, unless so few items are tested that they cost more than they save.
+fn ladders_for(alloc: Global, market: &Market, items: usize) -> Result<Option<Ladders>, Memory>
+    requires { IsValid market.now }
+    ensures { IfOk result (λ l. IfSome l (AreLaddersOf market.now)) }
+{
+    if items <= FEW_ITEMS {
+        return Ok(None);
+    }
+    Ok(Some(Ladders::of(alloc, market)?))
+}
+
 impl Survey {
-    /// The survey of a market.
-    pub(crate) fn of(alloc: Global, market: &Market) -> Result<Survey, Memory>
+    /// The survey of a market, for a tree of so many items.
+    pub(crate) fn of(alloc: Global, market: &Market, items: usize) -> Result<Survey, Memory>
         requires { IsValid market.now }
         ensures { IfOk result (IsSurveyOf market.now) }
     {
         let gated = gated_orders(alloc, market)?;
-        let plain = plain_among(alloc, market.orders.as_slice())?;
+        let ladders = ladders_for(alloc, market, items)?;
         let twins = Twins::of(market);
         Ok(Survey {
             gated,
-            plain,
+            ladders,
             twins,
         })
     }

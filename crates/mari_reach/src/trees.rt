@@ -32,7 +32,7 @@ fn walk(
     requires full { word.now.length ≡ length market.now.gates }
     ensures { IfOk result (λ v. IsReachVerdict market.now (ReachLeafHolds market.now cutoff.0 (word_of word.now)) tree.now v) }
 {
-    let survey = Survey::of(alloc, market)?;
+    let survey = Survey::of(alloc, market, tree.len())?;
     let mut walk = Walk::start(alloc);
     let mut false_leaf = None;
     for (place, item) in tree.iter().enumerate() {

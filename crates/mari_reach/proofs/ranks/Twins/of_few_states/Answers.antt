@@ -1,5 +1,5 @@
 use Rattle.mari_reach.proofs.LoneTables.{all_marked}
-use Rattle.mari_reach.proofs.ranks.Twins.at_once.Goals as goal
+use Rattle.mari_reach.proofs.ranks.Twins.of_few_states.Goals as goal
 
 pub returns : goal.returns
 returns c = record {

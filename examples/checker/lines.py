@@ -71,8 +71,9 @@ def is_line(kind, words, form):
         return False
     listed = words[len(fields):]
     test, least, most = LISTS.get(kind, (NAME, 0, 0))
-    rises = kind != "cut" or all(int(one) < int(next_one) for one, next_one in zip(listed, listed[1:]) if test(one) and test(next_one))
-    return least <= len(listed) <= most and all(map(test, listed)) and rises
+    if not (least <= len(listed) <= most and all(map(test, listed))):
+        return False
+    return kind != "cut" or listed == sorted(set(listed), key=int)
 
 
 class Place:

@@ -4,12 +4,13 @@
 usage: examples/checker/check.py FOLDER [TEXT]
 
 TEXT is FOLDER/publication.txt where it isn't given. The answer is that of `mari check`: `valid PUBLISHED UNPUBLISHED` with
-exit code 0, or `invalid RUN FAULT` with 7. It is written from docs/RULES.md, PROBLEM.md, FORMATS.md and REACH.md alone,
-on Python's standard library, and shares no code with the program. It tests what a text says and not its form: folders and
-texts that `mari check` refuses may come to any answer here, or end in a traceback.
+exit code 0, `invalid RUN FAULT` with 7, or `refused publication.txt LINE NUMBER NAME` with 3. It is written from
+docs/RULES.md, PROBLEM.md, FORMATS.md and REACH.md alone, on Python's standard library, and shares no code with the program.
+The market files are taken for granted: those that `mari check` refuses may come to any answer here, or end in a traceback.
 
-A text whose first line begins with `mari 2` has certificates of the second form (docs/REACH.md), and its answer is
-`valid FIRST WITHIN`: how many runs have the first activation, and how many one within a gap of the best.
+A text whose first line begins with `mari 2 ` is one of the second form (docs/REACH.md), and its answer is `valid FIRST
+WITHIN`: how many runs have the first activation, and how many one within a gap of the best. lines.py has the lines of both
+forms, states.py the trees of the second.
 """
 
 import csv
@@ -21,19 +22,8 @@ import time
 from collections import defaultdict
 from pathlib import Path
 
-CAP = 9_999_900  # cents per MWh
-
-
-def cents(text):
-    """A price in euro, as cents."""
-    whole, _, part = text.lstrip("-").partition(".")
-    return (-1 if text.startswith("-") else 1) * (100 * int(whole or 0) + int((part + "00")[:2]))
-
-
-def quarter_cents(text):
-    """Money in euro with four decimals, as quarter-cents."""
-    whole, _, part = text.lstrip("-").partition(".")
-    return (-1 if text.startswith("-") else 1) * (10_000 * int(whole) + int(part)) // 25
+from lines import CAP, cents, quarter_cents, refusal_of
+from states import reach_faults
 
 
 def quarters_of(date, rule):
@@ -128,6 +118,8 @@ class Market:
             parent is None or word[parent] for parent, is_open in zip(self.parent, word) if is_open)
 
     def is_feasible(self, amounts, flows, word):
+        if (len(amounts), len(flows)) != (len(self.orders), len(self.borders)):
+            return False
         within = all(
             order.least <= amount <= order.greatest if order.gate is None or word[order.gate] else amount == 0
             for order, amount in zip(self.orders, amounts))
@@ -230,7 +222,9 @@ class Market:
 
     def is_conflict(self, word, chain, prices, flows, amounts):
         """Whether the activation is the best of the gate word, and a chain of zones shows that it has no prices."""
-        if "" in chain or self.word_of(amounts) != word or not self.is_feasible(amounts, flows, word):
+        if "" in chain or len(prices) != len(self.zones) or self.word_of(amounts) != word:
+            return False
+        if not self.is_feasible(amounts, flows, word):
             return False
         if self.welfare(amounts) != self.dual_value(prices, word):
             return False
@@ -267,144 +261,6 @@ class Market:
                 waiting.append(child)
             waiting.append(prefix + [False])
         return {9} if waiting or len(items) > budget else faults
-
-    def better_twins(self, gate):
-        """The twins of a gate that rank before it: a better price or, of the same price, a later place in the file."""
-        if self.twins is None:
-            orders = defaultdict(list)
-            for order in self.orders:
-                orders[order.gate].append(order)
-            is_bound = [group is not None or parent is not None for group, parent in zip(self.group, self.parent)]
-            alone = [it for it, bound in enumerate(is_bound) if not bound and it not in self.parent and len(orders[it]) == 1]
-            ranked = [((order.side * order.price, -it), it, order) for it in alone for order in orders[it]]
-            self.twins = {it: {other for key, other, twin in ranked if key < rank and order.may_exchange(twin)} for rank, it, order in ranked}
-        return self.twins.get(gate, set())
-
-    def reach_faults(self, items, word, cutoff, budget):
-        """The same of the second form."""
-        waiting, faults = [[]], set()
-        for kind, *fields in items:
-            if not waiting:
-                return {9}
-            decisions = waiting.pop()
-            state = State(self, decisions)
-            if kind not in ("branch", "price"):
-                if not state.leaf_holds(kind, fields, word, cutoff):
-                    faults.add(10)
-                continue
-            decided = state.gate_of(*fields) if kind == "branch" else state.price_of(*fields)
-            if state.is_void or decided is None:
-                return {9}
-            waiting += [[*decisions, (*decided, True)], [*decisions, (*decided, False)]]
-        return {9} if waiting or len(items) > budget else faults
-
-
-class State:
-    """What decisions leave to the gates, the prices, the orders and the borders of a market, in the second form.
-
-    A decision is `("gate", gate, whether it is open)` or `("price", zone, price, whether the zone's price is above it)`.
-    """
-
-    def __init__(self, market, decisions):
-        self.market = market
-        self.open = {gate for kind, gate, *_, is_open in decisions if kind == "gate" and is_open}
-        self.open |= {twin for gate in self.open for twin in market.better_twins(gate)}
-        for _ in market.parent:
-            self.open |= {market.parent[gate] for gate in self.open} - {None}
-        self.low, self.high = self.box(decisions)
-        self.closed = {gate for kind, gate, *_, is_open in decisions if kind == "gate" and not is_open}
-        self.closed |= {gate for gate in range(len(market.group)) if self.has_open_rival(gate)}
-        self.closed |= {order.gate for order in market.orders if self.always_loses(order)} - {None}
-        self.closed |= {gate for gate in range(len(market.group)) if market.better_twins(gate) & self.closed}
-        for _ in market.parent:
-            self.closed |= {gate for gate, parent in enumerate(market.parent) if parent in self.closed}
-        self.is_void = bool(self.open & self.closed) or any(self.low[zone] > self.high[zone] for zone in market.zones)
-
-    def box(self, decisions):
-        """The least and the greatest price of each zone."""
-        low, high = dict.fromkeys(self.market.zones, -CAP), dict.fromkeys(self.market.zones, CAP)
-        for kind, zone, *rest in decisions:
-            if kind == "price":
-                price, is_above = rest
-                if is_above:
-                    low[zone] = max(low[zone], price + 1)
-                else:
-                    high[zone] = min(high[zone], price)
-        for order in self.market.orders:
-            if order.gate in self.open:
-                if order.side > 0:
-                    low[order.zone] = max(low[order.zone], order.price)
-                else:
-                    high[order.zone] = min(high[order.zone], order.price)
-        return low, high
-
-    def has_open_rival(self, gate):
-        group = self.market.group
-        return group[gate] is not None and any(group[other] == group[gate] for other in self.open - {gate})
-
-    def always_gains(self, order):
-        return order.price < self.low[order.zone] if order.side > 0 else order.price > self.high[order.zone]
-
-    def always_loses(self, order):
-        return order.price > self.high[order.zone] if order.side > 0 else order.price < self.low[order.zone]
-
-    def span(self, order):
-        """The bounds of an order."""
-        if order.gate in self.closed or (order.gate is None and self.always_loses(order)):
-            return 0, 0
-        if order.gate is not None and order.gate not in self.open:
-            return 0, order.greatest
-        return order.greatest if self.always_gains(order) else order.least, order.greatest
-
-    def flows(self):
-        """Each border with the bounds of its flow."""
-        for start, end, limit, back in self.market.borders:
-            if self.low[end] > self.high[start]:
-                yield start, end, limit, limit
-            elif self.low[start] > self.high[end]:
-                yield start, end, -back, -back
-            else:
-                yield start, end, -back, limit
-
-    def gate_of(self, bid):
-        """The decision at the gate of a bid, or None where it isn't free."""
-        gates = [order.gate for order, offered in zip(self.market.orders, self.market.offered) if offered["id"] == bid]
-        gate = gates[0] if gates else None
-        return None if gate is None or gate in self.open | self.closed else ("gate", gate)
-
-    def price_of(self, zone, price):
-        """The decision at a price of a zone, or None where it isn't within the box."""
-        is_there = zone in self.low and self.low[zone] <= price < self.high[zone]
-        return ("price", zone, price) if is_there else None
-
-    def leaf_holds(self, kind, fields, word, cutoff):
-        if self.is_void or kind == "none":
-            return self.is_void and kind == "none"
-        if kind == "cut":
-            return "" not in fields[1] and self.is_cut(*fields)
-        return len(fields[0]) == len(self.market.zones) and self.is_bound(fields[0], word, cutoff)
-
-    def is_bound(self, prices, word, cutoff):
-        """Whether the dual value is below the cutoff, or is the cutoff, and no earlier word may have it."""
-        value, gains = 0, defaultdict(int)
-        for order in self.market.orders:
-            term = max(order.side * (prices[order.zone] - order.price) * amount for amount in self.span(order))
-            value, gains[order.gate] = value + term, gains[order.gate] + term
-        value += sum(max((prices[end] - prices[start]) * flow for flow in span) for start, end, *span in self.flows())
-        needed = [gate in self.open or gains[gate] > 0 for gate in range(len(self.market.group))]
-        return value < cutoff or (value == cutoff and needed >= word)
-
-    def is_cut(self, side, zones):
-        least = most = out = into = 0
-        for order in self.market.orders:
-            if order.zone in zones:
-                put = sorted(order.side * amount for amount in self.span(order))
-                least, most = least + put[0], most + put[1]
-        for start, end, low, high in self.flows():
-            if (start in zones) != (end in zones):
-                out += high if start in zones else -low
-                into += -low if start in zones else high
-        return least > out if side == "out" else most < -into
 
 
 def is_offered(folder, bid, run, earlier):
@@ -485,19 +341,22 @@ class Block:
 
 
 def item_of(block, lines):
-    """An item of a certificate tree: zones by name, an empty one where there is no such zone, and prices by zone."""
+    """An item of a tree: zones by name, an empty one where there is none, and prices by zone, none where they don't go on them."""
     kind, *fields = next(lines)
     names = [line[0] for line in block.zones]
 
     def named(numbers):
         return [names[int(number) - 1] if int(number) <= len(names) else "" for number in numbers]
 
+    def by_zone(prices):
+        return dict(zip(names, map(cents, prices))) if len(prices) == len(names) else {}
+
     if kind == "bound":
-        return kind, dict(zip(names, map(cents, fields)))
+        return kind, by_zone(fields)
     if kind == "cut":
         return kind, fields[0], named(fields[1:])
     if kind == "conflict":
-        prices = dict(zip(names, map(cents, next(lines)[1:])))
+        prices = by_zone(next(lines)[1:])
         return kind, named(fields), prices, [int(flow) for flow in next(lines)[1:]], [int(mw) for mw in next(lines)[1:]]
     if kind == "price":
         return kind, fields[0], cents(fields[1])
@@ -554,9 +413,9 @@ def faults_of(folder, run, market, block, earlier, budget, form):
     if form == "1":
         yield from sorted(market.tree_faults(block.items, word, block.welfare, budget))
     elif block.gap is None:
-        yield from sorted(market.reach_faults(block.items, word, block.welfare, budget))
+        yield from sorted(reach_faults(market, block.items, word, block.welfare, budget))
     else:
-        yield from sorted(market.reach_faults(block.items, [False] * len(word), block.welfare + block.gap, budget))
+        yield from sorted(reach_faults(market, block.items, [False] * len(word), block.welfare + block.gap, budget))
     rents, operators, providers = ledger(folder, market, block, earlier.scheduled.get(run["quarter"]) if run["kind"] == "direct" else None)
     if rents != [line[3] for line in block.borders] or operators != block.operators or providers != block.providers:
         yield 11
@@ -571,6 +430,9 @@ def has_totals(folder, earlier, lines):
 
 def check(folder, text):
     """The answer, as `mari check` prints it."""
+    refusal = refusal_of(text)
+    if refusal is not None:
+        return f"refused publication.txt {refusal}"
     lines = iter([line.split(" ") for line in text.splitlines()])
     head, earlier, first, other = next(lines), Earlier(), 0, 0
     if head[2:4] != [folder.date, str(folder.quarters)]:
@@ -598,9 +460,9 @@ def check(folder, text):
 def main(words):
     folder = Path(words[0])
     text = Path(words[1]) if len(words) > 1 else folder / "publication.txt"
-    answer = check(Folder(folder), text.read_text(encoding="ascii"))
+    answer = check(Folder(folder), text.read_bytes().decode("latin-1"))
     print(answer)
-    return 0 if answer.startswith("valid") else 7
+    return {"valid": 0, "refused": 3, "invalid": 7}[answer.split()[0]]
 
 
 if __name__ == "__main__":

@@ -10,7 +10,7 @@ use mari_reach::Choice;
 use std::alloc::{AllocError, Global};
 
 /// The most candidates of which children are solved.
-const MOST_TRIED: usize = 8;
+const MOST_TRIED: usize = 6;
 
 /// What is left below a child.
 #[derive(Clone, Copy, Debug, Drop, PartialEq, Eq)]
@@ -50,24 +50,6 @@ impl Search {
             Solved::Optimum(optimum) => Ok(Left::AtMost(optimum.value)),
             Solved::Cut(_) => Ok(Left::Nothing),
             Solved::Stuck => Ok(Left::Unknown),
-        }
-    }
-
-    /// Whether all that is left below a child is worse than the best.
-    pub(crate) fn is_worse(
-        &self,
-        alloc: Global,
-        market: &Market,
-        visit: &Visit,
-        choice: Choice,
-        child: Child,
-    ) -> Result<bool, AllocError>
-        requires { IsValid market.now }
-    {
-        match self.left_below(alloc, market, visit, choice, child)? {
-            Left::Nothing => Ok(true),
-            Left::AtMost(value) => Ok(value < self.best),
-            Left::Unknown => Ok(false),
         }
     }
 

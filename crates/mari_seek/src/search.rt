@@ -24,6 +24,9 @@ const TURNS_ROUNDED: u32 = 100;
 /// Of so many later turns one is rounded.
 const ROUNDED_EACH: u32 = 8;
 
+/// Of so many turns one dives.
+const DIVES_EACH: u32 = 64;
+
 /// The search of one market.
 #[derive(Drop)]
 pub(crate) struct Search {
@@ -150,18 +153,25 @@ impl Search {
         Ok(!is_before(&needed, &self.word))
     }
 
-    /// Offers an optimum, where it is whole and has consistent prices.
-    fn judge(&mut self, alloc: Global, market: &Market, optimum: &Optimum) -> Result<(), AllocError>
+    /// Offers an optimum, where it is whole and has consistent prices. It says whether it is and has.
+    pub(crate) fn judge(
+        &mut self,
+        alloc: Global,
+        market: &Market,
+        optimum: &Optimum,
+    ) -> Result<bool, AllocError>
         requires { IsValid market.now }
     {
         let activation = activation_of(alloc, optimum)?;
-        if is_feasible(market, &activation) {
-            if contradiction(alloc, market, &activation)?.is_none() {
-                let running = self.running(market, optimum);
-                self.offer(optimum.value, running);
-            }
+        if !is_feasible(market, &activation) {
+            return Ok(false);
         }
-        Ok(())
+        if contradiction(alloc, market, &activation)?.is_some() {
+            return Ok(false);
+        }
+        let running = self.running(market, optimum);
+        self.offer(optimum.value, running);
+        Ok(true)
     }
 
     /// A node of a state, examined from an optimum within looser bounds. Where the solver gives up it has that optimum.
@@ -327,9 +337,12 @@ impl Search {
         };
         if turn < TURNS_ROUNDED || turn % ROUNDED_EACH == 0 {
             self.round(alloc, market, &visit)?;
-            if self.close(alloc, market, number)? {
-                return Ok(true);
-            }
+        }
+        if turn % DIVES_EACH == 0 {
+            self.dive(alloc, market, &visit)?;
+        }
+        if self.close(alloc, market, number)? {
+            return Ok(true);
         }
         let Some(choice) = self.choose(alloc, market, &visit)? else {
             return Ok(false);

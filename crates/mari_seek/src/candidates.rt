@@ -117,19 +117,24 @@ impl Found {
     /// Adds a neighbour's price where a zone's potential is outside of what its price may be, over a border that isn't full
     /// from the first zone to the second. If the border isn't full the second zone isn't dearer than the first; so where
     /// the first may not be as dear as its potential either the second may not either, or the border is full; and
-    /// where the second may not be as cheap, the first may not.
-    fn add_beyond(&mut self, visit: &Visit, zones: (u32, u32)) -> Result<(), AllocError> {
+    /// where the second may not be as cheap, the first may not. The most room for a flow comes first, since the border
+    /// is least likely to be full then.
+    fn add_beyond(
+        &mut self,
+        visit: &Visit,
+        zones: (u32, u32),
+        room: i64,
+    ) -> Result<(), AllocError> {
         let (from, to) = zones;
         let potentials = &visit.optimum.potentials;
         let most = visit.view.high(from);
-        let above = at(potentials, from as usize).saturating_sub(most);
-        if above > 0 && visit.view.is_between(to, most) {
-            self.add_price(0i64.saturating_sub(above), to, most)?;
+        if at(potentials, from as usize) > most && visit.view.is_between(to, most) {
+            self.add_price(0i64.saturating_sub(room), to, most)?;
         }
         let least = visit.view.low(to);
-        let below = least.saturating_sub(at(potentials, to as usize));
-        if below > 0 && visit.view.is_between(from, least.saturating_sub(1)) {
-            self.add_price(0i64.saturating_sub(below), from, least.saturating_sub(1))?;
+        let below = least.saturating_sub(1);
+        if at(potentials, to as usize) < least && visit.view.is_between(from, below) {
+            self.add_price(0i64.saturating_sub(room), from, below)?;
         }
         Ok(())
     }
@@ -139,11 +144,13 @@ impl Found {
         let mut place = 0usize;
         for border in market.borders.as_slice() {
             let flow = at(&visit.optimum.flows, place);
-            if flow < i64::from(border.limit) {
-                self.add_beyond(visit, (border.from, border.to))?;
+            let there = i64::from(border.limit).saturating_sub(flow);
+            if there > 0 {
+                self.add_beyond(visit, (border.from, border.to), there)?;
             }
-            if flow > -i64::from(border.back) {
-                self.add_beyond(visit, (border.to, border.from))?;
+            let back = i64::from(border.back).saturating_add(flow);
+            if back > 0 {
+                self.add_beyond(visit, (border.to, border.from), back)?;
             }
             place = place.saturating_add(1);
         }
@@ -175,24 +182,15 @@ impl Found {
     }
 }
 
-/// Whether another gate of its group runs.
-fn has_running_rival(market: &Market, runs: &Prefix, gate: u32) -> bool {
-    let gates = market.gates.as_slice();
-    let group = match gates.get(gate as usize) {
-        Some(info) => info.group,
-        None => None,
-    };
-    if group.is_none() {
-        return false;
-    }
-    let mut other = 0u32;
-    for info in gates {
-        if other != gate && info.group == group && has(runs, other) {
-            return true;
+/// How many of some gates run.
+fn count_running(runs: &Prefix, members: &[u32]) -> usize {
+    let mut count = 0usize;
+    for gate in members {
+        if has(runs, *gate) {
+            count = count.saturating_add(1);
         }
-        other = other.saturating_add(1);
     }
-    false
+    count
 }
 
 /// Whether a gate has a parent that doesn't run.
@@ -267,6 +265,27 @@ impl Search {
         Ok(())
     }
 
+    /// Adds the free gates that run beside others of their groups, the one first that gains most.
+    fn add_rivals(
+        &self,
+        market: &Market,
+        visit: &Visit,
+        found: &mut Found,
+    ) -> Result<(), AllocError> {
+        for members in self.places.groups() {
+            if count_running(&visit.runs, members.as_slice()) < 2 {
+                continue;
+            }
+            for gate in members {
+                if has(&visit.runs, *gate) && visit.view.is_free(*gate) {
+                    let gain = self.gain_at(market, visit, *gate);
+                    found.add_gate(0i64.saturating_sub(gain), *gate)?;
+                }
+            }
+        }
+        Ok(())
+    }
+
     /// Adds the free gates that run though their parents don't, or beside others of their groups.
     fn add_unruly(
         &self,
@@ -274,14 +293,10 @@ impl Search {
         visit: &Visit,
         found: &mut Found,
     ) -> Result<(), AllocError> {
+        self.add_rivals(market, visit, found)?;
         for gate in 0..visit.runs.length {
-            if !has(&visit.runs, gate) || !visit.view.is_free(gate) {
-                continue;
-            }
-            if has_running_rival(market, &visit.runs, gate) {
-                let gain = self.gain_at(market, visit, gate);
-                found.add_gate(0i64.saturating_sub(gain), gate)?;
-            } else if lacks_parent(market, &visit.runs, gate) {
+            let is_asked = has(&visit.runs, gate) && visit.view.is_free(gate);
+            if is_asked && lacks_parent(market, &visit.runs, gate) {
                 found.add_gate(0, gate)?;
             }
         }

@@ -10,7 +10,7 @@ use mari_reach::Choice;
 use std::alloc::{AllocError, Global};
 
 /// The most candidates of which children are solved.
-const MOST_TRIED: usize = 6;
+const MOST_TRIED: usize = 4;
 
 /// What is left below a child.
 #[derive(Clone, Copy, Debug, Drop, PartialEq, Eq)]
@@ -88,6 +88,11 @@ impl Search {
         let mut best = None;
         let mut most = -1i128;
         let mut tried = 0usize;
+        let farthest = visit
+            .optimum
+            .value
+            .saturating_sub(self.best)
+            .saturating_add(1);
         for candidate in &candidates {
             if tried >= MOST_TRIED {
                 break;
@@ -97,6 +102,10 @@ impl Search {
                 return Ok(Some(choice));
             }
             let first = self.fall(alloc, market, visit, choice, Child::First)?;
+            if score_of(first, farthest) <= most {
+                tried = tried.saturating_add(1);
+                continue;
+            }
             let second = self.fall(alloc, market, visit, choice, Child::Second)?;
             let score = score_of(first, second);
             if score > most {

@@ -89,9 +89,11 @@ impl Search {
     ) -> Result<Option<Visit>, AllocError>
         requires { IsValid market.now }
     {
-        let Some(choice) = self.choose(alloc, market, visit)? else {
+        let candidates = self.candidates(alloc, market, visit)?;
+        let Some(candidate) = candidates.get(0) else {
             return Ok(None);
         };
+        let choice = candidate.choice();
         let first = self.step(alloc, market, visit, choice, Child::First)?;
         let second = self.step(alloc, market, visit, choice, Child::Second)?;
         Ok(match greater(first, second) {

@@ -1,11 +1,12 @@
 #!/usr/bin/python3
 """The runs of a folder as mixed-integer programs, solved by a solver of the field.
 
-usage: /usr/bin/python3 bench/milp.py SOLVER FOLDER [--seconds N]
+usage: /usr/bin/python3 bench/milp.py SOLVER FOLDER [--seconds N] [--times]
 
 SOLVER is highs (by scipy), cuts (HiGHS too, see below), cbc, glpk or lp_solve. It prints for each run `run R welfare W`
 in quarter-cents, or `run R unknown` where the solver didn't end in time, and last `seconds S`: the processor time of
-the solvers alone, without reading and without the making of the models. The welfare is summed in whole numbers over the
+the solvers alone, without reading and without the making of the models; with --times each run's line ends with its own
+seconds. The welfare is summed in whole numbers over the
 quantities that the solver gives.
 
 With its gates decided a run is a flow problem, so quantities and flows are whole at the vertices and only gates need
@@ -349,12 +350,14 @@ def main():
     parser.add_argument("solver", choices=SOLVERS)
     parser.add_argument("folder")
     parser.add_argument("--seconds", type=int, default=60)
+    parser.add_argument("--times", action="store_true")
     words = parser.parse_args()
     spent = 0.0
     for market in markets_of(words.folder):
         found, took = SOLVERS[words.solver](market, words.seconds)
         spent += took
-        print(f"run {market.run} " + ("unknown" if found is None else f"welfare {found}"), flush=True)
+        time_of_run = f" seconds {took:.6f}" if words.times else ""
+        print(f"run {market.run} " + ("unknown" if found is None else f"welfare {found}") + time_of_run, flush=True)
     print(f"seconds {spent:.6f}")
 
 

@@ -2,12 +2,15 @@
 """Days of the shape of the European platform: how many of their runs `mari clear`, `mari split` and `reach clear` settle.
 
 usage: python3 bench/real.py [MARI] [--reach PROGRAM] [--seeds N] [--quarters N] [--nodes N] [--shares A,B,..]
+                             [--solvers A,B,..] [--seconds N]
        python3 bench/real.py --folder FOLDER [--seed N] [--share PERCENT] [--quarters N]
 
 The first form makes a day for each seed from 1 on and each share of indivisible bids, clears it by both programs within N
 nodes a run, and prints a table in Markdown: runs published by `clear` and by `split`; runs of which `reach` shows the first
-activation, and the gaps of the others, as a part of their welfare; times of `clear` and of `reach` by the clock. The second
-form makes one folder.
+activation, and the gaps of the others, as a part of their welfare; times of `clear` and of `reach` by the clock. With
+--solvers, as highs, cuts and cbc, it has for each solver the runs that it ends within the seconds, 15 without the option, and
+the processor seconds of these (bench/milp.py); a welfare that differs from that of a run which `reach` shows to be the first
+stops it. The second form makes one folder.
 
 Zones and borders are the public ones of the bidding zone map. Bids, demands and limits are drawn: 20 to 150 bids a zone and
 quarter hour of 1 to 100 MW, prices about a level for each zone with a long tail, blocks, groups, parents with children;
@@ -26,6 +29,7 @@ import tempfile
 import time
 
 TOP = pathlib.Path(__file__).resolve().parent.parent
+PYTHON = "/usr/bin/python3"  # which has Debian's scipy
 ZONES = """DE FR NL BE AT CZ PL SK HU SI HR RO ES PT IT1 DK1 DK2 SE4 SE3 SE2 SE1 NO2 NO1 NO5 NO3 NO4 FI EE LV LT BG GR IT2 IT3
 IT4 IT5 IT6 IT7 CH IE""".split()
 BORDERS = """PT-ES ES-FR FR-BE FR-DE FR-IT1 FR-CH FR-IE BE-NL BE-DE NL-DE NL-NO2 NL-DK1 DE-DK1 DE-DK2 DE-SE4 DE-NO2 DE-PL DE-CZ
@@ -174,9 +178,26 @@ def gaps(text):
     return [(int(whole) * 10_000 + int(part)) / 25 / max(1, int(welfare)) for whole, part, welfare in found]
 
 
+def firsts(text):
+    """The welfare of each run of which the first activation is shown."""
+    return dict(re.findall(r"^run (\d+) .* first\nwelfare (\d+)$", text, re.M))
+
+
+def solved(solver, folder, seconds, known):
+    """How many runs of a folder a solver ends, and in how many processor seconds."""
+    words = [PYTHON, TOP / "bench/milp.py", solver, folder, "--seconds", str(seconds), "--times"]
+    text = subprocess.run(words, stdout=subprocess.PIPE, check=True).stdout.decode()
+    found = re.findall(r"^run (\d+) welfare (\d+) seconds ([\d.]+)$", text, re.M)
+    for run, welfare, _ in found:
+        if known.get(run, welfare) != welfare:
+            raise SystemExit(f"real: {solver} has {welfare} of run {run}, and the first activation {known[run]}")
+    return len(found), sum(float(took) for _, _, took in found)
+
+
 def measure(share, asked):
     """A row of the table."""
     runs, published, split, first, far, items, times = 0, 0, 0, 0, [], 0, [0.0, 0.0]
+    ended = {solver: [0, 0.0] for solver in asked.solvers}
     with tempfile.TemporaryDirectory() as room:
         for seed in range(1, asked.seeds + 1):
             folder = f"{room}/{seed}"
@@ -190,9 +211,13 @@ def measure(share, asked):
             first += len(re.findall(r"^run .* first$", other, re.M))
             items += sum(map(int, re.findall(r"^tree (\d+)$", other, re.M)))
             far += gaps(other)
+            for solver, sums in ended.items():
+                count, seconds = solved(solver, folder, asked.seconds, firsts(other))
+                sums[0], sums[1] = sums[0] + count, sums[1] + seconds
     gap = f"{statistics.median(far):.5%}, {max(far):.5%}" if far else ""
     shares = f"{published / runs:.0%} | {split / runs:.0%} | {times[0]:.1f} | {first / runs:.0%}"
-    return f"| {share} % | {runs} | {shares} | {gap} | {items / runs:.0f} | {times[1]:.1f} |"
+    others = "".join(f" {count / runs:.0%} | {seconds:.1f} |" for count, seconds in ended.values())
+    return f"| {share} % | {runs} | {shares} | {gap} | {items / runs:.0f} | {times[1]:.1f} |{others}"
 
 
 def main():
@@ -203,6 +228,8 @@ def main():
     words.add_argument("--shares", default="5,15,30,60")
     words.add_argument("mari", nargs="?", default=str(TOP / "release/mari"))
     words.add_argument("--reach", default=str(TOP / "release/mari_reach"))
+    words.add_argument("--solvers", type=lambda text: text.split(","), default=[])
+    words.add_argument("--seconds", type=int, default=15)
     words.add_argument("--folder")
     words.add_argument("--seed", type=int, default=1)
     words.add_argument("--share", type=int, default=30)
@@ -210,8 +237,9 @@ def main():
     if asked.folder:
         write(asked.folder, pages(asked.seed, asked.share, asked.quarters))
         return
-    print("| indivisible | runs | `clear` publishes | `split` | `clear`, s | `reach` first | gap: median, greatest | items a run | `reach`, s |")
-    print("|---|---|---|---|---|---|---|---|---|")
+    others = "".join(f" {solver} ends | {solver}, s |" for solver in asked.solvers)
+    print("| indivisible | runs | `clear` publishes | `split` | `clear`, s | `reach` first | gap: median, greatest | items a run | `reach`, s |" + others)
+    print("|---" * (9 + 2 * len(asked.solvers)) + "|")
     for share in map(int, asked.shares.split(",")):
         print(measure(share, asked), flush=True)
 

@@ -6,12 +6,11 @@ use crate::gains::{gain, loss};
 use crate::lists::at;
 use crate::pricing::middle_of;
 use crate::search::{Search, Visit, activation_of};
-use crate::view::Child;
 use crate::words::{closed, has, put};
 use mari_market::{Market, Prefix};
 use mari_prices::contradiction;
 use mari_reach::Choice;
-use mari_units::Cents;
+use mari_units::{Cents, MOST_ZONES};
 use mari_welfare::is_feasible;
 use std::alloc::{AllocError, Global};
 
@@ -37,6 +36,21 @@ impl Candidate {
         match self.split {
             Split::Gate(gate) => Choice::OfGate(gate),
             Split::Price(zone, price) => Choice::OfPrice(zone, Cents(price)),
+        }
+    }
+
+    /// Whether it is a gate, or the first price of its zone.
+    fn is_new(&self, zones: &mut [bool; MOST_ZONES]) -> bool {
+        match self.split {
+            Split::Gate(_) => true,
+            Split::Price(zone, _) => {
+                let place = zone as usize;
+                let is_new = place < MOST_ZONES && !zones[place];
+                if is_new {
+                    zones[place] = true;
+                }
+                is_new
+            }
         }
     }
 }
@@ -100,6 +114,63 @@ impl Found {
         Ok(())
     }
 
+    /// Adds a neighbour's price where a zone's potential is outside of what its price may be, over a border that isn't full
+    /// from the first zone to the second. If the border isn't full the second zone isn't dearer than the first; so where
+    /// the first may not be as dear as its potential either the second may not either, or the border is full; and
+    /// where the second may not be as cheap, the first may not. The most room for a flow comes first, since the border
+    /// is least likely to be full then.
+    fn add_beyond(
+        &mut self,
+        visit: &Visit,
+        zones: (u32, u32),
+        room: i64,
+    ) -> Result<(), AllocError> {
+        let (from, to) = zones;
+        let potentials = &visit.optimum.potentials;
+        let most = visit.view.high(from);
+        if at(potentials, from as usize) > most && visit.view.is_between(to, most) {
+            self.add_price(0i64.saturating_sub(room), to, most)?;
+        }
+        let least = visit.view.low(to);
+        let below = least.saturating_sub(1);
+        if at(potentials, to as usize) < least && visit.view.is_between(from, below) {
+            self.add_price(0i64.saturating_sub(room), from, below)?;
+        }
+        Ok(())
+    }
+
+    /// Adds prices of neighbours of the zones whose potentials are outside of what their prices may be.
+    fn add_outside(&mut self, market: &Market, visit: &Visit) -> Result<(), AllocError> {
+        let mut place = 0usize;
+        for border in market.borders.as_slice() {
+            let flow = at(&visit.optimum.flows, place);
+            let there = i64::from(border.limit).saturating_sub(flow);
+            if there > 0 {
+                self.add_beyond(visit, (border.from, border.to), there)?;
+            }
+            let back = i64::from(border.back).saturating_add(flow);
+            if back > 0 {
+                self.add_beyond(visit, (border.to, border.from), back)?;
+            }
+            place = place.saturating_add(1);
+        }
+        Ok(())
+    }
+
+    /// The candidates, the best first, of each zone one price.
+    fn sorted(self, alloc: Global) -> Result<Vec<Candidate>, AllocError> {
+        let Found { mut list, .. } = self;
+        list.sort()?;
+        let mut zones = [false; MOST_ZONES];
+        let mut kept = Vec::new(alloc);
+        for candidate in &list {
+            if candidate.is_new(&mut zones) {
+                kept.push(*candidate)?;
+            }
+        }
+        Ok(kept)
+    }
+
     /// Adds the first free gate.
     fn add_first_free(&mut self, visit: &Visit) -> Result<(), AllocError> {
         for gate in 0..visit.runs.length {
@@ -111,24 +182,15 @@ impl Found {
     }
 }
 
-/// Whether another gate of its group runs.
-fn has_running_rival(market: &Market, runs: &Prefix, gate: u32) -> bool {
-    let gates = market.gates.as_slice();
-    let group = match gates.get(gate as usize) {
-        Some(info) => info.group,
-        None => None,
-    };
-    if group.is_none() {
-        return false;
-    }
-    let mut other = 0u32;
-    for info in gates {
-        if other != gate && info.group == group && has(runs, other) {
-            return true;
+/// How many of some gates run.
+fn count_running(runs: &Prefix, members: &[u32]) -> usize {
+    let mut count = 0usize;
+    for gate in members {
+        if has(runs, *gate) {
+            count = count.saturating_add(1);
         }
-        other = other.saturating_add(1);
     }
-    false
+    count
 }
 
 /// Whether a gate has a parent that doesn't run.
@@ -203,6 +265,27 @@ impl Search {
         Ok(())
     }
 
+    /// Adds the free gates that run beside others of their groups, the one first that gains most.
+    fn add_rivals(
+        &self,
+        market: &Market,
+        visit: &Visit,
+        found: &mut Found,
+    ) -> Result<(), AllocError> {
+        for members in self.places.groups() {
+            if count_running(&visit.runs, members.as_slice()) < 2 {
+                continue;
+            }
+            for gate in members {
+                if has(&visit.runs, *gate) && visit.view.is_free(*gate) {
+                    let gain = self.gain_at(market, visit, *gate);
+                    found.add_gate(0i64.saturating_sub(gain), *gate)?;
+                }
+            }
+        }
+        Ok(())
+    }
+
     /// Adds the free gates that run though their parents don't, or beside others of their groups.
     fn add_unruly(
         &self,
@@ -210,14 +293,10 @@ impl Search {
         visit: &Visit,
         found: &mut Found,
     ) -> Result<(), AllocError> {
+        self.add_rivals(market, visit, found)?;
         for gate in 0..visit.runs.length {
-            if !has(&visit.runs, gate) || !visit.view.is_free(gate) {
-                continue;
-            }
-            if has_running_rival(market, &visit.runs, gate) {
-                let gain = self.gain_at(market, visit, gate);
-                found.add_gate(0i64.saturating_sub(gain), gate)?;
-            } else if lacks_parent(market, &visit.runs, gate) {
+            let is_asked = has(&visit.runs, gate) && visit.view.is_free(gate);
+            if is_asked && lacks_parent(market, &visit.runs, gate) {
                 found.add_gate(0, gate)?;
             }
         }
@@ -239,67 +318,8 @@ impl Search {
         Ok(())
     }
 
-    /// Adds a price that follows from what a neighbour's price may be, if one does, over a border that isn't full from
-    /// the first zone to the second: the second isn't dearer than the first. It says whether one does.
-    fn add_sure_between(
-        &self,
-        alloc: Global,
-        market: &Market,
-        visit: &Visit,
-        zones: (u32, u32),
-        found: &mut Found,
-    ) -> Result<bool, AllocError>
-        requires { IsValid market.now }
-    {
-        let (from, to) = zones;
-        let sides = [
-            (to, visit.view.high(from), Child::Second),
-            (from, visit.view.low(to).saturating_sub(1), Child::First),
-        ];
-        for (zone, price, child) in sides {
-            if visit.view.is_between(zone, price) {
-                let choice = Choice::OfPrice(zone, Cents(price));
-                if self.is_worse(alloc, market, visit, choice, child)? {
-                    found.add_price(0, zone, price)?;
-                    return Ok(true);
-                }
-            }
-        }
-        Ok(false)
-    }
-
-    /// Adds a price that follows from what a neighbour's price may be, if one does. It says whether one does.
-    fn add_sure(
-        &self,
-        alloc: Global,
-        market: &Market,
-        visit: &Visit,
-        found: &mut Found,
-    ) -> Result<bool, AllocError>
-        requires { IsValid market.now }
-    {
-        let mut place = 0usize;
-        for border in market.borders.as_slice() {
-            let flow = at(&visit.optimum.flows, place);
-            if flow < i64::from(border.limit) {
-                let zones = (border.from, border.to);
-                if self.add_sure_between(alloc, market, visit, zones, found)? {
-                    return Ok(true);
-                }
-            }
-            if flow > -i64::from(border.back) {
-                let zones = (border.to, border.from);
-                if self.add_sure_between(alloc, market, visit, zones, found)? {
-                    return Ok(true);
-                }
-            }
-            place = place.saturating_add(1);
-        }
-        Ok(false)
-    }
-
-    /// Adds what is decided where the optimum is whole: where no prices are consistent with it a price that follows, else
-    /// prices on the chain that shows it, else gates that run.
+    /// Adds what is decided where the optimum is whole: where no prices are consistent with it prices on the chain that shows
+    /// it, else gates that run.
     fn add_whole(
         &self,
         alloc: Global,
@@ -316,9 +336,6 @@ impl Search {
         let Some(chain) = contradiction(alloc, market, &activation)? else {
             return self.add_idle(market, visit, found);
         };
-        if self.add_sure(alloc, market, visit, found)? {
-            return Ok(());
-        }
         found.add_prices(market, visit, chain.as_slice())?;
         if found.list.is_empty() {
             self.add_running(market, visit, found)?;
@@ -343,10 +360,13 @@ impl Search {
             self.add_even(market, visit, &mut found)?;
         }
         if found.list.is_empty() {
-            found.add_partial(market, visit)?;
+            found.add_outside(market, visit)?;
         }
         if found.list.is_empty() {
             self.add_unruly(market, visit, &mut found)?;
+        }
+        if found.list.is_empty() {
+            found.add_partial(market, visit)?;
         }
         if found.list.is_empty() {
             self.add_whole(alloc, market, visit, &mut found)?;
@@ -354,8 +374,6 @@ impl Search {
         if found.list.is_empty() {
             found.add_first_free(visit)?;
         }
-        let Found { mut list, .. } = found;
-        list.sort()?;
-        Ok(list)
+        found.sorted(alloc)
     }
 }

@@ -10,7 +10,7 @@ use mari_reach::Choice;
 use std::alloc::{AllocError, Global};
 
 /// The most candidates of which children are solved.
-const MOST_TRIED: usize = 8;
+const MOST_TRIED: usize = 4;
 
 /// What is left below a child.
 #[derive(Clone, Copy, Debug, Drop, PartialEq, Eq)]
@@ -53,24 +53,6 @@ impl Search {
         }
     }
 
-    /// Whether all that is left below a child is worse than the best.
-    pub(crate) fn is_worse(
-        &self,
-        alloc: Global,
-        market: &Market,
-        visit: &Visit,
-        choice: Choice,
-        child: Child,
-    ) -> Result<bool, AllocError>
-        requires { IsValid market.now }
-    {
-        match self.left_below(alloc, market, visit, choice, child)? {
-            Left::Nothing => Ok(true),
-            Left::AtMost(value) => Ok(value < self.best),
-            Left::Unknown => Ok(false),
-        }
-    }
-
     /// By how much a child's bound is below the node's, in quarter-cents: a little more than down to the best where
     /// nothing better is left.
     fn fall(
@@ -106,6 +88,11 @@ impl Search {
         let mut best = None;
         let mut most = -1i128;
         let mut tried = 0usize;
+        let farthest = visit
+            .optimum
+            .value
+            .saturating_sub(self.best)
+            .saturating_add(1);
         for candidate in &candidates {
             if tried >= MOST_TRIED {
                 break;
@@ -115,6 +102,10 @@ impl Search {
                 return Ok(Some(choice));
             }
             let first = self.fall(alloc, market, visit, choice, Child::First)?;
+            if score_of(first, farthest) <= most {
+                tried = tried.saturating_add(1);
+                continue;
+            }
             let second = self.fall(alloc, market, visit, choice, Child::Second)?;
             let score = score_of(first, second);
             if score > most {

@@ -6,6 +6,7 @@
 mod around;
 mod candidates;
 mod choosing;
+mod diving;
 mod gains;
 mod lists;
 mod nodes;

@@ -1,5 +1,6 @@
 //! Which orders and borders are of each zone, and which orders of each gate.
 
+use crate::lists::number_of;
 use mari_market::{Market, Order, Side};
 use std::alloc::{AllocError, Global};
 
@@ -57,6 +58,7 @@ pub(crate) struct Places {
     ladders: Vec<Vec<Rung>>,
     borders: Vec<Vec<u32>>,
     gates: Vec<Vec<u32>>,
+    groups: Vec<Vec<u32>>,
 }
 
 /// So many lists of nothing.
@@ -147,16 +149,50 @@ fn gates_of(alloc: Global, market: &Market) -> Result<Vec<Vec<u32>>, AllocError>
     Ok(gates)
 }
 
+/// The gate with the least number of a gate's group, if it is in one.
+fn first_of_group(market: &Market, gate: usize) -> Option<u32> {
+    let gates = market.gates.as_slice();
+    let group = match gates.get(gate) {
+        Some(info) => info.group,
+        None => None,
+    };
+    if group.is_none() {
+        return None;
+    }
+    let mut number = 0u32;
+    for info in gates {
+        if info.group == group {
+            return Some(number);
+        }
+        number = number.saturating_add(1);
+    }
+    None
+}
+
+/// The gates of each group, at the place of the group's first gate.
+fn groups_of(alloc: Global, market: &Market) -> Result<Vec<Vec<u32>>, AllocError> {
+    let count = market.gates.as_slice().len();
+    let mut groups = no_numbers(alloc, count)?;
+    for gate in 0..count {
+        if let Some(first) = first_of_group(market, gate) {
+            add_to(&mut groups, first, number_of(gate))?;
+        }
+    }
+    Ok(groups)
+}
+
 impl Places {
     /// The places of a market's orders and borders.
     pub(crate) fn of(alloc: Global, market: &Market) -> Result<Places, AllocError> {
         let ladders = ladders_of(alloc, market)?;
         let borders = borders_of(alloc, market)?;
         let gates = gates_of(alloc, market)?;
+        let groups = groups_of(alloc, market)?;
         Ok(Places {
             ladders,
             borders,
             gates,
+            groups,
         })
     }
 
@@ -174,6 +210,11 @@ impl Places {
             Some(borders) => borders.as_slice(),
             None => &[],
         }
+    }
+
+    /// The gates of each group; there are lists without gates too.
+    pub(crate) fn groups(&self) -> &[Vec<u32>] {
+        self.groups.as_slice()
     }
 
     /// The orders of a gate.

@@ -15,15 +15,6 @@ use mari_units::MOST_GATES;
 use mari_welfare::is_feasible;
 use std::alloc::{AllocError, Global};
 
-/// Whether the gate is another of an open gate's group.
-fn shares_group(market: &Market, gate: u32, other: u32) -> bool {
-    let gates = market.gates.as_slice();
-    match (gates.get(gate as usize), gates.get(other as usize)) {
-        (Some(one), Some(two)) => gate != other && one.group.is_some() && one.group == two.group,
-        _ => false,
-    }
-}
-
 /// The parent of a gate.
 fn parent_of(market: &Market, gate: u32) -> Option<u32> {
     match market.gates.as_slice().get(gate as usize) {
@@ -96,17 +87,31 @@ enum Repair {
 }
 
 impl Search {
+    /// Of a group only the gate that gains most stays open, of equal ones the first.
+    fn keep_one(&self, market: &Market, visit: &Visit, members: &[u32], word: &mut Prefix) {
+        let (spans, potentials) = (&visit.view.spans, &visit.optimum.potentials);
+        let mut kept: Option<(u32, i64)> = None;
+        for gate in members {
+            let gate = *gate;
+            if !has(word, gate) {
+                continue;
+            }
+            let own = gain(market, &self.places, spans, gate, potentials);
+            match kept {
+                Some((_, most)) if own <= most => put(word, gate, false),
+                Some((other, _)) => {
+                    put(word, other, false);
+                    kept = Some((gate, own));
+                }
+                None => kept = Some((gate, own)),
+            }
+        }
+    }
+
     /// Of each group only the gate that gains most stays open.
     fn keep_one_a_group(&self, market: &Market, visit: &Visit, word: &mut Prefix) {
-        let (spans, potentials) = (&visit.view.spans, &visit.optimum.potentials);
-        for gate in 0..word.length {
-            for other in 0..gate {
-                if has(word, other) && has(word, gate) && shares_group(market, gate, other) {
-                    let one = gain(market, &self.places, spans, gate, potentials);
-                    let two = gain(market, &self.places, spans, other, potentials);
-                    put(word, if one > two { other } else { gate }, false);
-                }
-            }
+        for members in self.places.groups() {
+            self.keep_one(market, visit, members.as_slice(), word);
         }
     }
 

@@ -6,7 +6,7 @@ use crate::gains::{needed_word, open_running};
 use crate::lists::number_of;
 use crate::nodes::{Kind, Node, Turn};
 use crate::places::Places;
-use crate::solver::{Optimum, Solved, solve, unbalanced};
+use crate::solver::{Optimum, Solved, solve, solve_root};
 use crate::spans::Spans;
 use crate::view::{Child, View, decided, view_of};
 use crate::words::{closed, is_before};
@@ -19,10 +19,16 @@ use std::alloc::{AllocError, Global};
 use std::collections::BinaryHeap;
 
 /// After so many turns not every relaxed optimum is rounded.
-const TURNS_ROUNDED: u32 = 100;
+const TURNS_ROUNDED: u32 = 20;
 
 /// Of so many later turns one is rounded.
 const ROUNDED_EACH: u32 = 8;
+
+/// Of so many turns one dives, where the bound is far.
+const DIVES_EACH: u32 = 64;
+
+/// A bound is far where it is above the best welfare by more than this part of it.
+const FAR: i64 = 1024;
 
 /// The search of one market.
 #[derive(Drop)]
@@ -93,8 +99,7 @@ impl Search {
         let Some(view) = view_of(alloc, market, &none)? else {
             return Ok(None);
         };
-        let begun = unbalanced(alloc, market)?;
-        let Solved::Optimum(root) = solve(alloc, market, &places, &view.spans, &begun)? else {
+        let Solved::Optimum(root) = solve_root(alloc, market, &places, &view.spans)? else {
             return Ok(None);
         };
         let word = closed(market.gates.as_slice().len() as u32);
@@ -150,18 +155,25 @@ impl Search {
         Ok(!is_before(&needed, &self.word))
     }
 
-    /// Offers an optimum, where it is whole and has consistent prices.
-    fn judge(&mut self, alloc: Global, market: &Market, optimum: &Optimum) -> Result<(), AllocError>
+    /// Offers an optimum, where it is whole and has consistent prices. It says whether it is and has.
+    pub(crate) fn judge(
+        &mut self,
+        alloc: Global,
+        market: &Market,
+        optimum: &Optimum,
+    ) -> Result<bool, AllocError>
         requires { IsValid market.now }
     {
         let activation = activation_of(alloc, optimum)?;
-        if is_feasible(market, &activation) {
-            if contradiction(alloc, market, &activation)?.is_none() {
-                let running = self.running(market, optimum);
-                self.offer(optimum.value, running);
-            }
+        if !is_feasible(market, &activation) {
+            return Ok(false);
         }
-        Ok(())
+        if contradiction(alloc, market, &activation)?.is_some() {
+            return Ok(false);
+        }
+        let running = self.running(market, optimum);
+        self.offer(optimum.value, running);
+        Ok(true)
     }
 
     /// A node of a state, examined from an optimum within looser bounds. Where the solver gives up it has that optimum.
@@ -312,6 +324,11 @@ impl Search {
         self.add(alloc, market, second, &visit.optimum)
     }
 
+    /// Whether a bound is far above the best welfare.
+    fn is_far(&self, bound: i64) -> bool {
+        bound.saturating_sub(self.best) > self.best / FAR
+    }
+
     /// Visits a node. It says whether the search can go on.
     fn visit(
         &mut self,
@@ -327,9 +344,12 @@ impl Search {
         };
         if turn < TURNS_ROUNDED || turn % ROUNDED_EACH == 0 {
             self.round(alloc, market, &visit)?;
-            if self.close(alloc, market, number)? {
-                return Ok(true);
-            }
+        }
+        if turn % DIVES_EACH == 0 && self.is_far(visit.optimum.value) {
+            self.dive(alloc, market, &visit)?;
+        }
+        if self.close(alloc, market, number)? {
+            return Ok(true);
         }
         let Some(choice) = self.choose(alloc, market, &visit)? else {
             return Ok(false);

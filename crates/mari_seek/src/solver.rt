@@ -73,32 +73,71 @@ struct Run {
 }
 
 impl Run {
-    /// What a start runs, moved into the bounds.
+    /// What a start in balance runs, moved into the bounds.
     fn start(
         alloc: Global,
         market: &Market,
         spans: &Spans,
-        mut optimum: Optimum,
+        optimum: Optimum,
     ) -> Result<Run, AllocError> {
+        let over = vec![in alloc; 0i64; market.zones as usize]?;
+        let mut run = Run { optimum, over };
+        run.move_amounts(market, spans);
+        run.move_flows(market, spans);
+        Ok(run)
+    }
+
+    /// What runs at the price 0.
+    fn at_zero(alloc: Global, market: &Market) -> Result<Run, AllocError> {
         let mut over = vec![in alloc; 0i64; market.zones as usize]?;
-        let mut place = 0usize;
+        let mut amounts = Vec::new(alloc);
         for order in market.orders.as_slice() {
-            let (low, high) = (at(&spans.low, place), at(&spans.high, place));
-            let amount = nearest(at(&optimum.amounts, place), low, high);
-            set(&mut optimum.amounts, place, amount);
+            let amount = put_at_zero(order);
+            amounts.push(amount)?;
             add(&mut over, order.zone as usize, amount);
-            place = place.saturating_add(1);
         }
-        place = 0;
-        for border in market.borders.as_slice() {
-            let (back, limit) = (at(&spans.back, place), at(&spans.limit, place));
-            let flow = nearest(at(&optimum.flows, place), back, limit);
-            set(&mut optimum.flows, place, flow);
-            add(&mut over, border.from as usize, 0i64.saturating_sub(flow));
-            add(&mut over, border.to as usize, flow);
-            place = place.saturating_add(1);
-        }
+        let optimum = Optimum {
+            amounts,
+            flows: vec![in alloc; 0i64; market.borders.as_slice().len()]?,
+            potentials: vec![in alloc; 0i64; market.zones as usize]?,
+            value: 0,
+        };
         Ok(Run { optimum, over })
+    }
+
+    /// Moves what orders put in into the bounds.
+    fn move_amounts(&mut self, market: &Market, spans: &Spans) {
+        let orders = market.orders.as_slice();
+        for place in 0..orders.len() {
+            let (low, high) = (at(&spans.low, place), at(&spans.high, place));
+            let amount = at(&self.optimum.amounts, place);
+            if amount < low || amount > high {
+                let moved = nearest(amount, low, high);
+                set(&mut self.optimum.amounts, place, moved);
+                let more = moved.saturating_sub(amount);
+                add(&mut self.over, orders[place].zone as usize, more);
+            }
+        }
+    }
+
+    /// Moves flows into the bounds.
+    fn move_flows(&mut self, market: &Market, spans: &Spans) {
+        let borders = market.borders.as_slice();
+        for place in 0..borders.len() {
+            let (back, limit) = (at(&spans.back, place), at(&spans.limit, place));
+            let flow = at(&self.optimum.flows, place);
+            if flow < back || flow > limit {
+                let moved = nearest(flow, back, limit);
+                set(&mut self.optimum.flows, place, moved);
+                let more = moved.saturating_sub(flow);
+                add(
+                    &mut self.over,
+                    borders[place].from as usize,
+                    0i64.saturating_sub(more),
+                );
+                add(&mut self.over, borders[place].to as usize, more);
+            }
+        }
     }
 
     /// How much more, or less, may flow over a border.
@@ -309,15 +348,14 @@ pub(crate) fn value_of(market: &Market, amounts: &[i64]) -> i64 {
     value
 }
 
-/// The relaxed optimum within bounds, from an optimum within others.
-pub(crate) fn solve(
+/// Balances each zone of what runs.
+fn balanced(
     alloc: Global,
     market: &Market,
     places: &Places,
     spans: &Spans,
-    start: &Optimum,
+    mut run: Run,
 ) -> Result<Solved, AllocError> {
-    let mut run = Run::start(alloc, market, spans, start.clone()?)?;
     for zone in 0..market.zones {
         let is_over = at(&run.over, zone as usize) > 0;
         match run.balance(market, places, spans, zone) {
@@ -335,6 +373,31 @@ pub(crate) fn solve(
     Ok(Solved::Optimum(optimum))
 }
 
+/// The relaxed optimum within bounds, from an optimum within others.
+pub(crate) fn solve(
+    alloc: Global,
+    market: &Market,
+    places: &Places,
+    spans: &Spans,
+    start: &Optimum,
+) -> Result<Solved, AllocError> {
+    let run = Run::start(alloc, market, spans, start.clone()?)?;
+    balanced(alloc, market, places, spans, run)
+}
+
+/// The relaxed optimum where nothing is decided, from nothing.
+pub(crate) fn solve_root(
+    alloc: Global,
+    market: &Market,
+    places: &Places,
+    spans: &Spans,
+) -> Result<Solved, AllocError> {
+    let mut run = Run::at_zero(alloc, market)?;
+    run.move_amounts(market, spans);
+    run.move_flows(market, spans);
+    balanced(alloc, market, places, spans, run)
+}
+
 /// What an order puts in at the price 0.
 fn put_at_zero(order: &Order) -> i64 {
     let greatest = i64::from(order.greatest);
@@ -343,20 +406,4 @@ fn put_at_zero(order: &Order) -> i64 {
         Side::Withdraw if order.price.0 > 0 => -greatest,
         Side::Inject | Side::Withdraw => 0,
     }
-}
-
-/// What runs at the price 0 before any balance.
-pub(crate) fn unbalanced(alloc: Global, market: &Market) -> Result<Optimum, AllocError> {
-    let mut amounts = Vec::new(alloc);
-    for order in market.orders.as_slice() {
-        amounts.push(put_at_zero(order))?;
-    }
-    let flows = vec![in alloc; 0i64; market.borders.as_slice().len()]?;
-    let potentials = vec![in alloc; 0i64; market.zones as usize]?;
-    Ok(Optimum {
-        amounts,
-        flows,
-        potentials,
-        value: 0,
-    })
 }

@@ -14,11 +14,12 @@ use Rattle.mari_settle.specs.Ledger.{operator_lines, provider_amounts, rents_of,
 use Rattle.mari_progress.specs.Money.{HasLedger, StatesLedger, providers_among}
 use Rattle.mari_progress.specs.Runs.{IsBalancedLedger, IsMarketOf}
 use Rattle.mari_progress.specs.Reported.{activation_of, prices_of}
+use Rattle.mari_check.specs.declared.block.BeforeTree.{BeforeTree}
 use Rattle.mari_check.specs.declared.block.Examined.{Examined}
 use Rattle.mari_check.specs.declared.block.Examined.TheVariants.{Faulty, Sound}
 use Rattle.mari_check.specs.declared.fault.Fault.{Fault}
 use Rattle.mari_check.specs.declared.fault.Fault.TheVariants as fault
-use Rattle.mari_check.specs.Examined.{ExaminesBlock, IsReportedLedger}
+use Rattle.mari_check.specs.Examined.{ExaminesBlock, FindsBeforeTree, IsReportedLedger}
 use Rattle.mari_check.specs.Faults.{IsFreeOf, IsLeast, NoneBelow}
 use Rattle.mari_check.proofs.Least.{last-passes, least-is}
 use Rattle.mari_check.proofs.Providers.{run-of, states-is}
@@ -47,6 +48,10 @@ module _ (books : Books) (run : ℕ) (made : RunMarket) (also : Option (List Cen
 
   abbrev found : Examined → Type 0
   found t = ExaminesBlock books run made also budget b t
+
+  -- what is found before the tree is looked at
+  pub before-is : (t u : BeforeTree) → t ≡ u → FindsBeforeTree books run made also budget b t → FindsBeforeTree books run made also budget b u
+  before-is t u e h = subst (FindsBeforeTree books run made also budget b) e h
 
   -- after the other faults there is that of the ledger, or none
   pub with-ledger : NoneBelow free 11 → (a : Activation) (ps : Prices) (given : Option Ledger) (l : Ledger) → given ≡ Some l → IsReportedLedger books made also b a ps given → found (Sound a ps l)

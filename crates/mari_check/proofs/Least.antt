@@ -67,9 +67,8 @@ module _ (free_of : Fault → Type 0) where
   pub none-is : NoneBelow free_of 13 → (f : Fault) → free_of f
   none-is all f = all f (omega (arith, to_twelve f))
 
-pub found-some : (free_of : Fault → Type 0) (n : ℕ) (found : Option Fault) (f : Fault) → found ≡ Some f → FindsUpTo free_of n found → IsLeast free_of f
-found-some free_of n None f e h = absurd (cc e)
-found-some free_of n (Some g) f e h = let same : g ≡ f = cc e in subst (IsLeast free_of) same h
+pub found-some : (free_of : Fault → Type 0) (n : ℕ) (found : Option Fault) (f : Fault) → found ≡ Some f → FindsUpTo free_of n found → FindsUpTo free_of n (Some f)
+found-some free_of n found f e h = subst (FindsUpTo free_of n) e h
 
 pub found-none : (free_of : Fault → Type 0) (n : ℕ) (found : Option Fault) → found ≡ None → FindsUpTo free_of n found → NoneBelow free_of n
 found-none free_of n None e h = h

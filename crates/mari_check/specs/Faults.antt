@@ -81,4 +81,4 @@ NoneBelow free_of number = (any : Fault) → fault_number any < number → free_
 -- is there either
 abbrev pub FindsUpTo : (Fault → Type 0) → ℕ → Option Fault → Type 0
 FindsUpTo free_of number None = NoneBelow free_of number
-FindsUpTo free_of number (Some least) = IsLeast free_of least
+FindsUpTo free_of number (Some least) = IsLeast free_of least × (fault_number least < number)

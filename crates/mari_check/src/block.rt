@@ -9,7 +9,7 @@ ghost use Rattle.mari_market.specs.Prefix.{word_of, IsFeasiblePrefix};
 ghost use Rattle.mari_market.specs.Price.{ArePrices};
 ghost use Rattle.mari_remain.specs.Accepted.{IsAccepted};
 ghost use Rattle.mari_check.specs.Ends.{AreHeights};
-ghost use Rattle.mari_check.specs.Examined.{ExaminesBlock};
+ghost use Rattle.mari_check.specs.Examined.{ExaminesBlock, FindsBeforeTree};
 ghost use Rattle.mari_check.specs.Faults.{FindsNumber, FindsUpTo, IsFreeOf, IsWholeWithin, NoneBelow};
 ghost use Rattle.mari_remain.specs.declared.books.Books.{Books as TheBooks};
 ghost use Rattle.mari_remain.specs.declared.market.RunMarket.{RunMarket as TheRunMarket};
@@ -50,6 +50,20 @@ pub enum Examined {
         prices: Prices,
         /// The ledger of its run.
         ledger: Ledger,
+    },
+}
+
+/// What the examination of a published block comes to before its tree is looked at.
+#[derive(Drop)]
+pub enum BeforeTree {
+    /// It has faults whose numbers are lower than those of the tree and the ledger: the least of them.
+    Faulty(Fault),
+    /// It has none of these.
+    Sound {
+        /// The activation that it states.
+        activation: Activation,
+        /// The published prices that it states, one for each zone.
+        prices: Prices,
     },
 }
 
@@ -227,28 +241,54 @@ fn tree_fault(
     Ok(None)
 }
 
-/// A fault of the activation, of its welfare, of the prices, intervals and areas, or of the tree.
+/// A fault of the activation, of its welfare, or of the prices, intervals and areas.
 fn market_fault(
     alloc: Global,
     market: &Market,
     block: &FullBlock,
     activation: &Activation,
     prices: &Prices,
-    budget: Option<u32>,
 ) -> Result<Option<Fault>, Memory>
     requires valid { IsValid market.now }
     requires activation { activation.now ≡ activation_reported block.now }
     requires prices { prices.now.cents ≡ prices_reported block.now }
-    ensures { (books : TheBooks) (run : ℕ) (made : TheRunMarket) (also : Option (List TheCents)) → made.market ≡ market.now
-        → NoneBelow (IsFreeOf books run made also budget block.now) 3 → IfOk result (FindsUpTo (IsFreeOf books run made also budget block.now) 11) }
+    ensures { (books : TheBooks) (run : ℕ) (made : TheRunMarket) (also : Option (List TheCents)) (budget : Option ℕ) → made.market ≡ market.now
+        → NoneBelow (IsFreeOf books run made also budget block.now) 3 → IfOk result (FindsUpTo (IsFreeOf books run made also budget block.now) 9) }
 {
     if let Some(fault) = trading_fault(market, block, activation) {
         return Ok(Some(fault));
     }
-    if let Some(fault) = pricing_fault(alloc, market, block, activation, prices)? {
-        return Ok(Some(fault));
+    pricing_fault(alloc, market, block, activation, prices)
+}
+
+/// What is found of a published block of a run with this market before its tree is looked at: its least fault where that is
+/// one of its heading, its lines, its activation, its welfare, its prices, intervals and areas; or what it states of these.
+/// This is so whatever the scheduled prices and the budget are.
+pub fn before_tree(
+    alloc: Global,
+    books: &Books,
+    run: u32,
+    made: &RunMarket,
+    block: &FullBlock,
+) -> Result<BeforeTree, Memory>
+    requires accepted { IsAccepted books.now }
+    requires run { 1 ≤ run }
+    requires made { IsMarketOf books.now made.now }
+    ensures { (also : Option (List TheCents)) (budget : Option ℕ) → IfOk result (FindsBeforeTree books.now run made.now also budget block.now) }
+{
+    if let Some(fault) = naming_fault(books, run, made, block) {
+        return Ok(BeforeTree::Faulty(fault));
     }
-    tree_fault(alloc, market, block, activation, budget)
+    let activation = activation_of(alloc, block)?;
+    let prices = prices_of(alloc, block)?;
+    match market_fault(alloc, &made.market, block, &activation, &prices)? {
+        Some(fault) => {
+            drop(prices);
+            drop(activation);
+            Ok(BeforeTree::Faulty(fault))
+        }
+        None => Ok(BeforeTree::Sound { activation, prices }),
+    }
 }
 
 /// What is found of a published block of a run with this market, whose quarter has these scheduled prices, or none.
@@ -267,12 +307,11 @@ pub(crate) fn examine_block(
     requires also { IfSome also (λ scheduled. ArePrices made.now.market scheduled.now.cents) }
     ensures { IfOk result (ExaminesBlock books.now run made.now (option_map (λ scheduled. scheduled.now.cents) also.entry) budget block.now) }
 {
-    if let Some(fault) = naming_fault(books, run, made, block) {
-        return Ok(Examined::Faulty(fault));
-    }
-    let activation = activation_of(alloc, block)?;
-    let prices = prices_of(alloc, block)?;
-    if let Some(fault) = market_fault(alloc, &made.market, block, &activation, &prices, budget)? {
+    let (activation, prices) = match before_tree(alloc, books, run, made, block)? {
+        BeforeTree::Faulty(fault) => return Ok(Examined::Faulty(fault)),
+        BeforeTree::Sound { activation, prices } => (activation, prices),
+    };
+    if let Some(fault) = tree_fault(alloc, &made.market, block, &activation, budget)? {
         drop(prices);
         drop(activation);
         return Ok(Examined::Faulty(fault));

@@ -126,7 +126,7 @@ pub(crate) fn are_total_lines(lines: &[AmountLine], names: &NameIndex, amounts: 
 }
 
 /// The ledger of the block's run, where the block states it.
-pub(crate) fn reported_ledger(
+pub fn reported_ledger(
     alloc: Global,
     books: &Books,
     made: &RunMarket,

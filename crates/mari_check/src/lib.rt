@@ -21,10 +21,11 @@ mod stream;
 mod tree;
 mod verdict;
 
-pub use block::check_run;
+pub use block::{BeforeTree, Examined, before_tree, check_run};
 pub use day::DayCheck;
 pub use fault::Fault;
 pub use laws::{free_blocks_show, valid_days_keep};
+pub use ledger::reported_ledger;
 pub use reported::{activation_of, prices_of};
 pub use stream::{StreamFault, check_stream};
-pub use verdict::{Verdict, check_day};
+pub use verdict::{Verdict, check_day, has_totals};

@@ -1,9 +1,10 @@
 //! The verdict on a whole publication.
 
-ghost use Rattle.std.specs.Prelude.{◌≡◌, ◌++◌, ◌∷◌, [], List, None, Ok, IfOk, IfSome, IsTrue, ◌↔◌};
+ghost use Rattle.std.specs.Prelude.{◌≡◌, ◌≤◌, ◌++◌, ◌∷◌, [], List, None, Ok, IfOk, IfSome, IsTrue, ◌↔◌, length};
 ghost use Rattle.mari_publish.specs.declared.publication.Block.{Block as PrintedBlock};
 ghost use Rattle.mari_publish.specs.declared.publication.Publication.{Publication as ThePublication};
 ghost use Rattle.mari_remain.specs.Accepted.{IsAccepted};
+ghost use Rattle.mari_progress.specs.Progress.{AreTotals};
 ghost use Rattle.mari_progress.specs.Totals.{HasHead, HasTotals};
 ghost use Rattle.mari_check.specs.Checked.{IsChecked};
 ghost use Rattle.mari_check.specs.Verdicts.{BlockStates, HeadStates, IsVerdict};
@@ -14,6 +15,7 @@ use crate::ledger::{are_money_lines, are_total_lines};
 use mari_progress::run_count;
 use mari_publish::{AmountLine, Block, MoneyLine, Publication};
 use mari_remain::Books;
+use mari_settle::Ledger;
 use mari_units::{Memory, Name};
 use std::alloc::Global;
 
@@ -39,28 +41,25 @@ pub enum Verdict {
     },
 }
 
-impl DayCheck {
-    /// Whether these lines are the sums over the published blocks.
-    fn has_totals(&self, books: &Books, operators: &[MoneyLine], providers: &[AmountLine]) -> bool
-        requires accepted { IsAccepted books.now }
-        requires stands { (blocks : List PrintedBlock) × IsChecked books.now blocks self.now }
-        ensures { (p : ThePublication) → IsChecked books.now p.blocks self.now → p.operators ≡ operators.now → p.providers ≡ providers.now → (IsTrue result ↔ HasTotals books.now p) }
-    {
-        let totals = &self.progress.totals;
-        if !are_money_lines(
-            operators,
-            &books.zones.operators,
-            totals.operators.as_slice(),
-        ) {
-            return false;
-        }
-        are_total_lines(
-            providers,
-            &books.bids.providers,
-            totals.providers.as_slice(),
-        )
+/// Whether these lines are the sums over the published blocks, which are the ones that are kept.
+pub fn has_totals(
+    books: &Books,
+    totals: &Ledger,
+    operators: &[MoneyLine],
+    providers: &[AmountLine],
+) -> bool
+    requires accepted { IsAccepted books.now }
+    requires stands { (blocks : List PrintedBlock) × (length blocks ≤ length books.now.runs.runs) × AreTotals books.now blocks totals.now }
+    ensures { (p : ThePublication) → AreTotals books.now p.blocks totals.now → p.operators ≡ operators.now → p.providers ≡ providers.now → (IsTrue result ↔ HasTotals books.now p) }
+{
+    let sums = totals.operators.as_slice();
+    if !are_money_lines(operators, &books.zones.operators, sums) {
+        return false;
     }
+    are_total_lines(providers, &books.bids.providers, totals.providers.as_slice())
+}
 
+impl DayCheck {
     /// The verdict on a publication whose first line and blocks have no fault and that ends with these totals: a block
     /// may be missing, or the totals may be other sums. No fault was found before.
     pub fn end(&self, books: &Books, operators: &[MoneyLine], providers: &[AmountLine]) -> Verdict
@@ -76,7 +75,7 @@ impl DayCheck {
                 fault: Fault::Heading.number(),
             };
         }
-        if !self.has_totals(books, operators, providers) {
+        if !has_totals(books, &self.progress.totals, operators, providers) {
             return Verdict::Invalid {
                 run: runs,
                 fault: Fault::Totals.number(),

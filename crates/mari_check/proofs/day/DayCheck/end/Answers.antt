@@ -14,11 +14,11 @@ returns-then-self-runs c = λ p head budget checked first second.
 pub returns-then-not-has_totals : goal.returns-then-not-has_totals
 returns-then-not-has_totals c = λ p head budget checked first second.
     other-totals c.args.books.now p head c.args.self.now budget checked c.run_count-runs.result c.run_count-runs.ensures (omega (arith, c.if-self-runs.false)) c.number-then-not-has_totals.result
-    (λ h. absurd (both_ways c.has_totals.result c.if-not-has_totals.true ((c.has_totals.ensures p checked first second).1 h))) c.number-then-not-has_totals.ensures
+    (λ h. absurd (both_ways c.has_totals.result c.if-not-has_totals.true ((c.has_totals.ensures p checked.progress.totals first second).1 h))) c.number-then-not-has_totals.ensures
 
 pub returns : goal.returns
 returns c = λ p head budget checked first second. (
-  is-valid c.args.books.now p head c.args.self.now budget checked c.run_count-runs.result c.run_count-runs.ensures (omega (arith, c.if-self-runs.false)) ((c.has_totals.ensures p checked first second).0 c.if-not-has_totals.false),
+  is-valid c.args.books.now p head c.args.self.now budget checked c.run_count-runs.result c.run_count-runs.ensures (omega (arith, c.if-self-runs.false)) ((c.has_totals.ensures p checked.progress.totals first second).0 c.if-not-has_totals.false),
   checked.progress.published,
   checked.unpublished,
 )

@@ -26,7 +26,7 @@ use Rattle.mari_market.specs.Sums.{sum_along}
 use Rattle.mari_market.proofs.Ints.{pos_mul_lt, sub-mul_z}
 use Rattle.mari_market.proofs.Lists.{by_test}
 use Rattle.mari_market.proofs.Sums.{AllZip-at, sum_along-set}
-use Rattle.mari_reach.specs.Twins.{no_order, order_at, AreTwins, IsAhead, IsBetter, RanksBefore}
+use Rattle.mari_reach.specs.Twins.{moved, no_order, order_at, AreTwins, IsAhead, IsBetter, RanksBefore}
 use Rattle.mari_reach.proofs.LeafLaws.{opens_map}
 use Rattle.mari_reach.proofs.Ranges.{both_true, or_first, or_later}
 
@@ -192,10 +192,6 @@ exchanged_sum f os qs i j l s full apart none x y =
     omega (arith, ints, first, second, was, y)
 
 -- ---- the exchange
-
--- the activation with the quantity of the order at j moved to the one at i
-abbrev pub moved : Activation → (i j : ℕ) → Activation
-moved a i j = record { mw = set (set a.mw j 0) i (get_or a.mw j 0); flow = a.flow }
 
 -- an activation with consistent prices that opens a gate and closes a twin
 pub record Exchange (m : Market) (a : Activation) (us : List Cents) (g h i j : ℕ) : Type 0 where
@@ -418,11 +414,6 @@ moved_feasible m a us g h i j x = record { orders = moved_orders m a us g h i j 
 
 pub moved_consistent : (m : Market) (a : Activation) (us : List Cents) (g h i j : ℕ) → Exchange m a us g h i j → RanksBefore (order_at m i) g (order_at m j) h → IsConsistent m (moved a i j) us
 moved_consistent m a us g h i j x rank = record { prices = x.consistent.prices; orders = moved_prices m a us g h i j x rank; borders = x.consistent.borders }
-
--- with the quantities exchanged the same prices are consistent, and the welfare is greater, or the word is earlier
-pub exchanged : (m : Market) (a : Activation) (us : List Cents) (g h i j : ℕ) → Exchange m a us g h i j → RanksBefore (order_at m i) g (order_at m j) h
-    → (b : Activation) × (IsFeasible m b × (IsConsistent m b us × IsAhead m b a))
-exchanged m a us g h i j x rank = (moved a i j, (moved_feasible m a us g h i j x, (moved_consistent m a us g h i j x rank, moved_ahead m a us g h i j x rank)))
 
 -- so it isn't the first
 pub out_of_rank : (m : Market) (a : Activation) (g h i j : ℕ) → IsValid m → AreTwins m g h i j → RanksBefore (order_at m i) g (order_at m j) h → is_open m a h ≡ true → is_open m a g ≡ false → IsFirst m a → ⊥

@@ -15,15 +15,16 @@ use Rattle.mari_market.specs.declared.market.Order.{Order}
 use Rattle.mari_market.specs.declared.market.GateInfo.{GateInfo}
 use Rattle.mari_market.specs.declared.market.Market.{Market}
 use Rattle.mari_market.specs.declared.activation.Activation.{Activation}
-use Rattle.mari_market.specs.Activation.{is_gate, is_open}
+use Rattle.mari_market.specs.Activation.{gate_word_of, is_gate, is_open}
 use Rattle.mari_market.specs.Gates.{group_of, parent_of}
 use Rattle.mari_market.specs.Market.{IsValid}
 use Rattle.mari_market.specs.Optimal.{IsConsistent, IsFeasible}
 use Rattle.mari_market.specs.Price.{IsPrice}
 use Rattle.mari_market.proofs.Lists.{by_test}
 use Rattle.mari_market.proofs.Rising.{less}
-use Rattle.mari_reach.specs.Twins.{are_alike, are_indivisible, is_better, is_child, is_one_side, lone_order, may_exchange, no_order, order_at, orders_of, outranks, outranks_by, ranks_before, sole, stands_alone, AreAlike, AreIndivisible, AreTwins, IsAhead, IsBetter, IsLone, KeepsRank, RanksBefore}
-use Rattle.mari_reach.proofs.Exchanges.{gate_is, is_it, moved, moved_ahead, moved_consistent, moved_feasible, open_first, open_others, shut_second, Exchange}
+use Rattle.mari_market.proofs.Ties.{before_both}
+use Rattle.mari_reach.specs.Twins.{are_alike, are_indivisible, is_better, is_child, is_one_side, lone_order, may_exchange, moved, no_order, order_at, orders_of, outranks, outranks_by, ranks_before, sole, stands_alone, AreAlike, AreIndivisible, AreTwins, IsAhead, IsBetter, IsLone, IsNoWorse, KeepsRank, RanksBefore}
+use Rattle.mari_reach.proofs.Exchanges.{gate_is, is_it, moved_ahead, moved_consistent, moved_feasible, open_first, open_others, shut_second, Exchange}
 use Rattle.mari_reach.proofs.Ranges.{both_true, one_in_range, opposite, or_first}
 use Rattle.mari_reach.proofs.Reaching.{any_gives, or_either, same_number}
 
@@ -424,3 +425,22 @@ pub by_exchange : (m : Market) (us : List Cents) (P : Activation → Type 0) →
     → ((a b : Activation) → IsFeasible m b → IsConsistent m b us → IsAhead m b a → P b → P a)
     → (a : Activation) → IsFeasible m a → IsConsistent m a us → P a
 by_exchange m us P v kept step a f c = by_weight m us P v kept step (weight m a) a (omega arith) f c
+
+-- what is ahead of one that is ahead of a third is ahead of the third
+ahead_both : (m : Market) (c b a : Activation) → IsAhead m c b → IsAhead m b a → IsAhead m c a
+ahead_both m c b a (inl more) (inl also) = inl (omega (arith, ints, more, also))
+ahead_both m c b a (inl more) (inr also) = inl (omega (arith, ints, more, also.0))
+ahead_both m c b a (inr same) (inl also) = inl (omega (arith, ints, same.0, also))
+ahead_both m c b a (inr same) (inr also) = inr (also.0 ∙ same.0, before_both (gate_word_of m c) (gate_word_of m b) (gate_word_of m a) same.1 also.1)
+
+-- of each activation there is one with the same prices that keeps the rank, and is no worse
+pub keeps_rank : (m : Market) (us : List Cents) (a : Activation) → IsValid m → IsFeasible m a → IsConsistent m a us
+    → (b : Activation) × (IsFeasible m b × (IsConsistent m b us × (KeepsRank m (is_open m b) × IsNoWorse m b a)))
+keeps_rank m us a v f c =
+    by_exchange m us (λ x. (b : Activation) × (IsFeasible m b × (IsConsistent m b us × (KeepsRank m (is_open m b) × IsNoWorse m b x)))) v
+    (λ x fx cx ranked. (x, (fx, (cx, (ranked, inl refl)))))
+    (λ x y fy cy ahead best. (best.0, (best.1.0, (best.1.1.0, (best.1.1.1.0, elim (best.1.1.1.1) [
+      | inl same ↦ inr (subst (λ (z : Activation). IsAhead m z x) (sym same) ahead)
+      | inr further ↦ inr (ahead_both m best.0 y x further ahead)
+    ])))))
+    a f c

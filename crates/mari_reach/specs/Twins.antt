@@ -1,5 +1,5 @@
 -- Twins: gates whose orders may be exchanged.
-use Rattle.std.specs.Prelude.{◌≡◌, ◌⊎◌, ◌==◌, ◌&&◌, ◌||◌, not, if◌then◌else◌, Bool, true, false, ℕ, ◌<◌, nat_lt, ℤ, pos, ◌<ℤ◌, List, [], ◌∷◌, length, Option, Some, None, slice_index_or}
+use Rattle.std.specs.Prelude.{◌≡◌, ◌⊎◌, ◌==◌, ◌&&◌, ◌||◌, not, if◌then◌else◌, Bool, true, false, ℕ, ◌<◌, nat_lt, ℤ, pos, ◌<ℤ◌, List, [], ◌∷◌, length, Option, Some, None, slice_index_or, slice_set}
 use Rattle.std.specs.List.{filter, list_any}
 use Rattle.std.specs.Option.{is_some}
 use Rattle.std.specs.Ordering.{int_eq}
@@ -64,6 +64,14 @@ RanksBefore o g x h = IsBetter o.side o.price.0 x.price.0 ⊎ ((o.price.0 ≡ x.
 -- an activation is better than another, or as good with an earlier word
 abbrev pub IsAhead : Market → (b a : Activation) → Type 0
 IsAhead m b a = (welfare_of m a <ℤ welfare_of m b) ⊎ ((welfare_of m a ≡ welfare_of m b) × ComesBefore (gate_word_of m b) (gate_word_of m a))
+
+-- it is the other, or ahead of it
+abbrev pub IsNoWorse : Market → (b a : Activation) → Type 0
+IsNoWorse m b a = (b ≡ a) ⊎ IsAhead m b a
+
+-- the activation in which the order at i runs what that at j ran, and the one at j nothing
+abbrev pub moved : Activation → (i j : ℕ) → Activation
+moved a i j = record { mw = slice_set (slice_set a.mw j 0) i (slice_index_or a.mw j 0); flow = a.flow }
 
 -- ---- tests
 

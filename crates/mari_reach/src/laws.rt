@@ -19,7 +19,7 @@ ghost use Rattle.mari_reach.specs.declared.decisions.ReachItem.{ReachItem};
 ghost use Rattle.mari_reach.specs.Leaf.{IsBoundFor, dual_of, gain_of, is_needed};
 ghost use Rattle.mari_reach.specs.State.{IsReached, IsVoid, bounds_in, flows_in, high_of, low_of, opens, shuts, state_at};
 ghost use Rattle.mari_reach.specs.Tree.{ReachHolds};
-ghost use Rattle.mari_reach.specs.Twins.{AreTwins, IsAhead, RanksBefore, order_at, outranks};
+ghost use Rattle.mari_reach.specs.Twins.{AreTwins, IsAhead, IsNoWorse, KeepsRank, RanksBefore, moved, order_at, outranks};
 
 use mari_market::Market;
 
@@ -74,10 +74,16 @@ pub fn twins(market: &Market)
     ensures opened { (ds : List Decision) (g h : ℕ) → outranks market.now g h ≡ true → opens market.now ds h ≡ true → opens market.now ds g ≡ true }
     ensures shut { (ds : List Decision) (g h : ℕ) → outranks market.now g h ≡ true → shuts market.now ds g ≡ true → shuts market.now ds h ≡ true }
 
-    // With the quantities of the two exchanged, the same prices are consistent, and the welfare is greater, or the same
+    // With the quantity of the one moved to the other the same prices are consistent, and the welfare is greater, or the same
     // with an earlier word.
-    ensures exchanged { (a : Activation) (ps : List Cents) (g h i j : ℕ) → AreTwins market.now g h i j → RanksBefore (order_at market.now i) g (order_at market.now j) h → is_open market.now a h ≡ true → is_open market.now a g ≡ false → IsFeasible market.now a → IsConsistent market.now a ps → (b : Activation) × (IsFeasible market.now b × (IsConsistent market.now b ps × IsAhead market.now b a)) }
+    ensures exchanged { (a : Activation) (ps : List Cents) (g h i j : ℕ) → AreTwins market.now g h i j → RanksBefore (order_at market.now i) g (order_at market.now j) h
+        → is_open market.now a h ≡ true → is_open market.now a g ≡ false → IsFeasible market.now a → IsConsistent market.now a ps
+        → IsFeasible market.now (moved a i j) × (IsConsistent market.now (moved a i j) ps × IsAhead market.now (moved a i j) a) }
     ensures first { (a : Activation) (g h i j : ℕ) → AreTwins market.now g h i j → RanksBefore (order_at market.now i) g (order_at market.now j) h → is_open market.now a h ≡ true → is_open market.now a g ≡ false → IsFirst market.now a → ⊥ }
+
+    // So each activation has one with the same prices that keeps the rank of twins, and is the same or ahead of it.
+    ensures kept { (a : Activation) (ps : List Cents) → IsFeasible market.now a → IsConsistent market.now a ps
+        → (b : Activation) × (IsFeasible market.now b × (IsConsistent market.now b ps × (KeepsRank market.now (is_open market.now b) × IsNoWorse market.now b a))) }
 {}
 
 /// Where the dual value is the cutoff, the gates that are needed are those that the state opens, and the free ones without

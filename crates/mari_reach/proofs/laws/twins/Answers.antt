@@ -1,4 +1,5 @@
-use Rattle.mari_reach.proofs.Exchanges.{exchanged, out_of_rank}
+use Rattle.mari_reach.proofs.Exchanges.{Exchange, moved_ahead, moved_consistent, moved_feasible, out_of_rank}
+use Rattle.mari_reach.proofs.Repeated.{keeps_rank}
 use Rattle.mari_reach.proofs.TwinTests.{opened_by_rank, outranks_exactly, shut_by_rank}
 use Rattle.mari_reach.proofs.laws.twins.Goals as goal
 
@@ -13,7 +14,12 @@ returns-clause-shut c = λ ds g h rank e. shut_by_rank c.args.market.now ds g h 
 
 pub returns-clause-exchanged : goal.returns-clause-exchanged
 returns-clause-exchanged c = λ a ps g h i j t rank opened closed f k.
-    exchanged c.args.market.now a ps g h i j (record { valid = c.requires; twins = t; feasible = f; consistent = k; opened = opened; closed = closed }) rank
+    let m = c.args.market.now in
+    let x : Exchange m a ps g h i j = record { valid = c.requires; twins = t; feasible = f; consistent = k; opened = opened; closed = closed } in
+    (moved_feasible m a ps g h i j x, (moved_consistent m a ps g h i j x rank, moved_ahead m a ps g h i j x rank))
 
 pub returns-clause-first : goal.returns-clause-first
 returns-clause-first c = λ a g h i j t rank opened closed f. out_of_rank c.args.market.now a g h i j c.requires t rank opened closed f
+
+pub returns-clause-kept : goal.returns-clause-kept
+returns-clause-kept c = λ a ps f k. keeps_rank c.args.market.now ps a c.requires f k

@@ -1,0 +1,4 @@
+pub mod Trees
+pub mod Examining
+pub mod Showing
+pub mod Days

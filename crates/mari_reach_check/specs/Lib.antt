@@ -1,0 +1,4 @@
+pub mod Faults
+pub mod Shown
+pub mod Day
+pub mod Tested

@@ -1,0 +1,26 @@
+//! What a block shows that has none of the faults.
+
+ghost use Rattle.std.specs.Prelude.{ℕ, List, Option};
+ghost use Rattle.mari_units.specs.declared.numbers.Cents.{Cents as TheCents};
+ghost use Rattle.mari_check.specs.Markets.{IsMadeFor};
+ghost use Rattle.mari_check.specs.declared.fault.Fault.{Fault as TheFault};
+ghost use Rattle.mari_remain.specs.Accepted.{IsAccepted};
+ghost use Rattle.mari_remain.specs.declared.market.RunMarket.{RunMarket as TheRunMarket};
+ghost use Rattle.mari_reach_check.specs.Faults.{IsReachFreeOf};
+ghost use Rattle.mari_reach_check.specs.Shown.{ShowsReach};
+ghost use Rattle.mari_reach_text.specs.declared.named.NamedBlock.{NamedBlock as TheBlock};
+
+use mari_remain::Books;
+
+/// A block that has none of the faults states the first activation of its run's market, or an admissible one than which none
+/// is better by more than its gap; with its welfare, the prices, which together are consistent with it, the intervals and
+/// areas, and the ledger. In it the operators' nets sum to 0, and no rent is negative.
+///
+/// The call does nothing: its contract is the law.
+pub fn free_blocks_show(books: &Books)
+    requires { IsAccepted books.now }
+    ensures { (run : ℕ) (made : TheRunMarket) (also : Option (List TheCents)) (budget : ℕ) (b : TheBlock) → IsMadeFor books.now run made
+        → ((any : TheFault) → IsReachFreeOf books.now run made also budget b any) → ShowsReach books.now made also b }
+{
+    let _books = books;
+}

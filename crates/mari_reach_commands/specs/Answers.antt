@@ -3,7 +3,8 @@ use Rattle.std.specs.Prelude.{ℕ, ◌≡◌, ◌==◌, if◌then◌else◌, Lis
 use Rattle.mari_io.specs.Outside.{Pages}
 use Rattle.mari_io.specs.declared.shelf.Fetch.TheVariants as fetch
 use Rattle.mari_remain.specs.declared.books.Books.{Books}
-use Rattle.mari_day.specs.Reading.{BooksReport, HasBooks, IsFetchFault}
+use Rattle.mari_day.specs.Reading.{BooksReport, HasBooks, IsFetchFault, NamesAFile}
+use Rattle.mari_day.specs.Refusals.{RefusesByCheck}
 use Rattle.mari_day.specs.declared.reading.BooksFault.{BooksFault}
 use Rattle.mari_reach_day.specs.Days.{EndsReach}
 use Rattle.mari_reach_day.specs.declared.writing.ReachEnd.{ReachEnd}
@@ -20,12 +21,14 @@ status_of end.WriteFault = status.WriteFault
 status_of end.Memory = status.Memory
 
 -- how a folder is reported whose day is to be answered: it has books, and their day is written as far as it ended; or it has
--- none, and the line that says why is written. That a fetch failed is said only where one did
+-- none, and the line that says why is written, which names a file of the folder's books, and of a refusal a check of that
+-- file. That a fetch failed is said only where one did
 pub data ReportsFolder (pages : Option Pages) (failed : Type 0) (folder : List ℕ) (nodes : ℕ) (before after : Option (List ℕ)) (result : Status) : Type 0 where
   OfDay : (books : Books) → WhereReported pages (λ reported. HasBooks reported folder books) → (ended : ReachEnd)
       → EndsReach books nodes before after ended → result ≡ status_of ended
       → ReportsFolder pages failed folder nodes before after result
   OfNoBooks : (fault : BooksFault) → WhereReported pages (λ reported. BooksReport reported folder (Err fault))
+      → NamesAFile {T = Books} (Err fault) → RefusesByCheck {T = Books} (Err fault)
       → (IsFetchFault {T = Books} fetch.Failed (Err fault) → failed) → ReportsNoBooks fault before after result
       → ReportsFolder pages failed folder nodes before after result
 

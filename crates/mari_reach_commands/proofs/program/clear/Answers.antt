@@ -20,7 +20,7 @@ pub returns-in-Ok-clause-write_fault : goal.returns-in-Ok-clause-write_fault
 returns-in-Ok-clause-write_fault g c = record { later = c.reach_day.ensures.cause.later; rose = λ e. c.reach_day.ensures.cause.rose (write-end c.reach_day.result (sym c.status_of.ensures ∙ e)) }
 
 pub returns-in-Err-clause-reports : goal.returns-in-Err-clause-reports
-returns-in-Err-clause-reports g c = OfNoBooks c.in-Err.fault (λ reported e. c.in-Err.ensures.reported reported e) (λ e. c.in-Err.ensures.failed.rose e) c.say_no_books.ensures.reports
+returns-in-Err-clause-reports g c = OfNoBooks c.in-Err.fault (λ reported e. c.in-Err.ensures.reported reported e) c.in-Err.ensures.file c.in-Err.ensures.check (λ e. c.in-Err.ensures.failed.rose e) c.say_no_books.ensures.reports
 
 pub returns-in-Err-clause-read_fault : goal.returns-in-Err-clause-read_fault
 returns-in-Err-clause-read_fault g c = record { later = c.in-Err.ensures.failed.later; rose = λ e. c.in-Err.ensures.failed.rose (read-cause _ _ _ c.in-Err.fault c.say_no_books.ensures.reports e) }

@@ -1,10 +1,13 @@
 -- The block of a run for whose market an answer was found.
-use Rattle.std.proofs.Common.{◌≡◌, ℕ, ◌≤◌, List, Option, sym, ap, subst, arith}
+use Rattle.std.proofs.Common.{◌≡◌, ℕ, ◌≤◌, ℤ, pos, negsuc, ◌≤ℤ◌, List, Option, sym, ap, subst, arith}
+use Rattle.std.specs.Int.RustNames.{unsigned_abs}
+use Rattle.std.proofs.lemmas.Int.{ints}
 use Rattle.mari_units.specs.declared.numbers.Cents.{Cents}
 use Rattle.mari_market.specs.declared.certificate.TreeItem.{TreeItem}
 use Rattle.mari_market.specs.declared.clearing.Clearing.{Clearing}
 use Rattle.mari_market.specs.declared.market.Market.{Market}
 use Rattle.mari_market.specs.Optimal.{IsAdmissible}
+use Rattle.mari_lines.specs.declared.line.TheConstants.{MOST_MONEY}
 use Rattle.mari_publish.specs.declared.publication.FullBlock.{FullBlock}
 use Rattle.mari_publish.specs.Ranges.{EndingFits, MarketFits}
 use Rattle.mari_remain.specs.declared.books.Books.{Books}
@@ -12,13 +15,20 @@ use Rattle.mari_remain.specs.declared.market.RunMarket.{RunMarket}
 use Rattle.mari_progress.specs.After.{also_after, market_after, run_after}
 use Rattle.mari_day.specs.Published.{IsReportedOf}
 use Rattle.mari_reach.specs.declared.decisions.ReachItem.{ReachItem}
+use Rattle.mari_reach.specs.declared.dual.TheConstants.{MOST_VALUE}
 use Rattle.mari_reached.specs.Answer.{IsAnswer, IsWithinBudget}
 use Rattle.mari_reached.specs.declared.answer.Found.{Found}
-use Rattle.mari_reach_day.specs.declared.block.Claim.{Claim}
-use Rattle.mari_reach_day.specs.declared.block.Claim.TheVariants.{First, Within}
+use Rattle.mari_reach_lines.specs.Ranges.{IsClaim}
+use Rattle.mari_reach_lines.specs.declared.line.Claim.{Claim}
+use Rattle.mari_reach_lines.specs.declared.line.Claim.TheVariants.{First, Within}
 use Rattle.mari_reach_day.specs.declared.block.ReachBlock.{ReachBlock}
 use Rattle.mari_reach_day.specs.Reach.{IsReachBlock, IsReachOf, answered, blocks_of, found_in, gated_of}
-use Rattle.mari_reach_day.specs.Steps.{ClaimFits, ReachFits}
+use Rattle.mari_reach_day.specs.Steps.{ReachFits}
+
+-- a gap within the greatest dual value is an amount of money of a line
+gap_size : (z : ℤ) → pos 0 ≤ℤ z → z ≤ℤ pos MOST_VALUE → unsigned_abs z ≤ MOST_MONEY
+gap_size (pos n) low high = omega (arith, ints, high)
+gap_size (negsuc n) low high = omega (arith, ints, low)
 
 -- what an answer found is admissible, and its tree and its gap are small
 module _ (m : Market) (budget : ℕ) where
@@ -30,9 +40,9 @@ module _ (m : Market) (budget : ℕ) where
   items First f is = is.items
   items (Within gap) f is = is.items
 
-  claim_fits : (claim : Claim) (f : Found) → IsAnswer m budget (answered claim f) → ClaimFits claim
+  claim_fits : (claim : Claim) (f : Found) → IsAnswer m budget (answered claim f) → IsClaim claim
   claim_fits First f is = tt
-  claim_fits (Within gap) f is = (is.least, is.most)
+  claim_fits (Within gap) f is = (gap_size gap.0 is.least is.most, is.least)
 
   pub reach_fits : (claim : Claim) (f : Found) → IsAnswer m budget (answered claim f) → budget ≤ 50000 → (b : FullBlock) → MarketFits b → EndingFits b
       → (gated : List ℕ) → ReachFits (record { block = b; claim = claim; tree = f.tree; gated = gated })

@@ -1,7 +1,7 @@
 -- How many blocks of either kind there are.
 use Rattle.std.proofs.Common.{◌≡◌, ◌+◌, ◌≤◌, List, [], ◌∷◌, ◌++◌, length, refl, arith}
-use Rattle.mari_reach_day.specs.declared.block.Claim.{Claim}
-use Rattle.mari_reach_day.specs.declared.block.Claim.TheVariants.{First, Within}
+use Rattle.mari_reach_lines.specs.declared.line.Claim.{Claim}
+use Rattle.mari_reach_lines.specs.declared.line.Claim.TheVariants.{First, Within}
 use Rattle.mari_reach_day.specs.declared.block.ReachBlock.{ReachBlock}
 use Rattle.mari_reach_day.specs.Reach.{first_in, one_if_first, one_if_within, within_in}
 

@@ -2,3 +2,4 @@ pub mod Blocks
 pub mod Counts
 pub mod Progressing
 pub mod Keeping
+pub mod Texts

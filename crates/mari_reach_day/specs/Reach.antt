@@ -15,8 +15,8 @@ use Rattle.mari_reached.specs.Answer.{IsAnswer}
 use Rattle.mari_reached.specs.declared.answer.Answer.{Answer}
 use Rattle.mari_reached.specs.declared.answer.Answer.TheVariants as answer
 use Rattle.mari_reached.specs.declared.answer.Found.{Found}
-use Rattle.mari_reach_day.specs.declared.block.Claim.{Claim}
-use Rattle.mari_reach_day.specs.declared.block.Claim.TheVariants.{First, Within}
+use Rattle.mari_reach_lines.specs.declared.line.Claim.{Claim}
+use Rattle.mari_reach_lines.specs.declared.line.Claim.TheVariants.{First, Within}
 use Rattle.mari_reach_day.specs.declared.block.ReachBlock.{ReachBlock}
 
 -- what runs, its welfare and the tree, as a block says it

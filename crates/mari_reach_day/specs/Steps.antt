@@ -1,5 +1,5 @@
 -- What is kept of a day of the second form, and what a run of it comes to.
-use Rattle.std.specs.Prelude.{ℕ, ◌≡◌, ◌≤◌, ◌-◌, List, Some, ⊤, pos, ◌≤ℤ◌, length}
+use Rattle.std.specs.Prelude.{ℕ, ◌≡◌, ◌≤◌, ◌-◌, List, Some, length}
 use Rattle.mari_day.specs.Dated.{IsDated}
 use Rattle.mari_day.specs.Progress.{IsSettledIn}
 use Rattle.mari_market.specs.Clearing.{IsBudget}
@@ -8,25 +8,18 @@ use Rattle.mari_remain.specs.Accepted.{IsAccepted}
 use Rattle.mari_remain.specs.declared.books.Books.{Books}
 use Rattle.mari_progress.specs.declared.progress.Progress.{Progress}
 use Rattle.mari_progress.specs.Progress.{IsProgress}
-use Rattle.mari_reach.specs.declared.dual.TheConstants.{MOST_VALUE}
-use Rattle.mari_reach_day.specs.declared.block.Claim.{Claim}
-use Rattle.mari_reach_day.specs.declared.block.Claim.TheVariants.{First, Within}
+use Rattle.mari_reach_lines.specs.Ranges.{IsClaim}
 use Rattle.mari_reach_day.specs.declared.block.ReachBlock.{ReachBlock}
 use Rattle.mari_reach_day.specs.declared.run.ReachDone.{ReachDone}
 use Rattle.mari_reach_day.specs.Days.{IsReachDayText}
 use Rattle.mari_reach_day.specs.Reach.{IsReachBlock, block_of, blocks_of, first_in}
 use Rattle.mari_units.specs.declared.limits.TheConstants.{MOST_NODES}
 
--- a gap is small enough to be written as money
-abbrev pub ClaimFits : Claim → Type 0
-ClaimFits First = ⊤
-ClaimFits (Within gap) = (pos 0 ≤ℤ gap.0) × (gap.0 ≤ℤ pos MOST_VALUE)
-
 -- the numbers of a block are in range, so that its text can be written
 pub record ReachFits (r : ReachBlock) : Type 0 where
   pub market : MarketFits r.block
   pub ending : EndingFits r.block
-  pub claim : ClaimFits r.claim
+  pub claim : IsClaim r.claim
   pub tree : length r.tree ≤ MOST_NODES
 
 -- what is kept of the day of these books stands for these blocks

@@ -2,16 +2,8 @@
 
 use mari_publish::FullBlock;
 use mari_reach::ReachItem;
-use mari_units::{Items, Quarters};
-
-/// What a block says of its activation.
-#[derive(Clone, Copy, Debug, Drop, PartialEq, Eq)]
-pub enum Claim {
-    /// It is the first activation of the market.
-    First,
-    /// No admissible activation is better by more than this many quarter-cents.
-    Within(Quarters),
-}
+use mari_reach_lines::Claim;
+use mari_units::Items;
 
 /// A run's block.
 #[derive(Drop)]

@@ -11,6 +11,7 @@ mod run;
 mod text;
 mod writing;
 
-pub use block::{Claim, ReachBlock};
+pub use block::ReachBlock;
 pub use laws::reach_days_keep;
+pub use mari_reach_lines::Claim;
 pub use writing::{ReachEnd, reach_day};

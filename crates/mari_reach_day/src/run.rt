@@ -11,11 +11,12 @@ ghost use Rattle.mari_reach_day.specs.declared.block.ReachBlock.{ReachBlock as P
 ghost use Rattle.mari_reach_day.specs.Reach.{answered, blocks_of};
 ghost use Rattle.mari_reach_day.specs.Steps.{IsReachDone, ReachFits};
 
-use crate::block::{Claim, ReachBlock};
+use crate::block::ReachBlock;
 use mari_day::published_run;
 use mari_links::LinkBook;
 use mari_market::Clearing;
 use mari_progress::{Progress, SettledRun};
+use mari_reach_lines::Claim;
 use mari_reached::{Answer, Found, reach};
 use mari_remain::{Books, is_gated};
 use mari_units::{Items, Memory};

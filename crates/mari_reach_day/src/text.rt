@@ -2,19 +2,20 @@
 
 ghost use Rattle.std.specs.Prelude.{◌≡◌, ◌++◌, ◌≤◌, IfOk, OnOk, length, slice_index_or};
 ghost use Rattle.mari_rows.specs.Names.{name_at};
-ghost use Rattle.mari_reach_day.specs.Lines.{choice_text, item_text, leaf_text, reach_block_text, reach_head, reach_tree_text, run_text};
-ghost use Rattle.mari_reach_day.specs.Steps.{ClaimFits, ReachFits};
+ghost use Rattle.mari_reach_lines.specs.Spelling.{reach_line_text, text_of_reach_lines};
+ghost use Rattle.mari_reach_day.specs.Lines.{choice_line, item_line, leaf_line, reach_block_text, reach_head, reach_tree_lines};
+ghost use Rattle.mari_reach_day.specs.Steps.{ReachFits};
 
-use crate::block::{Claim, ReachBlock};
-use mari_lines::{
-    Heading, put_bound, put_cut, put_field, put_heading, put_money, put_number_field, put_price,
-    put_tree, put_welfare,
-};
+use crate::block::ReachBlock;
+use mari_lines::{put_bound, put_cut, put_tree, put_welfare};
 use mari_publish::{put_ending, put_market};
 use mari_reach::{Choice, ReachItem, ReachLeaf};
+use mari_reach_lines::{
+    put_reach_branch, put_reach_head, put_reach_price, put_reach_run, put_void,
+};
 use mari_remain::Books;
 use mari_rows::NameIndex;
-use mari_units::{MOST_NODES, Memory, Name, put};
+use mari_units::{MOST_NODES, Memory, Name};
 use std::alloc::Global;
 
 /// The text of the first line.
@@ -22,28 +23,8 @@ pub fn head_text(alloc: Global, date: &Name, quarters: u32, budget: u32) -> Resu
     ensures { IfOk result (λ text. text.items ≡ reach_head date.now quarters budget) }
 {
     let mut out = Vec::new(alloc);
-    put(&mut out, b"mari 2")?;
-    put_field(&mut out, date.bytes())?;
-    put_number_field(alloc, &mut out, u64::from(quarters))?;
-    put_number_field(alloc, &mut out, u64::from(budget))?;
-    put(&mut out, b"\n")?;
+    put_reach_head(alloc, &mut out, date, quarters, budget)?;
     Ok(out)
-}
-
-/// Appends the line of a run.
-fn put_run(alloc: Global, out: &mut Vec<u8>, heading: Heading, claim: Claim) -> Result<(), Memory>
-    requires { ClaimFits claim }
-    ensures { OnOk result (out.new.items ≡ out.old.items ++ run_text heading claim) }
-{
-    put_heading(alloc, out, heading)?;
-    match claim {
-        Claim::First => put_field(out, b"first")?,
-        Claim::Within(gap) => {
-            put_field(out, b"within")?;
-            put_money(alloc, out, gap)?;
-        }
-    }
-    put(out, b"\n")
 }
 
 /// The name at a place, or nothing where there is none.
@@ -71,31 +52,28 @@ fn put_choice(
     gated: &[u32],
     choice: Choice,
 ) -> Result<(), Memory>
-    ensures { OnOk result (out.new.items ≡ out.old.items ++ choice_text books.now gated.now choice) }
+    ensures { OnOk result (out.new.items ≡ out.old.items ++ reach_line_text (choice_line books.now gated.now choice)) }
 {
     match choice {
-        Choice::OfGate(gate) => {
-            put(out, b"branch")?;
-            put_field(
-                out,
-                name_or_nothing(&books.bids.ids, bid_of_gate(gated, gate)),
-            )?;
-        }
-        Choice::OfPrice(zone, price) => {
-            put(out, b"price")?;
-            put_field(out, name_or_nothing(&books.zones.zones, zone))?;
-            put_price(alloc, out, price)?;
-        }
+        Choice::OfGate(gate) => put_reach_branch(
+            out,
+            name_or_nothing(&books.bids.ids, bid_of_gate(gated, gate)),
+        ),
+        Choice::OfPrice(zone, price) => put_reach_price(
+            alloc,
+            out,
+            name_or_nothing(&books.zones.zones, zone),
+            price,
+        ),
     }
-    put(out, b"\n")
 }
 
 /// Appends the line of a leaf.
 fn put_leaf(alloc: Global, out: &mut Vec<u8>, leaf: &ReachLeaf) -> Result<(), Memory>
-    ensures { OnOk result (out.new.items ≡ out.old.items ++ leaf_text leaf.now) }
+    ensures { OnOk result (out.new.items ≡ out.old.items ++ reach_line_text (leaf_line leaf.now)) }
 {
     match leaf {
-        ReachLeaf::Void => put(out, b"none\n"),
+        ReachLeaf::Void => put_void(out),
         ReachLeaf::Bound(potentials) => put_bound(alloc, out, potentials.cents.as_slice()),
         ReachLeaf::Cut(cut) => put_cut(alloc, out, cut),
     }
@@ -109,7 +87,7 @@ fn put_item(
     gated: &[u32],
     item: &ReachItem,
 ) -> Result<(), Memory>
-    ensures { OnOk result (out.new.items ≡ out.old.items ++ item_text books.now gated.now item.now) }
+    ensures { OnOk result (out.new.items ≡ out.old.items ++ reach_line_text (item_line books.now gated.now item.now)) }
 {
     match item {
         ReachItem::Branch(choice) => put_choice(alloc, out, books, gated, *choice),
@@ -126,7 +104,7 @@ fn put_tree_lines(
     tree: &[ReachItem],
 ) -> Result<(), Memory>
     requires { length tree.now ≤ MOST_NODES }
-    ensures { OnOk result (out.new.items ≡ out.old.items ++ reach_tree_text books.now gated.now tree.now) }
+    ensures { OnOk result (out.new.items ≡ out.old.items ++ text_of_reach_lines (reach_tree_lines books.now gated.now tree.now)) }
 {
     put_tree(alloc, out, tree.len() as u32)?;
     for item in tree {
@@ -141,7 +119,7 @@ pub fn block_text(alloc: Global, books: &Books, block: &ReachBlock) -> Result<Ve
     ensures { IfOk result (λ text. text.items ≡ reach_block_text books.now block.now) }
 {
     let mut out = Vec::new(alloc);
-    put_run(alloc, &mut out, block.block.heading, block.claim)?;
+    put_reach_run(alloc, &mut out, block.block.heading, block.claim)?;
     put_welfare(alloc, &mut out, block.block.welfare)?;
     put_market(alloc, &mut out, &block.block)?;
     put_tree_lines(

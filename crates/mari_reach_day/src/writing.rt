@@ -8,12 +8,13 @@ ghost use Rattle.mari_day.specs.Dated.{IsDated};
 ghost use Rattle.mari_reach_day.specs.Days.{EndsReach};
 ghost use Rattle.mari_reach_day.specs.Reach.{one_if_first as one_for};
 
-use crate::block::{Claim, ReachBlock};
+use crate::block::ReachBlock;
 use crate::run::{ReachDone, run_reached};
 use crate::text::{block_text, head_text};
 use mari_day::{DaySoFar, Stop, end_text, write_day};
 use mari_io::Sink;
 use mari_progress::{Progress, run_count};
+use mari_reach_lines::Claim;
 use mari_remain::Books;
 use mari_units::Memory;
 use std::alloc::Global;

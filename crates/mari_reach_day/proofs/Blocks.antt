@@ -22,7 +22,8 @@ use Rattle.mari_reach_lines.specs.Ranges.{IsClaim}
 use Rattle.mari_reach_lines.specs.declared.line.Claim.{Claim}
 use Rattle.mari_reach_lines.specs.declared.line.Claim.TheVariants.{First, Within}
 use Rattle.mari_reach_day.specs.declared.block.ReachBlock.{ReachBlock}
-use Rattle.mari_reach_day.specs.Reach.{IsReachBlock, IsReachOf, answered, blocks_of, found_in, gated_of}
+use Rattle.mari_reach_day.specs.Reach.{IsReachBlock, IsReachOf, answered, blocks_of, found_in}
+use Rattle.mari_reach_text.specs.Numbers.{gated_of}
 use Rattle.mari_reach_day.specs.Steps.{ReachFits}
 
 -- a gap within the greatest dual value is an amount of money of a line

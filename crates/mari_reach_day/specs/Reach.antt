@@ -1,7 +1,6 @@
 -- A day of the second form. Read this file first; `Lines` spells its text, and `Days` says what a sink takes of it.
-use Rattle.std.specs.Prelude.{◌≡◌, ℕ, ◌+◌, List, [], ◌∷◌, Option, filter, length, map}
+use Rattle.std.specs.Prelude.{◌≡◌, ℕ, ◌+◌, List, [], ◌∷◌, Option, length, map}
 use Rattle.mari_units.specs.declared.numbers.Cents.{Cents}
-use Rattle.mari_links.specs.Links.{has_gate}
 use Rattle.mari_publish.specs.declared.publication.Block.{Block}
 use Rattle.mari_publish.specs.declared.publication.Block.TheVariants as block
 use Rattle.mari_remain.specs.declared.books.Books.{Books}
@@ -17,6 +16,7 @@ use Rattle.mari_reached.specs.declared.answer.Answer.TheVariants as answer
 use Rattle.mari_reached.specs.declared.answer.Found.{Found}
 use Rattle.mari_reach_lines.specs.declared.line.Claim.{Claim}
 use Rattle.mari_reach_lines.specs.declared.line.Claim.TheVariants.{First, Within}
+use Rattle.mari_reach_text.specs.Numbers.{gated_of}
 use Rattle.mari_reach_day.specs.declared.block.ReachBlock.{ReachBlock}
 
 -- what runs, its welfare and the tree, as a block says it
@@ -27,10 +27,6 @@ found_in r = record { activation = activation_of r.block; welfare = r.block.welf
 abbrev pub answered : Claim → Found → Answer
 answered First f = answer.First f
 answered (Within gap) f = answer.Within f gap
-
--- the bids of a run's market that have a gate, by their numbers: their gates are numbered in this order
-abbrev pub gated_of : Books → RunMarket → List ℕ
-gated_of books made = filter (has_gate books.links) made.bids
 
 -- the block of a run's market: an answer of it, which is the first activation or one within a gap, with a tree of at most
 -- the budget's items that shows it; the prices, intervals and areas; and the ledger

@@ -1,7 +1,6 @@
 //! One run of a day: its market is made, an answer of it is found, and its block is made.
 
-ghost use Rattle.std.specs.Prelude.{◌≡◌, ◌≤◌, List, IfOk, filter, length};
-ghost use Rattle.mari_links.specs.Links.{has_gate};
+ghost use Rattle.std.specs.Prelude.{◌≡◌, ◌≤◌, List, IfOk, length};
 ghost use Rattle.mari_market.specs.Clearing.{IsBudget};
 ghost use Rattle.mari_remain.specs.Accepted.{IsAccepted};
 ghost use Rattle.mari_progress.specs.After.{run_after};
@@ -13,12 +12,12 @@ ghost use Rattle.mari_reach_day.specs.Steps.{IsReachDone, ReachFits};
 
 use crate::block::ReachBlock;
 use mari_day::published_run;
-use mari_links::LinkBook;
 use mari_market::Clearing;
 use mari_progress::{Progress, SettledRun};
 use mari_reach_lines::Claim;
 use mari_reached::{Answer, Found, reach};
-use mari_remain::{Books, is_gated};
+use mari_reach_text::gated_bids;
+use mari_remain::Books;
 use mari_units::{Items, Memory};
 use std::alloc::Global;
 
@@ -39,19 +38,6 @@ fn claimed(answer: Answer) -> (Found, Claim)
         Answer::First(found) => (found, Claim::First),
         Answer::Within(found, gap) => (found, Claim::Within(gap)),
     }
-}
-
-/// Those of these bids that have a gate.
-fn gated_among(alloc: Global, links: &LinkBook, numbers: &[u32]) -> Result<Vec<u32>, Memory>
-    ensures { IfOk result (λ gated. gated.items ≡ filter (has_gate links.now) numbers.now) }
-{
-    let mut gated = Vec::new(alloc);
-    for number in numbers {
-        if is_gated(links, *number) {
-            gated.push(*number)?;
-        }
-    }
-    Ok(gated)
 }
 
 /// Makes the market of a run after the blocks so far, finds an answer of it within a budget of nodes, and makes its block.
@@ -75,7 +61,7 @@ pub fn run_reached(
 {
     let made = progress.market_of(alloc, books, run)?;
     let answer = reach(alloc, &made.market, budget)?;
-    let gated = gated_among(alloc, &books.links, made.bids.as_slice())?;
+    let gated = gated_bids(alloc, &books.links, made.bids.as_slice())?;
     let (found, claim) = claimed(answer);
     let Found {
         activation,

@@ -1,7 +1,8 @@
 use Rattle.std.proofs.Common.{◌≡◌, ◌∙◌, subst, sym}
 use Rattle.mari_progress.proofs.Progressing.{settled-after}
 use Rattle.mari_reached.specs.Answer.{IsAnswer}
-use Rattle.mari_reach_day.specs.Reach.{answered, blocks_of, gated_of}
+use Rattle.mari_reach_day.specs.Reach.{answered, blocks_of}
+use Rattle.mari_reach_text.specs.Numbers.{gated_of}
 use Rattle.mari_reach_day.proofs.Blocks.{reach_after, reach_of}
 use Rattle.mari_reach_day.proofs.run.run_reached.Goals as goal
 

@@ -18,10 +18,12 @@ use Rattle.mari_check.specs.Faults.{IsFreeOf, IsLeast}
 -- activation and these prices
 abbrev pub IsReportedLedger : Books → RunMarket → (also : Option (List Cents)) → FullBlock → Activation → Prices → Option Ledger → Type 0
 IsReportedLedger books made also b a ps None = HasLedger books made also b → ⊥
-IsReportedLedger books made also b a ps (Some ledger) = HasLedger books made also b × IsRunOf books made also b (record { made = made; activation = a; prices = ps; ledger = ledger })
+IsReportedLedger books made also b a ps (Some ledger) =
+    HasLedger books made also b × IsRunOf books made also b (record { made = made; activation = a; prices = ps; ledger = ledger })
 
 -- the least fault is reported, or that there is none and what the block adds to its day, beside the market
 abbrev pub ExaminesBlock : Books → (run : ℕ) → RunMarket → (also : Option (List Cents)) → (budget : Option ℕ) → FullBlock → Examined → Type 0
 ExaminesBlock books run made also budget b (Faulty least) = IsLeast (IsFreeOf books run made also budget b) least
 ExaminesBlock books run made also budget b (Sound a ps ledger) =
-    ((any : Fault) → IsFreeOf books run made also budget b any) × IsRunOf books made also b (record { made = made; activation = a; prices = ps; ledger = ledger })
+    ((any : Fault) → IsFreeOf books run made also budget b any)
+    × IsRunOf books made also b (record { made = made; activation = a; prices = ps; ledger = ledger })

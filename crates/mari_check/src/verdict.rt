@@ -44,7 +44,8 @@ impl DayCheck {
     fn has_totals(&self, books: &Books, operators: &[MoneyLine], providers: &[AmountLine]) -> bool
         requires accepted { IsAccepted books.now }
         requires stands { (blocks : List PrintedBlock) × IsChecked books.now blocks self.now }
-        ensures { (p : ThePublication) → IsChecked books.now p.blocks self.now → p.operators ≡ operators.now → p.providers ≡ providers.now → (IsTrue result ↔ HasTotals books.now p) }
+        ensures { (p : ThePublication) → IsChecked books.now p.blocks self.now → p.operators ≡ operators.now → p.providers ≡ providers.now
+            → (IsTrue result ↔ HasTotals books.now p) }
     {
         let totals = &self.progress.totals;
         if !are_money_lines(
@@ -116,8 +117,10 @@ impl DayCheck {
     ) -> Result<Option<Verdict>, Memory>
         requires accepted { IsAccepted books.now }
         requires stands { (blocks : List PrintedBlock) × IsChecked books.now blocks self.old }
-        ensures states { (blocks : List PrintedBlock) → IsChecked books.now blocks self.old → IfOk result (BlockStates books.now self.old.budget blocks block.now) }
-        ensures stands { (blocks : List PrintedBlock) → IsChecked books.now blocks self.old → result ≡ Ok None → IsChecked books.now (blocks ++ block.now ∷ []) self.new }
+        ensures states { (blocks : List PrintedBlock) → IsChecked books.now blocks self.old
+            → IfOk result (BlockStates books.now self.old.budget blocks block.now) }
+        ensures stands { (blocks : List PrintedBlock) → IsChecked books.now blocks self.old → result ≡ Ok None
+            → IsChecked books.now (blocks ++ block.now ∷ []) self.new }
         ensures budget { self.new.budget ≡ self.old.budget }
     {
         let run = self.next_run();
@@ -136,7 +139,8 @@ impl DayCheck {
     ) -> Result<Option<Verdict>, Memory>
         requires accepted { IsAccepted books.now }
         requires stands { IsChecked books.now [] self.old }
-        ensures found { (p : ThePublication) → HasHead books.now p.date p.quarters → p.budget ≡ self.old.budget → p.blocks ≡ blocks.now → IfOk result (λ found. IfSome found (IsVerdict books.now p)) }
+        ensures found { (p : ThePublication) → HasHead books.now p.date p.quarters → p.budget ≡ self.old.budget → p.blocks ≡ blocks.now
+            → IfOk result (λ found. IfSome found (IsVerdict books.now p)) }
         ensures none { IfOk result (λ found. found ≡ None → IsChecked books.now blocks.now self.new) }
         ensures budget { self.new.budget ≡ self.old.budget }
     {

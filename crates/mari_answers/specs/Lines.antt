@@ -30,7 +30,8 @@ file_line word file = word ++ 32 ∷ file_named file ++ 10 ∷ []
 
 -- the line of a refusal: the file, the line in it, and the check by its number and its name
 abbrev pub refused_line : Refusal → List ℕ
-refused_line r = codes "refused " ++ file_named r.file ++ 32 ∷ decimal r.line ++ 32 ∷ decimal r.number ++ 32 ∷ unwrap_or (check_name r.file r.number) [] ++ 10 ∷ []
+refused_line r =
+    codes "refused " ++ file_named r.file ++ 32 ∷ decimal r.line ++ 32 ∷ decimal r.number ++ 32 ∷ unwrap_or (check_name r.file r.number) [] ++ 10 ∷ []
 
 -- a line of a word and two numbers
 abbrev pub pair_line : List ℕ → ℕ → ℕ → List ℕ

@@ -24,7 +24,8 @@ piece from count xs = take count (drop from xs)
 
 -- the prices, areas and rents of an activation of the joint market
 pub record IsPriced (books : Books) (first : ℕ) (joint : Joint) (a : Activation) (priced : Priced) : Type 0 where
-  pub prices : AreJointPrices books first joint.market a priced.pricing.published.cents priced.pricing.least.cents priced.pricing.greatest.cents priced.areas.items
+  pub prices : AreJointPrices books first joint.market a priced.pricing.published.cents priced.pricing.least.cents priced.pricing.greatest.cents
+      priced.areas.items
   pub rents : priced.rents ≡ rents_of joint.market a priced.pricing.published.cents
   pub small : All IsSmall priced.rents
 

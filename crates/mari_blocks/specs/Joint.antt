@@ -78,7 +78,8 @@ gates_once gates = listed_once is_same_gate gates
 -- what is known of a gate: a bid's own keeps its group and its parent, and that of a block has neither
 abbrev pub gate_info : List BidLinks → List JointGate → JointGate → GateInfo
 gate_info links gates (OfBlock block) = record { group = None; parent = None }
-gate_info links gates (OfBid bid) = record { group = group_at links bid; parent = option_and_then (λ parent. gate_place gates (OfBid parent)) (parent_at links bid) }
+gate_info links gates (OfBid bid) =
+    record { group = group_at links bid; parent = option_and_then (λ parent. gate_place gates (OfBid parent)) (parent_at links bid) }
 
 -- an order, and a border, whose zones are moved on by `zones` places
 abbrev pub shifted_order : (zones : ℕ) → Order → Order
@@ -102,7 +103,8 @@ module _ (books : Books) where
 
   -- the orders of its demands
   abbrev pub demands_brought : (first quarter : ℕ) → List Order
-  demands_brought first quarter = map (shifted_order (zones_before first quarter)) (map demand_order (demands_of_run books.demands.demands (run_of_quarter books.runs.runs quarter)))
+  demands_brought first quarter =
+      map (shifted_order (zones_before first quarter)) (map demand_order (demands_of_run books.demands.demands (run_of_quarter books.runs.runs quarter)))
 
 module _ (books : Books) (first last : ℕ) where
   -- of all quarters
@@ -129,7 +131,9 @@ module _ (books : Books) (first last : ℕ) where
 
   -- some bid of the quarters has such links
   abbrev pub links_across : Bool
-  links_across = list_any (λ bid. is_of_quarters bid && option_map_or names_of_quarters (slice_get books.links.links bid) false) (range_with_len 0 (length books.links.links))
+  links_across =
+      list_any (λ bid. is_of_quarters bid && option_map_or names_of_quarters (slice_get books.links.links bid) false)
+      (range_with_len 0 (length books.links.links))
 
 -- a bid is one of a block's
 abbrev pub is_in_block : BlockBook → (block bid : ℕ) → Bool
@@ -161,7 +165,8 @@ module _ (books : Books) (blocks : BlockBook) where
   -- a bid's order among these gates: whole, with a least quantity of at least 1 where it has a gate
   abbrev pub joint_order : (first : ℕ) → List JointGate → (bid : ℕ) → Order
   joint_order first gates bid =
-      shifted_order (zones_before books first (quarter_at books.bids bid)) (bid_order (bid_numbered books.bids.bids bid) (option_and_then (gate_place gates) (own_gate bid)) 0)
+      shifted_order (zones_before books first (quarter_at books.bids bid))
+      (bid_order (bid_numbered books.bids.bids bid) (option_and_then (gate_place gates) (own_gate bid)) 0)
 
 module _ (books : Books) (blocks : BlockBook) (first last : ℕ) where
   -- the bids of the joint market, and their gates

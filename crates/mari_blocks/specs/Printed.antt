@@ -104,7 +104,8 @@ pub record IsJointBlock (books : Books) (first last budget : ℕ) (joint : Joint
   pub each : All (IsQuarterBlock books joint) b.quarters
   pub bids : map (λ (l : BidLine). l.id) (bids_printed b.quarters) ≡ map (name_at books.bids.ids) joint.bids
   pub clearing : IsClearing joint.market budget (clearing_printed b)
-  pub prices : AreJointPrices books first joint.market (activation_printed b.quarters) (prices_printed b.quarters) (least_printed b.quarters) (greatest_printed b.quarters) (areas_printed b.quarters)
+  pub prices : AreJointPrices books first joint.market (activation_printed b.quarters) (prices_printed b.quarters) (least_printed b.quarters)
+      (greatest_printed b.quarters) (areas_printed b.quarters)
   pub rents : rents_printed b.quarters ≡ rents_of joint.market (activation_printed b.quarters) (prices_printed b.quarters)
 
 -- the text of a joint market: that of its block, where it is published, or that it isn't

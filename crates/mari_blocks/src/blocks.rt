@@ -166,7 +166,9 @@ impl<'a> BlocksSoFar<'a> {
     fn bid_of_line(&self, line: &Row) -> Result<u32, BlockCheck>
         requires { (earlier : List Line) × HoldsBlocks earlier self.now }
         ensures bid { (earlier : List Line) → HoldsBlocks earlier self.now
-            → IsRead block_check_number result (first_failing (line_checks self.now.bids.now self.now.links.now self.now.first self.now.last earlier line.now)) (bid_at self.now.bids.now line.now) }
+            → IsRead block_check_number result
+            (first_failing (line_checks self.now.bids.now self.now.links.now self.now.first self.now.last earlier line.now))
+            (bid_at self.now.bids.now line.now) }
         ensures there { IfOk result (λ bid. bid < length self.now.bids.now.ids) }
         ensures name { OnOk result (is_name (block_name line.now) ≡ true) }
     {

@@ -39,10 +39,12 @@ fn published_text(
     requires accepted { IsAccepted books.now }
     requires in_order { first ≤ last }
     requires last { last ≤ MOST_QUARTERS }
-    requires joint { (blocks : BookOfBlocks) × IsBlockBook books.now.bids books.now.links first last blocks × (joint_in books.now blocks first last ≡ Ok joint.now) }
+    requires joint { (blocks : BookOfBlocks) × IsBlockBook books.now.bids books.now.links first last blocks
+        × (joint_in books.now blocks first last ≡ Ok joint.now) }
     requires valid { IsValid joint.now.market }
     requires clearing { (budget : ℕ) × IsBudget budget × IsClearing joint.now.market budget clearing }
-    ensures { (budget : ℕ) → IsClearing joint.now.market budget clearing → IfOk result (λ printed. IsTextOf books.now first last budget joint.now printed.published printed.text) }
+    ensures { (budget : ℕ) → IsClearing joint.now.market budget clearing
+        → IfOk result (λ printed. IsTextOf books.now first last budget joint.now printed.published printed.text) }
 {
     let block = joint_block(alloc, books, first, last, joint, clearing)?;
     let text = joint_text(alloc, &block)?;

@@ -84,7 +84,8 @@ fn joint_orders(
 
 /// Whether there are more borders, bids or demands than a run's market may have.
 fn has_too_many(parts: &JointParts, numbers: &[u32]) -> bool
-    ensures { result ≡ (nat_lt MOST_BORDERS (length parts.now.borders.items) || nat_lt MOST_BIDS (length numbers.now) || nat_lt MOST_DEMANDS (length parts.now.demands.items)) }
+    ensures { result ≡ (nat_lt MOST_BORDERS (length parts.now.borders.items) || nat_lt MOST_BIDS (length numbers.now)
+        || nat_lt MOST_DEMANDS (length parts.now.demands.items)) }
 {
     parts.borders.len() > MOST_BORDERS
         || numbers.len() > MOST_BIDS

@@ -13,7 +13,8 @@ use mari_remain::Books;
 /// The call does nothing: its contract is the law.
 pub fn quarters_agree(books: &Books)
     ensures within { (first last quarter : ℕ) → (is_within first last quarter ≡ true) ↔ Contains (quarters_of first last) quarter }
-    ensures zones { (first quarter zone : ℕ) → first ≤ quarter → zone < length books.now.zones.zones → zone_quarter books.now first (zones_before books.now first quarter + zone) ≡ quarter }
+    ensures zones { (first quarter zone : ℕ) → first ≤ quarter → zone < length books.now.zones.zones
+        → zone_quarter books.now first (zones_before books.now first quarter + zone) ≡ quarter }
 {
     let _books = books;
 }

@@ -98,7 +98,8 @@ impl JointParts {
         requires zones { zones ≤ MOST_QUARTERS * MOST_ZONES }
         ensures offered { OnOk result (self.new.offered.items ≡ self.old.offered.items ++ made.now.bids) }
         ensures borders { OnOk result (self.new.borders.items ≡ self.old.borders.items ++ map (shifted_border_of zones) made.now.market.borders) }
-        ensures demands { OnOk result (self.new.demands.items ≡ self.old.demands.items ++ map (shifted_order_of zones) (drop (length made.now.bids) made.now.market.orders)) }
+        ensures demands { OnOk result (self.new.demands.items ≡ self.old.demands.items
+            ++ map (shifted_order_of zones) (drop (length made.now.bids) made.now.market.orders)) }
     {
         let bids = made.bids.as_slice();
         self.offered.extend_from_slice(bids)?;
@@ -123,8 +124,10 @@ impl JointParts {
         requires nothing { StandsFor books.now [] remaining.now }
         requires zones { zones ≤ MOST_QUARTERS * MOST_ZONES }
         ensures offered { OnOk result (self.new.offered.items ≡ self.old.offered.items ++ (run_market_of books.now [] run).bids) }
-        ensures borders { OnOk result (self.new.borders.items ≡ self.old.borders.items ++ map (shifted_border_of zones) (run_market_of books.now [] run).market.borders) }
-        ensures demands { OnOk result (self.new.demands.items ≡ self.old.demands.items ++ map (shifted_order_of zones) (drop (length (run_market_of books.now [] run).bids) (run_market_of books.now [] run).market.orders)) }
+        ensures borders { OnOk result (self.new.borders.items ≡ self.old.borders.items
+            ++ map (shifted_border_of zones) (run_market_of books.now [] run).market.borders) }
+        ensures demands { OnOk result (self.new.demands.items ≡ self.old.demands.items
+            ++ map (shifted_order_of zones) (drop (length (run_market_of books.now [] run).bids) (run_market_of books.now [] run).market.orders)) }
     {
         let made = remaining.market_alone(alloc, books, run)?;
         let added = self.add(&made, zones);

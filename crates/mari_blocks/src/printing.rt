@@ -124,9 +124,12 @@ fn zones_at(
     requires least { length priced.now.pricing.least.cents ≡ length priced.now.areas.items }
     requires greatest { length priced.now.pricing.greatest.cents ≡ length priced.now.areas.items }
     ensures names { IfOk result (λ lines. map (λ (l : ZoneLineOf). l.name) lines ≡ books.now.zones.zones) }
-    ensures prices { IfOk result (λ lines. map (λ (l : ZoneLineOf). l.price) lines ≡ piece from (length books.now.zones.zones) priced.now.pricing.published.cents) }
-    ensures least { IfOk result (λ lines. map (λ (l : ZoneLineOf). l.least) lines ≡ piece from (length books.now.zones.zones) priced.now.pricing.least.cents) }
-    ensures greatest { IfOk result (λ lines. map (λ (l : ZoneLineOf). l.greatest) lines ≡ piece from (length books.now.zones.zones) priced.now.pricing.greatest.cents) }
+    ensures prices { IfOk result (λ lines. map (λ (l : ZoneLineOf). l.price) lines
+        ≡ piece from (length books.now.zones.zones) priced.now.pricing.published.cents) }
+    ensures least { IfOk result (λ lines. map (λ (l : ZoneLineOf). l.least) lines
+        ≡ piece from (length books.now.zones.zones) priced.now.pricing.least.cents) }
+    ensures greatest { IfOk result (λ lines. map (λ (l : ZoneLineOf). l.greatest) lines
+        ≡ piece from (length books.now.zones.zones) priced.now.pricing.greatest.cents) }
     ensures areas { IfOk result (λ lines. map (λ (l : ZoneLineOf). l.area) lines ≡ piece from (length books.now.zones.zones) priced.now.areas.items) }
 {
     let count = books.zones.zones.len() as usize;
@@ -150,8 +153,10 @@ fn borders_at(
     requires accepted { IsAccepted books.now }
     requires there { from + length books.now.borders.borders ≤ length rents.now }
     requires flow { length flow.now ≡ length rents.now }
-    ensures from { IfOk result (λ lines. map (λ (l : BorderLineOf). l.from) lines ≡ map (λ (b : Ends). name_at books.now.zones.zones b.from) books.now.borders.borders) }
-    ensures to { IfOk result (λ lines. map (λ (l : BorderLineOf). l.to) lines ≡ map (λ (b : Ends). name_at books.now.zones.zones b.to) books.now.borders.borders) }
+    ensures from { IfOk result (λ lines. map (λ (l : BorderLineOf). l.from) lines
+        ≡ map (λ (b : Ends). name_at books.now.zones.zones b.from) books.now.borders.borders) }
+    ensures to { IfOk result (λ lines. map (λ (l : BorderLineOf). l.to) lines
+        ≡ map (λ (b : Ends). name_at books.now.zones.zones b.to) books.now.borders.borders) }
     ensures flow { IfOk result (λ lines. map (λ (l : BorderLineOf). l.flow) lines ≡ piece from (length books.now.borders.borders) flow.now) }
     ensures rents { IfOk result (λ lines. map (λ (l : BorderLineOf). l.rent) lines ≡ piece from (length books.now.borders.borders) rents.now) }
 {
@@ -250,7 +255,8 @@ fn quarter_blocks(
     requires accepted { IsAccepted books.now }
     requires in_order { first ≤ last }
     requires last { last ≤ MOST_QUARTERS }
-    requires joint { (blocks : BlockBook) × IsBlockBook books.now.bids books.now.links first last blocks × (joint_in books.now blocks first last ≡ Ok joint.now) }
+    requires joint { (blocks : BlockBook) × IsBlockBook books.now.bids books.now.links first last blocks
+        × (joint_in books.now blocks first last ≡ Ok joint.now) }
     requires valid { IsValid joint.now.market }
     requires shapes { HasShapes books.now (last + 1 - first) joint.now activation.now priced.now }
     ensures { IfOk result (λ quarters. ArePrinted books.now joint.now activation.now priced.now first last quarters.items) }
@@ -284,7 +290,8 @@ pub fn joint_block(
     requires accepted { IsAccepted books.now }
     requires in_order { first ≤ last }
     requires last { last ≤ MOST_QUARTERS }
-    requires joint { (blocks : BlockBook) × IsBlockBook books.now.bids books.now.links first last blocks × (joint_in books.now blocks first last ≡ Ok joint.now) }
+    requires joint { (blocks : BlockBook) × IsBlockBook books.now.bids books.now.links first last blocks
+        × (joint_in books.now blocks first last ≡ Ok joint.now) }
     requires valid { IsValid joint.now.market }
 
     // An optimum of it.

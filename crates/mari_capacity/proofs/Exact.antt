@@ -29,19 +29,14 @@ is-end books n page text (Invalid run number) (AtPart parts x there fault states
 is-end books n page text (Invalid run number) (AtEnd f lines) = inl (inr f)
 is-end books n page text (OfText f) e = inl (e.reported, parts-clean books page e.parts e.states.holds e.no_more e.states.states.checked)
 is-end books n page text (OfFetch fetch.Failed) e = inr refl
-is-end books n page text (OfFetch fetch.Missing) e = absurd e
 is-end books n page text (OfFetch fetch.TooLong) e = inl (e.too_long, parts-clean books (take most_given page) e.parts e.states.holds e.no_more e.states.states.checked)
-is-end books n page text (OfFetch fetch.Memory) e = absurd e
+is-end books n page text _ e = absurd e
 
 pub is-end-of : (books : Books) (n : ℕ) (page : Option (List ℕ)) (text : List ℕ) (end : ValueEnd) → ValueStates books n page text end → IsEndOf books page end ⊎ (end ≡ OfFetch fetch.Failed)
 is-end-of books n (Some page) text end e = is-end books n page text end e
 is-end-of books n None text (OfFetch fetch.Failed) e = inr refl
 is-end-of books n None text (OfFetch fetch.Missing) e = inl tt
-is-end-of books n None text (OfFetch fetch.TooLong) e = absurd e
-is-end-of books n None text (OfFetch fetch.Memory) e = absurd e
-is-end-of books n None text (Valid published unpublished) e = absurd e
-is-end-of books n None text (Invalid run number) e = absurd e
-is-end-of books n None text (OfText f) e = absurd e
+is-end-of books n None text _ e = absurd e
 
 -- ---- a page has one end
 
@@ -87,34 +82,23 @@ module _ (books : Books) (page : List ℕ) where
   one-end (Valid a b) (Valid c d) v w = both-valid a b c d v w
   one-end (Valid a b) (Invalid run number) v f = absurd (valid-invalid a b run number v f)
   one-end (Valid a b) (OfText f) v e = absurd (text-faultless page v.publication f v.is_text e.0)
-  one-end (Valid a b) (OfFetch fetch.Failed) v e = absurd e
-  one-end (Valid a b) (OfFetch fetch.Missing) v e = absurd e
   one-end (Valid a b) (OfFetch fetch.TooLong) v e = absurd (omega (arith, v.short, e.0.longer))
-  one-end (Valid a b) (OfFetch fetch.Memory) v e = absurd e
   one-end (Invalid run number) (Valid a b) f v = absurd (valid-invalid a b run number v f)
   one-end (Invalid run number) (Invalid other least) f g = same-invalid run number other least (both-invalid run number other least f g)
   one-end (Invalid run number) (OfText f) h e = absurd (invalid-refused run number f h e)
-  one-end (Invalid run number) (OfFetch fetch.Failed) h e = absurd e
-  one-end (Invalid run number) (OfFetch fetch.Missing) h e = absurd e
   one-end (Invalid run number) (OfFetch fetch.TooLong) h e = absurd (invalid-overlong run number h e)
-  one-end (Invalid run number) (OfFetch fetch.Memory) h e = absurd e
   one-end (OfText f) (Valid a b) e v = absurd (text-faultless page v.publication f v.is_text e.0)
   one-end (OfText f) (Invalid run number) e h = absurd (invalid-refused run number f h e)
   one-end (OfText f) (OfText g) e h = ap (λ (t : TextFault). OfText t) (one-fault page f g (reported-first page f e.0) (reported-first page g h.0))
-  one-end (OfText f) (OfFetch fetch.Failed) h e = absurd e
-  one-end (OfText f) (OfFetch fetch.Missing) h e = absurd e
   one-end (OfText f) (OfFetch fetch.TooLong) h e = absurd (long-none page f e.0 h.0)
-  one-end (OfText f) (OfFetch fetch.Memory) h e = absurd e
   one-end (OfFetch fetch.TooLong) (Valid a b) e v = absurd (omega (arith, v.short, e.0.longer))
   one-end (OfFetch fetch.TooLong) (Invalid run number) e h = absurd (invalid-overlong run number h e)
   one-end (OfFetch fetch.TooLong) (OfText f) e h = absurd (long-none page f e.0 h.0)
-  one-end (OfFetch fetch.TooLong) (OfFetch fetch.Failed) h e = absurd e
-  one-end (OfFetch fetch.TooLong) (OfFetch fetch.Missing) h e = absurd e
   one-end (OfFetch fetch.TooLong) (OfFetch fetch.TooLong) h e = refl
-  one-end (OfFetch fetch.TooLong) (OfFetch fetch.Memory) h e = absurd e
   one-end (OfFetch fetch.Failed) b e h = absurd e
   one-end (OfFetch fetch.Missing) b e h = absurd e
   one-end (OfFetch fetch.Memory) b e h = absurd e
+  one-end _ _ e h = absurd h
 
 -- ---- so it ends
 
@@ -128,17 +112,8 @@ ends-held books n page v end states is = by (is-end books n page v.text v.end st
 ends-unheld : (books : Books) (text : List ℕ) (own end : ValueEnd) → EndsUnheld text own → IsEndOf books None end → (own ≡ end) ⊎ (own ≡ OfFetch fetch.Failed)
 ends-unheld books text (OfFetch fetch.Failed) end states is = inr refl
 ends-unheld books text (OfFetch fetch.Missing) (OfFetch fetch.Missing) states is = inl refl
-ends-unheld books text (OfFetch fetch.Missing) (OfFetch fetch.Failed) states is = absurd is
-ends-unheld books text (OfFetch fetch.Missing) (OfFetch fetch.TooLong) states is = absurd is
-ends-unheld books text (OfFetch fetch.Missing) (OfFetch fetch.Memory) states is = absurd is
-ends-unheld books text (OfFetch fetch.Missing) (Valid a b) states is = absurd is
-ends-unheld books text (OfFetch fetch.Missing) (Invalid run number) states is = absurd is
-ends-unheld books text (OfFetch fetch.Missing) (OfText f) states is = absurd is
-ends-unheld books text (OfFetch fetch.TooLong) end states is = absurd states
-ends-unheld books text (OfFetch fetch.Memory) end states is = absurd states
-ends-unheld books text (Valid a b) end states is = absurd states
-ends-unheld books text (Invalid run number) end states is = absurd states
-ends-unheld books text (OfText f) end states is = absurd states
+ends-unheld books text (OfFetch fetch.Missing) _ states is = absurd is
+ends-unheld books text _ end states is = absurd states
 
 pub ends-exactly : {E : Type 0} (books : Books) (n : ℕ) (page : Option (List ℕ)) (r : Result Valued E) (end : ValueEnd)
     → IfOk r (λ v. ValueStates books n page v.text v.end) → IsEndOf books page end → IfOk r (EndsAs end)

@@ -73,19 +73,13 @@ module _ (books : Books) (n : ℕ) (now : ValuesSoFar) where
   unopened-states : (page : Option (List ℕ)) (f : Fetch) → ReadStates Took Breaks page (Ends (read.Unopened f)) → ValueStates books n page [] (OfFetch f)
   unopened-states None fetch.Failed h = refl
   unopened-states None fetch.Missing h = refl
-  unopened-states None fetch.TooLong h = absurd h
-  unopened-states None fetch.Memory h = absurd h
   unopened-states (Some page) fetch.Failed h = Unopened refl
-  unopened-states (Some page) fetch.Missing h = absurd h
-  unopened-states (Some page) fetch.TooLong h = absurd h
-  unopened-states (Some page) fetch.Memory h = absurd h
+  unopened-states _ _ h = absurd h
 
   fetch-states : (page : Option (List ℕ)) (f : Fetch) → ReadStates Took Breaks page (Ends (read.Fetch f)) → ValueStates books n page now.lines.items (OfFetch f)
-  fetch-states None f h = absurd h
   fetch-states (Some page) fetch.Failed h = Midway h.parts (record { holds = h.first; states = h.took.taken.states })
-  fetch-states (Some page) fetch.Missing h = absurd h
   fetch-states (Some page) fetch.TooLong h = record { too_long = h.0; parts = h.1.parts; no_more = h.1.none; states = record { holds = h.1.first; states = h.1.took.taken.states } }
-  fetch-states (Some page) fetch.Memory h = absurd h
+  fetch-states _ _ h = absurd h
 
   part-states : (page : Option (List ℕ)) (end : ValueEnd) → ReadStates Took Breaks page (Ends (read.Part (At end))) → ValueStates books n page now.lines.items end
   part-states None end h = absurd h
@@ -123,8 +117,7 @@ module _ (books : Books) (n : ℕ) (now : ValuesSoFar) where
     stop-states (Some page) (read.Text f) (Ok v) is h =
         rw (is.0, is.1) (record { reported = h.0; parts = h.1.parts; no_more = h.1.none; states = record { holds = h.1.first; states = h.1.took.taken.states } })
     stop-states page (read.Part (At end)) (Ok v) is h = rw (is.0, is.1) (part-states page end h)
-    stop-states page (read.Part NoMemory) (Ok v) is h = absurd is
-    stop-states page read.Memory (Ok v) is h = absurd is
+    stop-states page _ (Ok v) is h = absurd is
 
     -- and on any shelf
     pub stop-lines : (stop : ReadStop ValueStop) (r : Result Valued E) → StopsValues stop now.lines.items r → SomeStates Took Breaks (Ends stop) → IfOk r (λ v. LinesReport books n v.text v.end)
@@ -133,8 +126,7 @@ module _ (books : Books) (n : ℕ) (now : ValuesSoFar) where
     stop-lines (read.Fetch f) (Ok v) is h = rw (is.0, is.1) (fetch-lines f h)
     stop-lines (read.Text f) (Ok v) is h = rw (is.0, is.1) (h.1.parts, h.1.took.taken.states)
     stop-lines (read.Part (At end)) (Ok v) is h = rw (is.0, is.1) (part-lines end h)
-    stop-lines (read.Part NoMemory) (Ok v) is h = absurd is
-    stop-lines read.Memory (Ok v) is h = absurd is
+    stop-lines _ (Ok v) is h = absurd is
 
     -- out of memory is said as such
     pub stop-never : (stop : ReadStop ValueStop) (r : Result Valued E) → StopsValues stop now.lines.items r → SomeStates Took Breaks (Ends stop) → (reading.IsWrapped (Ends stop) → ⊥) → IfOk r (λ v. IsWrapped v.end → ⊥)
@@ -143,8 +135,7 @@ module _ (books : Books) (n : ℕ) (now : ValuesSoFar) where
     stop-never (read.Fetch f) (Ok v) is h never = rw is.1 never
     stop-never (read.Text f) (Ok v) is h never = rw is.1 never
     stop-never (read.Part (At end)) (Ok v) is h never = rw is.1 (part-end (λ e. IsWrapped e → ⊥) end h (λ run number w. w))
-    stop-never (read.Part NoMemory) (Ok v) is h never = absurd is
-    stop-never read.Memory (Ok v) is h never = absurd is
+    stop-never _ (Ok v) is h never = absurd is
 
     -- it ends by a fault of the shelf where the reading does
     pub stop-fetch : (g : Fetch) (stop : ReadStop ValueStop) (r : Result Valued E) → StopsValues stop now.lines.items r → SomeStates Took Breaks (Ends stop) → IsPageFault g r → IsReadFetch g (Ends stop)
@@ -153,8 +144,7 @@ module _ (books : Books) (n : ℕ) (now : ValuesSoFar) where
     stop-fetch g (read.Fetch f) (Ok v) is h w = subst (λ (e : ValueEnd). IsPageEnd g e) is.1 w
     stop-fetch g (read.Text f) (Ok v) is h w = subst (λ (e : ValueEnd). IsPageEnd g e) is.1 w
     stop-fetch g (read.Part (At end)) (Ok v) is h w = part-end (λ e. IsPageEnd g e → ⊥) end h (λ run number u. u) (subst (λ (e : ValueEnd). IsPageEnd g e) is.1 w)
-    stop-fetch g (read.Part NoMemory) (Ok v) is h w = absurd is
-    stop-fetch g read.Memory (Ok v) is h w = absurd is
+    stop-fetch g _ (Ok v) is h w = absurd is
 
     -- a page that is missing wasn't opened
     pub stop-missing : (stop : ReadStop ValueStop) (r : Result Valued E) → StopsValues stop now.lines.items r → SomeStates Took Breaks (Ends stop) → IsPageFault fetch.Missing r → IsUnopened (Ends stop)

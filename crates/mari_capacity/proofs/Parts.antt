@@ -73,16 +73,14 @@ open-blocks books [] day o = o
 open-blocks books (part.Head date quarters budget ∷ rest) day o =
     let same : blocks_in rest ≡ o.blocks = ap blocks_in o.are ∙ blocks_in-blocks o.blocks in
     subst (λ (bs : List Block). IsChecked books bs day) (sym same) o.checked
-open-blocks books (part.Block b ∷ rest) day o = absurd o
-open-blocks books (part.Totals os ps ∷ rest) day o = absurd o
+open-blocks books _ day o = absurd o
 
 pub open-checked : (books : Books) (parts : List Part) (day : DayCheck) → IsOpen books parts day → AreChecked books parts
 open-checked books [] day o = tt
 open-checked books (part.Head date quarters budget ∷ rest) day o =
     let checked = open-blocks books (part.Head date quarters budget ∷ rest) day o in
     (o.head, subst (λ (n : ℕ). AreFree books n (blocks_in rest)) (sym o.budget_is) checked.free)
-open-checked books (part.Block b ∷ rest) day o = absurd o
-open-checked books (part.Totals os ps ∷ rest) day o = absurd o
+open-checked books _ day o = absurd o
 
 -- the blocks are those that were checked
 pub way-blocks : (books : Books) (parts : List Part) (day : DayCheck) (w : Way books parts day) → blocks_in parts ≡ w.clear.blocks
@@ -205,10 +203,9 @@ module _ (books : Books) (more : ℕ) (parts : List Part) (old new : ValuesSoFar
         → (found ≡ Ok None → IsValueText books more (blocks_in parts ++ b ∷ []) new.lines.items) → IsStopAt run found r → OnOk r (HasTaken books more (parts ++ x ∷ []) new)
     block-goes-on (Ok None) (Ok done) finds checked lines stop = block-taken books more parts old new x t c b is later finds (checked refl) same.budget same.found (lines refl) same.more
     block-goes-on (Ok None) (Err why) finds checked lines stop = tt
-    block-goes-on (Ok (Some n)) (Ok done) finds checked lines stop = absurd stop
     block-goes-on (Ok (Some n)) (Err why) finds checked lines stop = tt
-    block-goes-on (Err e) (Ok done) finds checked lines stop = absurd stop
     block-goes-on (Err e) (Err why) finds checked lines stop = tt
+    block-goes-on _ (Ok done) finds checked lines stop = absurd stop
 
     pub block-stops : {T : Type 0} (found : Res (Option ℕ) NoRoom) (r : Res T ValueStop)
         → IfOk found (FindsNumber (IsFreeIn books old.day.budget (blocks_in parts) b))

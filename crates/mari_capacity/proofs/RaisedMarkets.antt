@@ -52,15 +52,7 @@ zip-set P (z ∷ zs) (y ∷ ys) (suc i) x d h more a = (a.0, zip-set P zs ys i x
 pub limit-raised : (limit more : ℕ) → limit ≤ 199998 → (limit ≤ raised_limit limit more) × (raised_limit limit more ≤ limit + more) × (raised_limit limit more ≤ 199998)
 limit-raised limit more small = (omega (arith, small), omega arith, omega arith)
 
--- the border keeps its zones
-same-from : (forth : Bool) (more : ℕ) (b : Border) → (raised_border forth more b).from ≡ b.from
-same-from true more b = refl
-same-from false more b = refl
-
-same-to : (forth : Bool) (more : ℕ) (b : Border) → (raised_border forth more b).to ≡ b.to
-same-to true more b = refl
-same-to false more b = refl
-
+-- the border is valid still
 pub border-valid : (n : ℕ) (forth : Bool) (more : ℕ) (b : Border) → IsValidBorder n b → IsValidBorder n (raised_border forth more b)
 border-valid n true more b v = record { from = v.from; to = v.to; apart = v.apart; limit = (limit-raised b.limit more v.limit).2; back = v.back }
 border-valid n false more b v = record { from = v.from; to = v.to; apart = v.apart; limit = v.limit; back = (limit-raised b.back more v.back).2 }

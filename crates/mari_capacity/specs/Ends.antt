@@ -47,8 +47,10 @@ AreChecked books (part.Totals operators providers ∷ parts) = ⊥
 -- the part after these has a fault of the check: a head that isn't that of the books has the first fault, as run 0, and
 -- a block the least of its own. The totals have theirs only where the text has none
 abbrev pub HasFault : Books → List Part → Part → (run number : ℕ) → Type 0
-HasFault books parts (part.Head date quarters budget) run number = (parts ≡ []) × (HasHead books date quarters → ⊥) × (run ≡ 0) × (number ≡ fault_number of_check.Heading)
-HasFault books parts (part.Block b) run number = (run ≡ run_after (blocks_in parts)) × FindsNumber (IsFreeIn books (budget_in parts) (blocks_in parts) b) (Some number)
+HasFault books parts (part.Head date quarters budget) run number =
+    (parts ≡ []) × (HasHead books date quarters → ⊥) × (run ≡ 0) × (number ≡ fault_number of_check.Heading)
+HasFault books parts (part.Block b) run number =
+    (run ≡ run_after (blocks_in parts)) × FindsNumber (IsFreeIn books (budget_in parts) (blocks_in parts) b) (Some number)
 HasFault books parts (part.Totals operators providers) run number = ⊥
 
 -- ---- the first fault

@@ -16,7 +16,8 @@ use Rattle.mari_capacity.specs.Worth.{AreWorths}
 pub data IsValueText (books : Books) (more : ℕ) : List Block → List ℕ → Type 0 where
   Opened : IsValueText books more [] (opening_line more)
   OfPublished : (blocks : List Block) (text : List ℕ) (b : FullBlock) (worths : List BorderWorth) → IsValueText books more blocks text
-      → AreWorths (market_after books blocks).market (activation_of b) (prices_of b) more worths → IsValueText books more (blocks ++ block.Published b ∷ []) (text ++ run_lines b worths)
+      → AreWorths (market_after books blocks).market (activation_of b) (prices_of b) more worths
+      → IsValueText books more (blocks ++ block.Published b ∷ []) (text ++ run_lines b worths)
   OfUnpublished : (blocks : List Block) (text : List ℕ) (heading : Heading) (count : ℕ)
       → IsValueText books more blocks text
       → IsValueText books more (blocks ++ block.Unpublished heading count ∷ []) (text ++ unpublished_line heading.run)

@@ -30,7 +30,11 @@ pub record IsBorderWorth (m : Market) (a : Activation) (ps : List Cents) (more b
 
 -- what is worth nothing, either way
 abbrev pub no_worth : BorderWorth
-no_worth = record { forth = record { gain = record { 0 = pos 0 }; rise = record { 0 = pos 0 } }; back = record { gain = record { 0 = pos 0 }; rise = record { 0 = pos 0 } } }
+no_worth =
+    record {
+      forth = record { gain = record { 0 = pos 0 }; rise = record { 0 = pos 0 } };
+      back = record { gain = record { 0 = pos 0 }; rise = record { 0 = pos 0 } };
+    }
 
 -- the same of each border, in their order
 pub record AreWorths (m : Market) (a : Activation) (ps : List Cents) (more : ℕ) (ws : List BorderWorth) : Type 0 where

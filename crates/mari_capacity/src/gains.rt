@@ -53,14 +53,17 @@ pub fn gain(
     requires more { more ≤ MOST_RAISE }
 
     // The greatest welfare of the word with that limit raised, and potentials that show it.
-    ensures relaxed { IfOk result (λ r. IsRelaxedWelfare (market_raised market.now (record { border = border; forth = forth; more = more })) (word_of word.now) (pos r.welfare)) }
-    ensures dual { IfOk result (λ r. dual_value_of (bounds_of_word market.now (word_of word.now)) (market_raised market.now (record { border = border; forth = forth; more = more })) r.potentials.cents ≡ pos r.welfare) }
+    ensures relaxed { IfOk result (λ r. IsRelaxedWelfare (market_raised market.now (record { border = border; forth = forth; more = more }))
+        (word_of word.now) (pos r.welfare)) }
+    ensures dual { IfOk result (λ r. dual_value_of (bounds_of_word market.now (word_of word.now))
+        (market_raised market.now (record { border = border; forth = forth; more = more })) r.potentials.cents ≡ pos r.welfare) }
     ensures potentials { IfOk result (λ r. ArePrices market.now r.potentials.cents) }
 
     // What is gained: at least nothing, and at most the rise at prices that are consistent with an activation of the
     // word.
     ensures at_least { IfOk result (λ r. welfare ≤ r.welfare) }
-    ensures at_most { IfOk result (λ r. (a : TheActivation) (ps : List TheCents) → IsFeasible market.now a → gate_word_of market.now a ≡ word_of word.now → IsConsistent market.now a ps
+    ensures at_most { IfOk result (λ r. (a : TheActivation) (ps : List TheCents) → IsFeasible market.now a → gate_word_of market.now a ≡ word_of word.now
+        → IsConsistent market.now a ps
         → pos r.welfare ≤ℤ (pos welfare +ℤ rise_of ps (border_at market.now.borders border) forth more)) }
 {
     let raise = Raise {
@@ -91,13 +94,15 @@ pub fn gain_from(
 
     // The greatest welfare of the word with that limit raised, and potentials that show it.
     ensures relaxed { IfOk result (λ r. IsRelaxedWelfare (market_raised market.now raise) (word_of word.now) (pos r.welfare)) }
-    ensures dual { IfOk result (λ r. dual_value_of (bounds_of_word market.now (word_of word.now)) (market_raised market.now raise) r.potentials.cents ≡ pos r.welfare) }
+    ensures dual { IfOk result (λ r. dual_value_of (bounds_of_word market.now (word_of word.now)) (market_raised market.now raise) r.potentials.cents
+        ≡ pos r.welfare) }
     ensures potentials { IfOk result (λ r. ArePrices market.now r.potentials.cents) }
 
     // What is gained: at least nothing, and at most the rise at prices that are consistent with an activation of the
     // word.
     ensures at_least { IfOk result (λ r. welfare ≤ r.welfare) }
-    ensures at_most { IfOk result (λ r. (a : TheActivation) (ps : List TheCents) → IsFeasible market.now a → gate_word_of market.now a ≡ word_of word.now → IsConsistent market.now a ps
+    ensures at_most { IfOk result (λ r. (a : TheActivation) (ps : List TheCents) → IsFeasible market.now a → gate_word_of market.now a ≡ word_of word.now
+        → IsConsistent market.now a ps
         → pos r.welfare ≤ℤ (pos welfare +ℤ rise_of ps (border_at market.now.borders raise.border) raise.forth raise.more)) }
 {
     // The gain is counted from it.

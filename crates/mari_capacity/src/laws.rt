@@ -20,8 +20,10 @@ use mari_remain::Books;
 /// The call does nothing: its contract is the law.
 pub fn limits_are_worth(books: &Books)
     requires { IsAccepted books.now }
-    ensures { (budget : ℕ) (blocks : List PrintedBlock) → AreFree books.now budget blocks → (k : ℕ) (b : TheFullBlock) → slice_get blocks k ≡ Some (printed.Published b) → (more : ℕ) (worths : List TheBorderWorth)
-        → AreWorths (market_after books.now (take k blocks)).market (activation_of b) (prices_of b) more worths → RisesBound (market_after books.now (take k blocks)).market (activation_of b) (pos b.welfare) more worths }
+    ensures { (budget : ℕ) (blocks : List PrintedBlock) → AreFree books.now budget blocks → (k : ℕ) (b : TheFullBlock)
+        → slice_get blocks k ≡ Some (printed.Published b) → (more : ℕ) (worths : List TheBorderWorth)
+        → AreWorths (market_after books.now (take k blocks)).market (activation_of b) (prices_of b) more worths
+        → RisesBound (market_after books.now (take k blocks)).market (activation_of b) (pos b.welfare) more worths }
 {
     let _books = books;
 }

@@ -48,8 +48,10 @@ pub fn rise(prices: &Prices, border: &Border, forth: bool, more: u32) -> Quarter
     ensures at_least_0 { pos 0 ≤ℤ result.0 }
 
     // Whatever lies within the gate word's bounds in the raised market, consistent or not, is worth no more.
-    ensures bounds { (m : TheMarket) (a b : TheActivation) (k : ℕ) → IsValid m → k < length m.borders → border_at m.borders k ≡ border.now → IsFeasible m a → IsConsistent m a prices.now.cents
-        → IsWithinBounds (bounds_of_word m (gate_word_of m a)) (raised_market m (record { border = k; forth = forth; more = more })) b → welfare_of m b ≤ℤ (welfare_of m a +ℤ result.0) }
+    ensures bounds { (m : TheMarket) (a b : TheActivation) (k : ℕ) → IsValid m → k < length m.borders → border_at m.borders k ≡ border.now → IsFeasible m a
+        → IsConsistent m a prices.now.cents
+        → IsWithinBounds (bounds_of_word m (gate_word_of m a)) (raised_market m (record { border = k; forth = forth; more = more })) b
+        → welfare_of m b ≤ℤ (welfare_of m a +ℤ result.0) }
 {
     let (near, far) = if forth {
         (border.from, border.to)

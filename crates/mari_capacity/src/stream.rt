@@ -75,9 +75,12 @@ impl<'a> ValuesSoFar<'a> {
         requires is { block.now ≡ published_block full.now }
         requires more { self.old.more ≤ MOST_RAISE }
         requires stands { (blocks : List PrintedBlock) × IsChecked books.now blocks self.old.day }
-        ensures finds { (blocks : List PrintedBlock) → IsChecked books.now blocks self.old.day → IfOk result (FindsNumber (IsFreeIn books.now self.old.day.budget blocks block.now)) }
-        ensures stands { (blocks : List PrintedBlock) → IsChecked books.now blocks self.old.day → result ≡ Ok None → IsChecked books.now (blocks ++ block.now ∷ []) self.new.day }
-        ensures lines { (blocks : List PrintedBlock) → IsChecked books.now blocks self.old.day → IsValueText books.now self.old.more blocks self.old.lines.items → result ≡ Ok None
+        ensures finds { (blocks : List PrintedBlock) → IsChecked books.now blocks self.old.day
+            → IfOk result (FindsNumber (IsFreeIn books.now self.old.day.budget blocks block.now)) }
+        ensures stands { (blocks : List PrintedBlock) → IsChecked books.now blocks self.old.day → result ≡ Ok None
+            → IsChecked books.now (blocks ++ block.now ∷ []) self.new.day }
+        ensures lines { (blocks : List PrintedBlock) → IsChecked books.now blocks self.old.day
+            → IsValueText books.now self.old.more blocks self.old.lines.items → result ≡ Ok None
             → IsValueText books.now self.old.more (blocks ++ block.now ∷ []) self.new.lines.items }
         ensures kept { IfOk result (λ found. IsSome found → self.new.lines ≡ self.old.lines) }
         ensures same { IsSameButDay self.old self.new }
@@ -107,9 +110,12 @@ impl<'a> ValuesSoFar<'a> {
         requires accepted { IsAccepted books.now }
         requires more { self.old.more ≤ MOST_RAISE }
         requires stands { (blocks : List PrintedBlock) × IsChecked books.now blocks self.old.day }
-        ensures finds { (blocks : List PrintedBlock) → IsChecked books.now blocks self.old.day → IfOk result (FindsNumber (IsFreeIn books.now self.old.day.budget blocks block.now)) }
-        ensures stands { (blocks : List PrintedBlock) → IsChecked books.now blocks self.old.day → result ≡ Ok None → IsChecked books.now (blocks ++ block.now ∷ []) self.new.day }
-        ensures lines { (blocks : List PrintedBlock) → IsChecked books.now blocks self.old.day → IsValueText books.now self.old.more blocks self.old.lines.items → result ≡ Ok None
+        ensures finds { (blocks : List PrintedBlock) → IsChecked books.now blocks self.old.day
+            → IfOk result (FindsNumber (IsFreeIn books.now self.old.day.budget blocks block.now)) }
+        ensures stands { (blocks : List PrintedBlock) → IsChecked books.now blocks self.old.day → result ≡ Ok None
+            → IsChecked books.now (blocks ++ block.now ∷ []) self.new.day }
+        ensures lines { (blocks : List PrintedBlock) → IsChecked books.now blocks self.old.day
+            → IsValueText books.now self.old.more blocks self.old.lines.items → result ≡ Ok None
             → IsValueText books.now self.old.more (blocks ++ block.now ∷ []) self.new.lines.items }
         ensures kept { IfOk result (λ found. IsSome found → self.new.lines ≡ self.old.lines) }
         ensures same { IsSameButDay self.old self.new }
@@ -131,8 +137,10 @@ impl<'a> ValuesSoFar<'a> {
         requires accepted { IsAccepted books.now }
         requires more { self.old.more ≤ MOST_RAISE }
         requires comes { (parts : List ThePart) × HasTaken books.now self.old.more parts self.old × Comes parts part.now }
-        ensures taken { (parts : List ThePart) → HasTaken books.now self.old.more parts self.old → Comes parts part.now → OnOk result (HasTaken books.now self.old.more (parts ++ part.now ∷ []) self.new) }
-        ensures stops { (parts : List ThePart) → HasTaken books.now self.old.more parts self.old → Comes parts part.now → IfErr result (StopsAtPart books.now self.old.more parts part.now self.new.lines.items) }
+        ensures taken { (parts : List ThePart) → HasTaken books.now self.old.more parts self.old → Comes parts part.now
+            → OnOk result (HasTaken books.now self.old.more (parts ++ part.now ∷ []) self.new) }
+        ensures stops { (parts : List ThePart) → HasTaken books.now self.old.more parts self.old → Comes parts part.now
+            → IfErr result (StopsAtPart books.now self.old.more parts part.now self.new.lines.items) }
         ensures books { self.new.books.now ≡ self.old.books.now }
         ensures more { self.new.more ≡ self.old.more }
     {
@@ -182,8 +190,10 @@ impl<'a> ValuesSoFar<'a> {
     /// The lines of a whole publication, and how they end.
     fn end(self, alloc: Global) -> Result<Valued, Memory>
         requires read { (books : TheBooks) × (more : ℕ) × (text : List ℕ) × TookWhole books more text self }
-        ensures reported { (books : TheBooks) (more : ℕ) (text : List ℕ) → TookWhole books more text self.entry → length text ≤ most_given → IfOk result (λ v. EndsPage books more text v.text v.end) }
-        ensures lines { (books : TheBooks) (more : ℕ) (text : List ℕ) → TookWhole books more text self.entry → IfOk result (λ v. LinesReport books more v.text v.end) }
+        ensures reported { (books : TheBooks) (more : ℕ) (text : List ℕ) → TookWhole books more text self.entry → length text ≤ most_given
+            → IfOk result (λ v. EndsPage books more text v.text v.end) }
+        ensures lines { (books : TheBooks) (more : ℕ) (text : List ℕ) → TookWhole books more text self.entry
+            → IfOk result (λ v. LinesReport books more v.text v.end) }
         ensures memory { IfOk result (λ v. IsWrapped v.end → ⊥) }
         ensures page { (why : TheFetch) → IfOk result (λ v. IsPageEnd why v.end → ⊥) }
     {
@@ -256,15 +266,18 @@ pub fn value_stream<S: Shelf>(
     ensures same { S.pages shelf.new ≡ S.pages shelf.old }
 
     // What is said of the page, where pages are reported; and on any shelf, that the lines are those of checked blocks.
-    ensures reported { (reported : Pages) → S.pages shelf.old ≡ Some reported → IfOk result (λ v. ValueStates books.now more (page_of reported name.now) v.text v.end) }
+    ensures reported { (reported : Pages) → S.pages shelf.old ≡ Some reported
+        → IfOk result (λ v. ValueStates books.now more (page_of reported name.now) v.text v.end) }
     ensures lines { IfOk result (λ v. LinesReport books.now more v.text v.end) }
 
     // It ends as the page does and in no other way, unless a call of the shelf failed.
-    ensures exact { (reported : Pages) (end : TheEnd) → S.pages shelf.old ≡ Some reported → IsEndOf books.now (page_of reported name.now) end → IfOk result (EndsAs end) }
+    ensures exact { (reported : Pages) (end : TheEnd) → S.pages shelf.old ≡ Some reported → IsEndOf books.now (page_of reported name.now) end
+        → IfOk result (EndsAs end) }
 
     // The shelf is asked for no other page: one call names a page, and each further one is for a piece, at most one for
     // each byte that was given, and one. Where there is no memory for the first line, it isn't asked.
-    ensures fetched { (S.fetches shelf.new ≡ S.fetches shelf.old) ⊎ AsksForPage (IsPageFault fetch.Missing result) (S.fetches shelf.old) (S.fetches shelf.new) (S.given shelf.new) }
+    ensures fetched { (S.fetches shelf.new ≡ S.fetches shelf.old)
+        ⊎ AsksForPage (IsPageFault fetch.Missing result) (S.fetches shelf.old) (S.fetches shelf.new) (S.given shelf.new) }
     ensures named { S.named shelf.new ≤ S.named shelf.old + 1 }
 
     // Why the page wasn't had. Out of memory is reported as such.

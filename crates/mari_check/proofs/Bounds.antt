@@ -52,10 +52,9 @@ all_tightest_more end os qs i zones d old new h l t long r = record {
 }
 
 set_small : (end : End) (z n : ℕ) (os : List Order) (qs : List ℕ) → All (λ (o : Order). IsPrice o.price.0) os → AnyZip (SetsAt end z n) os qs → n ≤ most_value
-set_small end z n [] qs p a = absurd a
-set_small end z n (o ∷ os) [] p a = absurd a
 set_small end z n (o ∷ os) (q ∷ qs) p (inl s) = height_most end o.price.0 n (All-head (λ (o : Order). IsPrice o.price.0) o os p) s.height
 set_small end z n (o ∷ os) (q ∷ qs) p (inr a) = set_small end z n os qs (All-tail (λ (o : Order). IsPrice o.price.0) o os p) a
+set_small end z n _ _ p a = absurd a
 
 -- no bound is higher than a price may be
 pub bound_small : (end : End) (os : List Order) (qs : List ℕ) (z n : ℕ) → All (λ (o : Order). IsPrice o.price.0) os → IsBoundBy end os qs z n → n ≤ most_value

@@ -54,20 +54,18 @@ module _ (m : Market) (a : Activation) (v : IsValid m) (f : IsFeasible m a) wher
 
   -- bounds are prices
   set-lower-price : (z : ℕ) (c : ℤ) (os : List Order) (qs : List ℕ) → All (IsValidOrder m.zones (length m.gates)) os → AnyZip (SetsLowerAt (is_open m a) z c) os qs → IsPrice c
-  set-lower-price z c [] qs p e = absurd e
-  set-lower-price z c (o ∷ os) [] p e = absurd e
   set-lower-price z c (o ∷ os) (q ∷ qs) p (inl s) = subst IsPrice s.price (All-head (IsValidOrder m.zones (length m.gates)) o os p).price
   set-lower-price z c (o ∷ os) (q ∷ qs) p (inr e) = set-lower-price z c os qs (All-tail (IsValidOrder m.zones (length m.gates)) o os p) e
+  set-lower-price z c _ _ p e = absurd e
 
   pub lower-price : (z : ℕ) (c : ℤ) → IsLowerBound m a z c → IsPrice c
   lower-price z c (inl e) = record { low = omega (arith, ints, e); high = omega (arith, ints, e) }
   lower-price z c (inr s) = set-lower-price z c m.orders a.mw v.orders s
 
   set-upper-price : (z : ℕ) (c : ℤ) (os : List Order) (qs : List ℕ) → All (IsValidOrder m.zones (length m.gates)) os → AnyZip (SetsUpperAt (is_open m a) z c) os qs → IsPrice c
-  set-upper-price z c [] qs p e = absurd e
-  set-upper-price z c (o ∷ os) [] p e = absurd e
   set-upper-price z c (o ∷ os) (q ∷ qs) p (inl s) = subst IsPrice s.price (All-head (IsValidOrder m.zones (length m.gates)) o os p).price
   set-upper-price z c (o ∷ os) (q ∷ qs) p (inr e) = set-upper-price z c os qs (All-tail (IsValidOrder m.zones (length m.gates)) o os p) e
+  set-upper-price z c _ _ p e = absurd e
 
   pub upper-price : (z : ℕ) (c : ℤ) → IsUpperBound m a z c → IsPrice c
   upper-price z c (inl e) = record { low = omega (arith, ints, e); high = omega (arith, ints, e) }

@@ -29,23 +29,14 @@ use Rattle.mari_check.specs.Verdicts.{IsVerdict}
 pub fault-states : (Took : List Part → Type 0) (Breaks : List Part → Part → NoRoom → Type 0) (page : Option (List ℕ)) (stop : ReadStop NoRoom) → ReadStates Took Breaks page (Err stop) → FaultStates page (stream_fault stop)
 fault-states Took Breaks None (read.Unopened fetch.Failed) h = tt
 fault-states Took Breaks None (read.Unopened fetch.Missing) h = tt
-fault-states Took Breaks None (read.Unopened fetch.TooLong) h = absurd h
-fault-states Took Breaks None (read.Unopened fetch.Memory) h = absurd h
-fault-states Took Breaks None (read.Fetch f) h = absurd h
-fault-states Took Breaks None (read.Text f) h = absurd h
-fault-states Took Breaks None (read.Part none) h = absurd h
 fault-states Took Breaks None read.Memory h = tt
 fault-states Took Breaks (Some page) (read.Unopened fetch.Failed) h = tt
-fault-states Took Breaks (Some page) (read.Unopened fetch.Missing) h = absurd h
-fault-states Took Breaks (Some page) (read.Unopened fetch.TooLong) h = absurd h
-fault-states Took Breaks (Some page) (read.Unopened fetch.Memory) h = absurd h
 fault-states Took Breaks (Some page) (read.Fetch fetch.Failed) h = tt
-fault-states Took Breaks (Some page) (read.Fetch fetch.Missing) h = absurd h
 fault-states Took Breaks (Some page) (read.Fetch fetch.TooLong) h = h.0
-fault-states Took Breaks (Some page) (read.Fetch fetch.Memory) h = absurd h
 fault-states Took Breaks (Some page) (read.Text f) h = h.0
 fault-states Took Breaks (Some page) (read.Part none) h = tt
 fault-states Took Breaks (Some page) read.Memory h = tt
+fault-states Took Breaks _ _ h = absurd h
 
 pub fault-stops : {S : Type 0} (rest_of : S → Option (List ℕ)) (calls : S → ℕ) (page : List ℕ) (shelf : S) (stop : ReadStop NoRoom) → ReadStops rest_of calls page shelf stop → FaultStops rest_of calls page shelf (stream_fault stop)
 fault-stops rest_of calls page shelf (read.Unopened f) h = tt
@@ -101,7 +92,3 @@ pub states-whole : (books : Books) (reported : Option (List ℕ)) (page : List �
     → StreamStates books reported result → reported ≡ Some page → IsOutcome page answer
     → SameAsRead books answer result
 states-whole books reported page answer result states is o = same-as-read books page answer result o (subst (λ p. StreamStates books p result) is states)
-
-pub states-same : (books : Books) (reported : Option (List ℕ)) (page : List ℕ) (answer : Result Publication TextFault) (f : StreamFault)
-    → FaultStates reported f → reported ≡ Some page → IsOutcome page answer → SameAsRead books answer (Err f)
-states-same books reported page answer f states is o = states-whole books reported page answer (Err f) states is o

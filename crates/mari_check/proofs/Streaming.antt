@@ -92,8 +92,7 @@ first books (part.Head d q b ∷ rest) day date quarters budget o c =
     let p = c.whole in
     let s = starts p d q b (rest ++ part.Head date quarters budget ∷ c.more) c.are in
     absurd (after p.blocks p.operators p.providers o.blocks (part.Head date quarters budget) c.more (s.rest_is ∙ ap (λ (ps : List Part). ps ++ part.Head date quarters budget ∷ c.more) o.are))
-first books (part.Block b ∷ rest) day date quarters budget o c = absurd o
-first books (part.Totals os ps ∷ rest) day date quarters budget o c = absurd o
+first books _ day date quarters budget o c = absurd o
 
 pub first-checked : (books : Books) (parts : List Part) (day : DayCheck) (x : Part) (date : List ℕ) (quarters budget : ℕ)
     → x ≡ part.Head date quarters budget → IsOpen books parts day → Comes parts x → IsChecked books [] day
@@ -160,8 +159,7 @@ no-first p (part.Totals os ps) more l e =
 pub way : (books : Books) (parts : List Part) (day : DayCheck) (x : Part) → IsLater x → IsOpen books parts day → Comes parts x → Way books parts day
 way books [] day x l o c = absurd (no-first c.whole x c.more l c.are)
 way books (part.Head d q b ∷ rest) day x l o c = record { date = d; quarters = q; budget = b; rest = rest; is = refl; clear = o }
-way books (part.Block b ∷ rest) day x l o c = absurd o
-way books (part.Totals os ps ∷ rest) day x l o c = absurd o
+way books _ day x l o c = absurd o
 
 -- where a part stands in a publication that begins with it and those before it
 record Placed (books : Books) (day : DayCheck) (blocks : List Block) (x : Part) (p : Publication) : Type 0 where

@@ -31,9 +31,8 @@ refuted P b wrong test = (λ t. absurd (false≢true t), λ h. absurd (both_ways
 
 pub zip-to : {X Y Z : Type 0} (R : X → Y → Type 0) (f : X → Z) (g : Y → Z) → ((x : X) (y : Y) → R x y → f x ≡ g y) → (xs : List X) (ys : List Y) → AllZip R xs ys → map f xs ≡ map g ys
 zip-to R f g h [] [] a = refl
-zip-to R f g h [] (y ∷ ys) a = absurd a
-zip-to R f g h (x ∷ xs) [] a = absurd a
 zip-to R f g h (x ∷ xs) (y ∷ ys) a = ap (λ z. z ∷ map f xs) (h x y a.0) ∙ ap (λ zs. g y ∷ zs) (zip-to R f g h xs ys a.1)
+zip-to R f g h _ _ a = absurd a
 
 pub zip-from : {X Y Z : Type 0} (R : X → Y → Type 0) (f1 f2 : X → Z) (g1 g2 : Y → Z)
     → ((x : X) (y : Y) → f1 x ≡ g1 y → f2 x ≡ g2 y → R x y) → (xs : List X) (ys : List Y) → map f1 xs ≡ map g1 ys

@@ -98,4 +98,5 @@ pub record IsHeadFault (books : Books) (p : Publication) (run number : ℕ) : Ty
 
 -- the first run of a publication that has a fault, and its least fault
 abbrev pub IsFirstFault : Books → Publication → (run number : ℕ) → Type 0
-IsFirstFault books p run number = IsHeadFault books p run number ⊎ (IsBlockFault books p run number ⊎ (IsMissing books p run number ⊎ IsTotalsFault books p run number))
+IsFirstFault books p run number =
+    IsHeadFault books p run number ⊎ (IsBlockFault books p run number ⊎ (IsMissing books p run number ⊎ IsTotalsFault books p run number))

@@ -22,7 +22,8 @@ use Rattle.mari_check.specs.Faults.{IsFreeOf, IsLeast, NoneBelow, fault_number}
 -- activation and these prices
 abbrev pub IsReportedLedger : Books → RunMarket → (also : Option (List Cents)) → FullBlock → Activation → Prices → Option Ledger → Type 0
 IsReportedLedger books made also b a ps None = HasLedger books made also b → ⊥
-IsReportedLedger books made also b a ps (Some ledger) = HasLedger books made also b × IsRunOf books made also b (record { made = made; activation = a; prices = ps; ledger = ledger })
+IsReportedLedger books made also b a ps (Some ledger) =
+    HasLedger books made also b × IsRunOf books made also b (record { made = made; activation = a; prices = ps; ledger = ledger })
 
 -- before the tree is looked at, the least fault is reported where it is one of those before the tree's; or that none of these
 -- is there, with the activation and the prices that the block states
@@ -35,4 +36,5 @@ FindsBeforeTree books run made also budget b (before.Sound a ps) =
 abbrev pub ExaminesBlock : Books → (run : ℕ) → RunMarket → (also : Option (List Cents)) → (budget : Option ℕ) → FullBlock → Examined → Type 0
 ExaminesBlock books run made also budget b (Faulty least) = IsLeast (IsFreeOf books run made also budget b) least
 ExaminesBlock books run made also budget b (Sound a ps ledger) =
-    ((any : Fault) → IsFreeOf books run made also budget b any) × IsRunOf books made also b (record { made = made; activation = a; prices = ps; ledger = ledger })
+    ((any : Fault) → IsFreeOf books run made also budget b any)
+    × IsRunOf books made also b (record { made = made; activation = a; prices = ps; ledger = ledger })

@@ -32,7 +32,8 @@ IsRaiseIf false old from to new raised = (new ≡ old) × (raised ≡ false)
 -- values come from others by raising, one after the other, a zone's value to that of a zone that leads to it
 pub data Spreads (lead : ℕ → ℕ → Type 0) (old : List ℕ) : List ℕ → Type 0 where
   unchanged : Spreads lead old old
-  raised : (vs : List ℕ) (y z : ℕ) → Spreads lead old vs → lead y z → y < length vs → z < length vs → slice_index vs z < slice_index vs y → Spreads lead old (set vs z (slice_index vs y))
+  raised : (vs : List ℕ) (y z : ℕ) → Spreads lead old vs → lead y z → y < length vs → z < length vs → slice_index vs z < slice_index vs y
+      → Spreads lead old (set vs z (slice_index vs y))
 
 -- where a border leads, values don't fall
 abbrev pub IsClosedOver : Along → List ℕ → Border → ℤ → Type 0

@@ -210,7 +210,8 @@ fn has_leaves(
     requires valid { IsValid market.now }
     requires activation { activation.now ≡ activation_reported block.now }
     requires feasible { IsFeasible market.now activation.now }
-    ensures { IfOk result (λ holds. IsTrue holds ↔ TreeHoldsFor market.now (pos block.now.welfare) (gate_word_of market.now (activation_reported block.now)) block.now.tree) }
+    ensures { IfOk result (λ holds. IsTrue holds ↔ TreeHoldsFor market.now (pos block.now.welfare) (gate_word_of market.now (activation_reported block.now))
+        block.now.tree) }
 {
     let word = gate_word(market, activation);
     let cutoff = Quarters(i128::from(block.welfare));

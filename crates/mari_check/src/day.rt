@@ -86,7 +86,8 @@ impl DayCheck {
         requires accepted { IsAccepted books.now }
         requires last { run ≤ length books.now.runs.runs }
         requires stands { (blocks : List PrintedBlock) × IsChecked books.now blocks self.now × (run ≡ run_after blocks) }
-        ensures { (blocks : List PrintedBlock) → IsChecked books.now blocks self.now → run ≡ run_after blocks → IfOk result (TestsBlock books.now self.now.budget blocks block.now) }
+        ensures { (blocks : List PrintedBlock) → IsChecked books.now blocks self.now → run ≡ run_after blocks
+            → IfOk result (TestsBlock books.now self.now.budget blocks block.now) }
     {
         let made = self.progress.market_of(alloc, books, run)?;
         let also = self.progress.also(books, run);
@@ -115,8 +116,10 @@ impl DayCheck {
     ) -> Result<Option<Fault>, Memory>
         requires accepted { IsAccepted books.now }
         requires stands { (blocks : List PrintedBlock) × IsChecked books.now blocks self.old }
-        ensures finds { (blocks : List PrintedBlock) → IsChecked books.now blocks self.old → IfOk result (Finds (IsFreeIn books.now self.old.budget blocks (published_block block.now))) }
-        ensures stands { (blocks : List PrintedBlock) → IsChecked books.now blocks self.old → result ≡ Ok None → IsChecked books.now (blocks ++ published_block block.now ∷ []) self.new }
+        ensures finds { (blocks : List PrintedBlock) → IsChecked books.now blocks self.old
+            → IfOk result (Finds (IsFreeIn books.now self.old.budget blocks (published_block block.now))) }
+        ensures stands { (blocks : List PrintedBlock) → IsChecked books.now blocks self.old → result ≡ Ok None
+            → IsChecked books.now (blocks ++ published_block block.now ∷ []) self.new }
         ensures budget { self.new.budget ≡ self.old.budget }
         ensures same { OnErr result (self.new ≡ self.old) }
     {
@@ -150,7 +153,8 @@ impl DayCheck {
     fn test_unpublished(&self, books: &Books, reported: Heading, count: u32) -> Option<Fault>
         requires accepted { IsAccepted books.now }
         requires stands { (blocks : List PrintedBlock) × IsChecked books.now blocks self.now }
-        ensures { (blocks : List PrintedBlock) → IsChecked books.now blocks self.now → Finds (IsFreeIn books.now self.now.budget blocks (unpublished_block reported count)) result }
+        ensures { (blocks : List PrintedBlock) → IsChecked books.now blocks self.now
+            → Finds (IsFreeIn books.now self.now.budget blocks (unpublished_block reported count)) result }
     {
         if !self.is_next(books, reported) {
             return Some(Fault::Heading);
@@ -165,8 +169,10 @@ impl DayCheck {
     fn take_unpublished(&mut self, books: &Books, reported: Heading, count: u32) -> Option<Fault>
         requires accepted { IsAccepted books.now }
         requires stands { (blocks : List PrintedBlock) × IsChecked books.now blocks self.old }
-        ensures finds { (blocks : List PrintedBlock) → IsChecked books.now blocks self.old → Finds (IsFreeIn books.now self.old.budget blocks (unpublished_block reported count)) result }
-        ensures stands { (blocks : List PrintedBlock) → IsChecked books.now blocks self.old → result ≡ None → IsChecked books.now (blocks ++ unpublished_block reported count ∷ []) self.new }
+        ensures finds { (blocks : List PrintedBlock) → IsChecked books.now blocks self.old
+            → Finds (IsFreeIn books.now self.old.budget blocks (unpublished_block reported count)) result }
+        ensures stands { (blocks : List PrintedBlock) → IsChecked books.now blocks self.old → result ≡ None
+            → IsChecked books.now (blocks ++ unpublished_block reported count ∷ []) self.new }
         ensures budget { self.new.budget ≡ self.old.budget }
     {
         match self.test_unpublished(books, reported, count) {
@@ -182,8 +188,10 @@ impl DayCheck {
     fn take(&mut self, alloc: Global, books: &Books, block: &Block) -> Result<Option<Fault>, Memory>
         requires accepted { IsAccepted books.now }
         requires stands { (blocks : List PrintedBlock) × IsChecked books.now blocks self.old }
-        ensures finds { (blocks : List PrintedBlock) → IsChecked books.now blocks self.old → IfOk result (Finds (IsFreeIn books.now self.old.budget blocks block.now)) }
-        ensures stands { (blocks : List PrintedBlock) → IsChecked books.now blocks self.old → result ≡ Ok None → IsChecked books.now (blocks ++ block.now ∷ []) self.new }
+        ensures finds { (blocks : List PrintedBlock) → IsChecked books.now blocks self.old
+            → IfOk result (Finds (IsFreeIn books.now self.old.budget blocks block.now)) }
+        ensures stands { (blocks : List PrintedBlock) → IsChecked books.now blocks self.old → result ≡ Ok None
+            → IsChecked books.now (blocks ++ block.now ∷ []) self.new }
         ensures budget { self.new.budget ≡ self.old.budget }
         ensures same { OnErr result (self.new ≡ self.old) }
     {

@@ -151,7 +151,8 @@ impl Heights {
         requires prices { All IsCapped prices.now }
         requires least { length self.now.least.items ≡ length prices.now }
         requires greatest { length self.now.greatest.items ≡ length prices.now }
-        ensures { IsTrue result ↔ (AllZip (IsKept End.Least) prices.now self.now.least.items × AllZip (IsKept End.Greatest) prices.now self.now.greatest.items) }
+        ensures { IsTrue result ↔ (AllZip (IsKept End.Least) prices.now self.now.least.items
+            × AllZip (IsKept End.Greatest) prices.now self.now.greatest.items) }
     {
         are_kept(&self.least, prices, End::Least) && are_kept(&self.greatest, prices, End::Greatest)
     }

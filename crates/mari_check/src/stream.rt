@@ -35,7 +35,8 @@ impl DayCheck {
     fn part(&mut self, alloc: Global, books: &Books, part: &Part) -> Result<Option<Verdict>, Memory>
         requires accepted { IsAccepted books.now }
         requires comes { (parts : List ThePart) × IsOpen books.now parts self.old × Comes parts part.now }
-        ensures { (parts : List ThePart) → IsOpen books.now parts self.old → Comes parts part.now → IfOk result (IsVerdictSoFar books.now (parts ++ part.now ∷ []) self.new) }
+        ensures { (parts : List ThePart) → IsOpen books.now parts self.old → Comes parts part.now
+            → IfOk result (IsVerdictSoFar books.now (parts ++ part.now ∷ []) self.new) }
     {
         match part {
             Part::Head {

@@ -115,8 +115,10 @@ impl DayCheck {
     ) -> Result<Option<Verdict>, Memory>
         requires accepted { IsAccepted books.now }
         requires stands { (blocks : List PrintedBlock) × IsChecked books.now blocks self.old }
-        ensures states { (blocks : List PrintedBlock) → IsChecked books.now blocks self.old → IfOk result (BlockStates books.now self.old.budget blocks block.now) }
-        ensures stands { (blocks : List PrintedBlock) → IsChecked books.now blocks self.old → result ≡ Ok None → IsChecked books.now (blocks ++ block.now ∷ []) self.new }
+        ensures states { (blocks : List PrintedBlock) → IsChecked books.now blocks self.old
+            → IfOk result (BlockStates books.now self.old.budget blocks block.now) }
+        ensures stands { (blocks : List PrintedBlock) → IsChecked books.now blocks self.old → result ≡ Ok None
+            → IsChecked books.now (blocks ++ block.now ∷ []) self.new }
         ensures budget { self.new.budget ≡ self.old.budget }
     {
         let run = self.next_run();
@@ -135,7 +137,8 @@ impl DayCheck {
     ) -> Result<Option<Verdict>, Memory>
         requires accepted { IsAccepted books.now }
         requires stands { IsChecked books.now [] self.old }
-        ensures found { (p : ThePublication) → HasHead books.now p.date p.quarters → p.budget ≡ self.old.budget → p.blocks ≡ blocks.now → IfOk result (λ found. IfSome found (IsVerdict books.now p)) }
+        ensures found { (p : ThePublication) → HasHead books.now p.date p.quarters → p.budget ≡ self.old.budget → p.blocks ≡ blocks.now
+            → IfOk result (λ found. IfSome found (IsVerdict books.now p)) }
         ensures none { IfOk result (λ found. found ≡ None → IsChecked books.now blocks.now self.new) }
         ensures budget { self.new.budget ≡ self.old.budget }
     {

@@ -1,6 +1,6 @@
 -- What the words and the pages decide is what the outcome is, unless a fetch failed or there was no memory.
-use Rattle.std.proofs.Common.{◌≡◌, ◌∙◌, ◌⊎◌, inl, inr, ℕ, List, Global, Option, Some, None, ap, arith, refl, subst, sym}
-use Rattle.std.specs.Prelude.{◌≢◌, ◌≤◌, length, String, string_bytes, ⊤}
+use Rattle.std.proofs.Common.{◌≡◌, ◌∙◌, ◌⊎◌, inl, inr, ℕ, List, Option, Some, None, ap, arith, refl, subst, sym}
+use Rattle.std.specs.Prelude.{◌≢◌, ◌≤◌, length, ⊤}
 use Rattle.mari_units.specs.declared.faults.Refusal.{Refusal}
 use Rattle.mari_io.specs.declared.shelf.Fetch.TheVariants as fetch
 use Rattle.mari_io.specs.Outside.{Pages, page_of, most_given}
@@ -11,6 +11,7 @@ use Rattle.mari_remain.specs.declared.books.Books.{Books}
 use Rattle.mari_day.specs.Files.{Gap}
 use Rattle.mari_day.specs.Files.Gap.{NotHeld, OverLimit}
 use Rattle.mari_day.specs.Reading.{HasBooks, HasGap, HasRefusal}
+use Rattle.mari_day.proofs.Facts.{agree}
 use Rattle.mari_day.proofs.Facts.Fact.{Gives, Refuses, Lacks}
 use Rattle.mari_publish.specs.Paged.{IsReportedFault, IsTooLong}
 use Rattle.mari_publish.proofs.Paging.{long-none, no-fault-of-text, one-fault, reported-first}
@@ -18,17 +19,16 @@ use Rattle.mari_words.specs.Asked.{Asked}
 use Rattle.mari_capacity.specs.declared.ending.ValueEnd.TheVariants as values
 use Rattle.mari_words.specs.Asked.Asked.{Check, Migrate, Feed, Value}
 use Rattle.mari_words.specs.declared.command.FilePart.{FilePart}
-use Rattle.mari_commands.specs.declared.outcome.Job.{Job}
 use Rattle.mari_commands.specs.declared.outcome.Way.{Way}
 use Rattle.mari_commands.specs.declared.outcome.Outcome.{Outcome}
-use Rattle.mari_commands.specs.declared.outcome.Outcome.TheVariants.{NoCommand, Day, Feed as Feeds, Blocks as Joins, Values, Text, Invalid, NoPage, Refused, Memory as NoMemory}
-use Rattle.mari_commands.specs.Commands.{EndsValues, IsMigratable, IsReadable, LacksPage, ReadsFolder, RefusesFiles, RefusesText, already_two, fetch_of, publication_path, text_refusal}
+use Rattle.mari_commands.specs.declared.outcome.Outcome.TheVariants.{Text, Invalid, NoPage, Refused, Memory as NoMemory}
+use Rattle.mari_commands.specs.Commands.{EndsValues, IsMigratable, IsReadable, LacksPage, RefusesFiles, RefusesText, already_two, fetch_of, folder_of, publication_path, text_refusal}
 use Rattle.mari_commands.specs.Commands.LacksPage.{OfBooks as lacks-book, NoPublication as lacks-publication, LongPublication as lacks-long, NoFeed as lacks-feed, LongFeed as lacks-long-feed, OfValues as lacks-values}
 use Rattle.mari_commands.specs.Commands.RefusesFiles.{OfBooks as refuses-books, OfVersion as refuses-version}
-use Rattle.mari_commands.specs.Outcome.{CheckStates, IsMigrated, IsOfWords, IsReportedValues, Says}
-use Rattle.mari_commands.specs.Outcome.Says.{OfUsage, OfRefusal, OfGap, OfClear, OfCheck, OfMigrate, OfGenerate, OfValues, OfFeed, OfBlocks, Fails, Starves}
+use Rattle.mari_commands.specs.Outcome.{CheckStates, ComesOfBooks, IsDayOf, IsMigrated, IsReportedValues, Says, SaysOfFolder}
+use Rattle.mari_commands.specs.Outcome.SaysOfFolder.{OfRefusal, OfGap, OfBooks, Fails, Starves}
 use Rattle.mari_commands.specs.Splits.{command_by}
-use Rattle.mari_commands.proofs.Folder.{folder_by, no_other, one, one_way, reads, reads_no_folder, reads_none}
+use Rattle.mari_commands.proofs.Folder.{by-way, folder_by, of-folder, reads}
 
 -- a fetch failed, or there was no memory
 abbrev pub IsExcused : Outcome → Type 0
@@ -63,9 +63,6 @@ IsRefusal refusal o = o ≡ Refused refusal
 abbrev pub IsGapOf : Gap → Outcome → Type 0
 IsGapOf gap o = (k : ℕ) × (o ≡ NoPage k (fetch_of gap))
 
-abbrev pub IsDayOf : Way → Books → ℕ → Outcome → Type 0
-IsDayOf way books nodes o = (job : Job) × (o ≡ Day job) × (job.books ≡ books) × (job.nodes ≡ nodes) × (job.way ≡ way)
-
 -- why a publication that is printed as a feed can't be had
 abbrev pub IsFeedGap : Option (List ℕ) → Gap → Type 0
 IsFeedGap None NotHeld = ⊤
@@ -74,23 +71,35 @@ IsFeedGap (Some page) NotHeld = ⊥
 IsFeedGap (Some page) OverLimit = IsTooLong page
 
 module _ (asked : Option Asked) (pages : Pages) where
-  -- words that ask to check or to migrate ask for that alone
-  asks-one : (x y : Asked) → asked ≡ Some x → asked ≡ Some y → x ≡ y
-  asks-one x y e f = let same : Some x ≡ Some y = sym e ∙ f in cc
+  of-books : (o : Outcome) (refusal : Refusal) (folder : List ℕ) → HasRefusal pages folder refusal → SaysOfFolder asked pages folder o → Comes (IsRefusal refusal) o
+  of-books o refusal folder h (OfRefusal other k e) = inl (e ∙ ap (λ x. Refused x) (agree pages folder (Refuses other) (Refuses refusal) k h))
+  of-books o refusal folder h (OfGap n gap k e) = absurd (agree pages folder (Lacks n gap) (Refuses refusal) k h)
+  of-books o refusal folder h (OfBooks books k is) = absurd (agree pages folder (Gives books) (Refuses refusal) k h)
+  of-books o refusal folder h (Fails n e) = failed (IsRefusal refusal) o n e
+  of-books o refusal folder h (Starves e) = starving (IsRefusal refusal) o e
 
-  of-books : (o : Outcome) (refusal : Refusal) (folder : List ℕ) → IsOfWords asked o → Says asked pages o → ReadsFolder asked folder → HasRefusal pages folder refusal → Comes (IsRefusal refusal) o
-  of-books o refusal folder w (OfUsage e f) r h = absurd (reads_none asked folder e r)
-  of-books o refusal folder w (OfRefusal g other s k f) r h = inl (f ∙ ap (λ x. Refused x) (one asked pages g folder (Refuses other) (Refuses refusal) s r k h))
-  of-books o refusal folder w (OfGap g n gap s k f) r h = absurd (one asked pages g folder (Lacks n gap) (Refuses refusal) s r k h)
-  of-books o refusal folder w (OfClear g job e k f) r h = absurd (one asked pages g folder (Gives job.books) (Refuses refusal) (reads asked _ g e (folder_by job.way g job.nodes job.workers)) r k h)
-  of-books o refusal folder w (OfCheck g books e k states) r h = absurd (one asked pages g folder (Gives books) (Refuses refusal) (reads asked _ g e refl) r k h)
-  of-books o refusal folder w (OfMigrate g part books e k states) r h = absurd (one asked pages g folder (Gives books) (Refuses refusal) (reads asked _ g e refl) r k h)
-  of-books o refusal folder w (OfGenerate n e is) r h = absurd (reads_no_folder asked _ folder e refl r)
-  of-books o refusal folder w (OfValues g more books e k states) r h = absurd (one asked pages g folder (Gives books) (Refuses refusal) (reads asked _ g e refl) r k h)
-  of-books o refusal folder w (OfFeed x e f) r h = absurd (reads_no_folder asked _ folder e refl r)
-  of-books o refusal folder w (OfBlocks quarters e f) r h = absurd (reads_no_folder asked _ folder e refl r)
-  of-books o refusal folder w (Fails x n y e) r h = failed (IsRefusal refusal) o n e
-  of-books o refusal folder w (Starves e) r h = starving (IsRefusal refusal) o e
+  gap-of-books : (o : Outcome) (folder : List ℕ) (number : ℕ) (gap : Gap) → HasGap pages folder number gap → SaysOfFolder asked pages folder o → Comes (IsGapOf gap) o
+  gap-of-books o folder number gap h (OfRefusal other k e) = absurd (agree pages folder (Refuses other) (Lacks number gap) k h)
+  gap-of-books o folder number gap h (OfGap n x k e) = inl (n, e ∙ ap (λ y. NoPage n (fetch_of y)) (agree pages folder (Lacks n x) (Lacks number gap) k h))
+  gap-of-books o folder number gap h (OfBooks books k is) = absurd (agree pages folder (Gives books) (Lacks number gap) k h)
+  gap-of-books o folder number gap h (Fails n e) = failed (IsGapOf gap) o n e
+  gap-of-books o folder number gap h (Starves e) = starving (IsGapOf gap) o e
+
+  -- where a folder has books, that comes which the command says of them
+  pub books-come : (o : Outcome) (x : Asked) (folder : List ℕ) (books : Books) → asked ≡ Some x → folder_of x ≡ Some folder
+      → HasBooks pages folder books → Says asked pages o
+      → Comes (ComesOfBooks (Some x) pages folder books) o
+  books-come o x folder books e f h s = by (of-folder asked pages o folder (reads asked x folder e f) s)
+    where
+      by : SaysOfFolder asked pages folder o → Comes (ComesOfBooks (Some x) pages folder books) o
+      by (OfRefusal other k d) = absurd (agree pages folder (Refuses other) (Gives books) k h)
+      by (OfGap n gap k d) = absurd (agree pages folder (Lacks n gap) (Gives books) k h)
+      by (OfBooks other k is) =
+          let P : Option Asked → Type 0 = λ a. ComesOfBooks a pages folder books o in
+          let Q : Books → Type 0 = λ b. ComesOfBooks asked pages folder b o in
+          inl (subst P e (subst Q (agree pages folder (Gives other) (Gives books) k h) is))
+      by (Fails n d) = failed (ComesOfBooks (Some x) pages folder books) o n d
+      by (Starves d) = starving (ComesOfBooks (Some x) pages folder books) o d
 
   migrated-again : (o : Outcome) (refusal : Refusal) (part : FilePart) (books : Books) → IsMigrated books part o → books.limits ≢ None → refusal ≡ already_two → Comes (IsRefusal refusal) o
   migrated-again (Text t) refusal part books (first, spelled) again e = absurd (again first)
@@ -98,50 +107,15 @@ module _ (asked : Option Asked) (pages : Pages) where
   migrated-again NoMemory refusal part books is again e = inr tt
   migrated-again _ refusal part books is again e = absurd is
 
-  of-version : (o : Outcome) (refusal : Refusal) (folder : List ℕ) (part : FilePart) (books : Books)
-      → Says asked pages o → asked ≡ Some (Migrate folder part) → HasBooks pages folder books → books.limits ≢ None
-      → refusal ≡ already_two
-      → Comes (IsRefusal refusal) o
-  of-version o refusal folder part books (OfUsage e f) m h again same = absurd (cc)
-  of-version o refusal folder part books (OfRefusal g other s k f) m h again same = absurd (one asked pages g folder (Refuses other) (Gives books) s (reads asked _ folder m refl) k h)
-  of-version o refusal folder part books (OfGap g n gap s k f) m h again same = absurd (one asked pages g folder (Lacks n gap) (Gives books) s (reads asked _ folder m refl) k h)
-  of-version o refusal folder part books (OfClear g job e k f) m h again same = absurd (no_other asked job.way g job.nodes job.workers _ e m refl)
-  of-version o refusal folder part books (OfCheck g other e k states) m h again same = absurd (cc)
-  of-version o refusal folder part books (OfMigrate g other b e k states) m h again same =
-      let books-same : b ≡ books = one asked pages g folder (Gives b) (Gives books) (reads asked _ g e refl) (reads asked _ folder m refl) k h in
-      let P : Books → Type 0 = λ x. IsMigrated x other o in
-      migrated-again o refusal other books (subst P books-same states) again same
-  of-version o refusal folder part books (OfGenerate n e is) m h again same = absurd (cc)
-  of-version o refusal folder part books (OfValues g more b e k states) m h again same = absurd (cc)
-  of-version o refusal folder part books (OfFeed x e f) m h again same = absurd (cc)
-  of-version o refusal folder part books (OfBlocks quarters e f) m h again same = absurd (cc)
-  of-version o refusal folder part books (Fails x n y e) m h again same = failed (IsRefusal refusal) o n e
-  of-version o refusal folder part books (Starves e) m h again same = starving (IsRefusal refusal) o e
-
-  pub refusal-comes : (o : Outcome) (refusal : Refusal) → IsOfWords asked o → Says asked pages o → RefusesFiles asked pages refusal → Comes (IsRefusal refusal) o
-  refusal-comes o refusal w s (refuses-books folder r h) = of-books o refusal folder w s r h
-  refusal-comes o refusal w s (refuses-version folder part books m h again same) = of-version o refusal folder part books s m h again same
+  pub refusal-comes : (o : Outcome) (refusal : Refusal) → Says asked pages o → RefusesFiles asked pages refusal → Comes (IsRefusal refusal) o
+  refusal-comes o refusal s (refuses-books folder r h) = of-books o refusal folder h (of-folder asked pages o folder r s)
+  refusal-comes o refusal s (refuses-version folder part books m h again same) = elim (books-come o (Migrate folder part) folder books m refl h s)
+      [ inl is ↦ migrated-again o refusal part books is again same | inr e ↦ inr e ]
 
   -- what comes of the publication of a folder that is checked, which has these books
   checked-comes : (o : Outcome) (folder : List ℕ) (books : Books) → Says asked pages o → asked ≡ Some (Check folder) → HasBooks pages folder books
-      → CheckStates books (page_of pages (publication_path folder)) o ⊎ IsExcused o
-  checked-comes o folder books (OfUsage e f) c h = absurd (cc)
-  checked-comes o folder books (OfRefusal g other s k f) c h = absurd (one asked pages g folder (Refuses other) (Gives books) s (reads asked _ folder c refl) k h)
-  checked-comes o folder books (OfGap g n gap s k f) c h = absurd (one asked pages g folder (Lacks n gap) (Gives books) s (reads asked _ folder c refl) k h)
-  checked-comes o folder books (OfClear g job e k f) c h = absurd (no_other asked job.way g job.nodes job.workers _ e c refl)
-  checked-comes o folder books (OfCheck g other e k states) c h =
-      let books-same : other ≡ books = one asked pages g folder (Gives other) (Gives books) (reads asked _ g e refl) (reads asked _ folder c refl) k h in
-      let folder-same : g ≡ folder = let both : Check g ≡ Check folder = asks-one _ _ e c in cc in
-      let P : Books → Type 0 = λ x. CheckStates x (page_of pages (publication_path g)) o in
-      let Q : List ℕ → Type 0 = λ x. CheckStates books (page_of pages (publication_path x)) o in
-      inl (subst Q folder-same (subst P books-same states))
-  checked-comes o folder books (OfMigrate g part b e k states) c h = absurd (cc)
-  checked-comes o folder books (OfGenerate n e is) c h = absurd (cc)
-  checked-comes o folder books (OfValues g more b e k states) c h = absurd (cc)
-  checked-comes o folder books (OfFeed x e f) c h = absurd (cc)
-  checked-comes o folder books (OfBlocks quarters e f) c h = absurd (cc)
-  checked-comes o folder books (Fails x n y e) c h = inr (subst IsExcused (sym e) tt)
-  checked-comes o folder books (Starves e) c h = inr (subst IsExcused (sym e) tt)
+      → Comes (CheckStates books (page_of pages (publication_path folder))) o
+  checked-comes o folder books s c h = books-come o (Check folder) folder books c refl h s
 
   -- the fault that is reported of its text
   text-refused : (o : Outcome) (books : Books) (page : List ℕ) (f : TextFault) → CheckStates books (Some page) o → IsReportedFault page f → Comes (IsRefusal (text_refusal f)) o
@@ -159,35 +133,15 @@ module _ (asked : Option Asked) (pages : Pages) where
   text-comes o page f s r = elim (checked-comes o r.checked.folder r.books s r.checked.check r.checked.gives)
       [ inl states ↦ (let P : Option (List ℕ) → Type 0 = λ x. CheckStates r.books x o in text-refused o r.books page f (subst P r.checked.held states) r.reported) | inr e ↦ inr e ]
 
-  gap-of-books : (o : Outcome) (folder : List ℕ) (number : ℕ) (gap : Gap) → Says asked pages o → ReadsFolder asked folder → HasGap pages folder number gap → Comes (IsGapOf gap) o
-  gap-of-books o folder number gap (OfUsage e f) r h = absurd (reads_none asked folder e r)
-  gap-of-books o folder number gap (OfRefusal g other s k f) r h = absurd (one asked pages g folder (Refuses other) (Lacks number gap) s r k h)
-  gap-of-books o folder number gap (OfGap g n x s k f) r h = inl (n, f ∙ ap (λ y. NoPage n (fetch_of y)) (one asked pages g folder (Lacks n x) (Lacks number gap) s r k h))
-  gap-of-books o folder number gap (OfClear g job e k f) r h =
-      absurd (one asked pages g folder (Gives job.books) (Lacks number gap) (reads asked _ g e (folder_by job.way g job.nodes job.workers)) r k h)
-  gap-of-books o folder number gap (OfCheck g books e k states) r h = absurd (one asked pages g folder (Gives books) (Lacks number gap) (reads asked _ g e refl) r k h)
-  gap-of-books o folder number gap (OfMigrate g part books e k states) r h = absurd (one asked pages g folder (Gives books) (Lacks number gap) (reads asked _ g e refl) r k h)
-  gap-of-books o folder number gap (OfGenerate n e is) r h = absurd (reads_no_folder asked _ folder e refl r)
-  gap-of-books o folder number gap (OfValues g more books e k states) r h = absurd (one asked pages g folder (Gives books) (Lacks number gap) (reads asked _ g e refl) r k h)
-  gap-of-books o folder number gap (OfFeed x e f) r h = absurd (reads_no_folder asked _ folder e refl r)
-  gap-of-books o folder number gap (OfBlocks quarters e f) r h = absurd (reads_no_folder asked _ folder e refl r)
-  gap-of-books o folder number gap (Fails x n y e) r h = failed (IsGapOf gap) o n e
-  gap-of-books o folder number gap (Starves e) r h = starving (IsGapOf gap) o e
-
   not-held : (o : Outcome) (books : Books) → CheckStates books None o → Comes (IsGapOf NotHeld) o
-  not-held NoCommand books states = absurd states
-  not-held (Day job) books states = absurd states
-  not-held (Feeds folder) books states = absurd states
-  not-held (Joins quarters) books states = absurd states
-  not-held (Values v) books states = absurd states
   not-held (Text t) books (m, u, states, spelled) = absurd states
-  not-held (Invalid run n) books states = absurd states
   not-held (NoPage n fetch.Failed) books states = inr tt
   not-held (NoPage n fetch.Missing) books states = inl (n, refl)
   not-held (NoPage n fetch.TooLong) books (long, number) = absurd long
   not-held (NoPage n fetch.Memory) books states = inr tt
   not-held (Refused refusal) books (f, bad, is) = absurd bad
   not-held NoMemory books states = inr tt
+  not-held _ books states = absurd states
 
   too-long : (o : Outcome) (books : Books) (page : List ℕ) → CheckStates books (Some page) o → IsTooLong page → Comes (IsGapOf OverLimit) o
   too-long (Text t) books page (m, u, (short, (p, read, valid)), spelled) long = absurd (omega (arith, long.longer, short))
@@ -207,7 +161,7 @@ module _ (asked : Option Asked) (pages : Pages) where
       ⊎ (((folder : List ℕ) × (asked ≡ Some (Feed folder)) × IsFeedGap (page_of pages (publication_path folder)) gap) ⊎ EndsValues asked pages (values.Fetch (fetch_of gap)))
 
   pub gap-comes : (o : Outcome) (number : ℕ) (gap : Gap) → Says asked pages o → LacksPage asked pages number gap → IsOfFiles number gap o
-  gap-comes o number gap s (lacks-book folder r h) = inl (gap-of-books o folder number gap s r h)
+  gap-comes o number gap s (lacks-book folder r h) = inl (gap-of-books o folder number gap h (of-folder asked pages o folder r s))
   gap-comes o number gap s (lacks-publication folder books c h none n is) = inl (elim (checked-comes o folder books s c h)
       [ inl states ↦ (let P : Option (List ℕ) → Type 0 = λ x. CheckStates books x o in let Q : Gap → Type 0 = λ x. Comes (IsGapOf x) o in subst Q (sym is) (not-held o books (subst P none states))) | inr e ↦ inr e ])
   gap-comes o number gap s (lacks-long books page has long n is) = inl (elim (checked-comes o has.folder books s has.check has.gives)
@@ -222,45 +176,11 @@ module _ (asked : Option Asked) (pages : Pages) where
       inr (inl (has.folder, has.feed, subst Q (sym is) (subst P (sym has.held) long)))
   gap-comes o number gap s (lacks-values ends n) = inr (inr ends)
 
-  -- a publication that is printed as a feed
-  pub feed-comes : (o : Outcome) (folder : List ℕ) → Says asked pages o → asked ≡ Some (Feed folder) → ((x : String Global) × (string_bytes x ≡ folder) × (o ≡ Feeds x)) ⊎ IsExcused o
-  feed-comes o folder (OfUsage e f) c = absurd (cc)
-  feed-comes o folder (OfRefusal g other s k f) c = absurd (reads_no_folder asked (Feed folder) g c refl s)
-  feed-comes o folder (OfGap g n gap s k f) c = absurd (reads_no_folder asked (Feed folder) g c refl s)
-  feed-comes o folder (OfClear g job e k f) c = absurd (no_other asked job.way g job.nodes job.workers _ e c refl)
-  feed-comes o folder (OfCheck g other e k states) c = absurd (cc)
-  feed-comes o folder (OfMigrate g part b e k states) c = absurd (cc)
-  feed-comes o folder (OfGenerate n e is) c = absurd (cc)
-  feed-comes o folder (OfValues g more b e k states) c = absurd (cc)
-  feed-comes o folder (OfBlocks quarters e f) c = absurd (cc)
-  feed-comes o folder (OfFeed x e f) c = let both : Feed (string_bytes x) ≡ Feed folder = asks-one _ _ e c in inl (x, (cc), f)
-  feed-comes o folder (Fails x n y e) c = absurd (reads_no_folder asked (Feed folder) x c refl y)
-  feed-comes o folder (Starves e) c = inr (subst IsExcused (sym e) tt)
-
   -- a publication that is valued
   pub values-come : (o : Outcome) (folder : List ℕ) (more : ℕ) (books : Books) → Says asked pages o
       → asked ≡ Some (Value folder more) → HasBooks pages folder books
-      → IsReportedValues books more (page_of pages (publication_path folder)) o ⊎ IsExcused o
-  values-come o folder more books (OfUsage e f) c h = absurd (cc)
-  values-come o folder more books (OfRefusal g other s k f) c h = absurd (one asked pages g folder (Refuses other) (Gives books) s (reads asked _ folder c refl) k h)
-  values-come o folder more books (OfGap g n gap s k f) c h = absurd (one asked pages g folder (Lacks n gap) (Gives books) s (reads asked _ folder c refl) k h)
-  values-come o folder more books (OfClear g job e k f) c h = absurd (no_other asked job.way g job.nodes job.workers _ e c refl)
-  values-come o folder more books (OfCheck g other e k states) c h = absurd (cc)
-  values-come o folder more books (OfMigrate g part b e k states) c h = absurd (cc)
-  values-come o folder more books (OfGenerate n e is) c h = absurd (cc)
-  values-come o folder more books (OfValues g m other e k states) c h =
-      let books-same : other ≡ books = one asked pages g folder (Gives other) (Gives books) (reads asked _ g e refl) (reads asked _ folder c refl) k h in
-      let both : Value g m ≡ Value folder more = asks-one _ _ e c in
-      let folder-same : g ≡ folder = cc in
-      let more-same : m ≡ more = cc in
-      let P : Books → Type 0 = λ x. IsReportedValues x m (page_of pages (publication_path g)) o in
-      let Q : ℕ → Type 0 = λ x. IsReportedValues books x (page_of pages (publication_path g)) o in
-      let R : List ℕ → Type 0 = λ x. IsReportedValues books more (page_of pages (publication_path x)) o in
-      inl (subst R folder-same (subst Q more-same (subst P books-same states)))
-  values-come o folder more books (OfFeed x e f) c h = absurd (cc)
-  values-come o folder more books (OfBlocks quarters e f) c h = absurd (cc)
-  values-come o folder more books (Fails x n y e) c h = inr (subst IsExcused (sym e) tt)
-  values-come o folder more books (Starves e) c h = inr (subst IsExcused (sym e) tt)
+      → Comes (IsReportedValues books more (page_of pages (publication_path folder))) o
+  values-come o folder more books s c h = books-come o (Value folder more) folder books c refl h s
 
   -- a publication that is read
   verdict-of : (o : Outcome) (books : Books) (page : List ℕ) (p : Publication) → CheckStates books (Some page) o → IsText page p → length page ≤ most_given → Comes IsAVerdict o
@@ -286,39 +206,11 @@ module _ (asked : Option Asked) (pages : Pages) where
   migrated-once _ part books is first = absurd is
 
   pub migrated-comes : (o : Outcome) → Says asked pages o → IsMigratable asked pages → Comes IsAText o
-  migrated-comes o (OfUsage e f) m = absurd (let x = m.migrate in cc)
-  migrated-comes o (OfRefusal g other s k f) m = absurd (one asked pages g m.folder (Refuses other) (Gives m.books) s (reads asked _ m.folder m.migrate refl) k m.gives)
-  migrated-comes o (OfGap g n gap s k f) m = absurd (one asked pages g m.folder (Lacks n gap) (Gives m.books) s (reads asked _ m.folder m.migrate refl) k m.gives)
-  migrated-comes o (OfClear g job e k f) m = absurd (no_other asked job.way g job.nodes job.workers _ e m.migrate refl)
-  migrated-comes o (OfCheck g other e k states) m = absurd (let x = m.migrate in cc)
-  migrated-comes o (OfMigrate g part b e k states) m =
-      let books-same : b ≡ m.books = one asked pages g m.folder (Gives b) (Gives m.books) (reads asked _ g e refl) (reads asked _ m.folder m.migrate refl) k m.gives in
-      let P : Books → Type 0 = λ x. IsMigrated x part o in
-      migrated-once o part m.books (subst P books-same states) m.first
-  migrated-comes o (OfGenerate n e is) m = absurd (let x = m.migrate in cc)
-  migrated-comes o (OfValues g more b e k states) m = absurd (let y = m.migrate in cc)
-  migrated-comes o (OfFeed x e f) m = absurd (let y = m.migrate in cc)
-  migrated-comes o (OfBlocks quarters e f) m = absurd (let y = m.migrate in cc)
-  migrated-comes o (Fails x n y e) m = failed IsAText o n e
-  migrated-comes o (Starves e) m = starving IsAText o e
+  migrated-comes o s m = elim (books-come o (Migrate m.folder m.part) m.folder m.books m.migrate refl m.gives s)
+      [ inl is ↦ migrated-once o m.part m.books is m.first | inr e ↦ inr e ]
 
   pub day-comes : (o : Outcome) (way : Way) (folder : List ℕ) (nodes workers : ℕ) (books : Books) → Says asked pages o
       → asked ≡ Some (command_by way folder nodes workers) → HasBooks pages folder books
-      → Comes (IsDayOf way books nodes) o
-  day-comes o way folder nodes workers books (OfUsage e f) c h = absurd (cc)
-  day-comes o way folder nodes workers books (OfRefusal g other s k f) c h =
-      absurd (one asked pages g folder (Refuses other) (Gives books) s (reads asked _ folder c (folder_by way folder nodes workers)) k h)
-  day-comes o way folder nodes workers books (OfGap g n gap s k f) c h =
-      absurd (one asked pages g folder (Lacks n gap) (Gives books) s (reads asked _ folder c (folder_by way folder nodes workers)) k h)
-  day-comes o way folder nodes workers books (OfClear g job e k f) c h =
-      let same = one_way job.way way g folder job.nodes nodes job.workers workers (asks-one _ _ e c) in
-      inl
-      (job, f, one asked pages g folder (Gives job.books) (Gives books) (reads asked _ g e (folder_by job.way g job.nodes job.workers)) (reads asked _ folder c (folder_by way folder nodes workers)) k h, same.nodes, same.way)
-  day-comes o way folder nodes workers books (OfCheck g other e k states) c h = absurd (no_other asked way folder nodes workers _ c e refl)
-  day-comes o way folder nodes workers books (OfMigrate g part b e k states) c h = absurd (no_other asked way folder nodes workers _ c e refl)
-  day-comes o way folder nodes workers books (OfGenerate n e is) c h = absurd (no_other asked way folder nodes workers _ c e refl)
-  day-comes o way folder nodes workers books (OfValues g more b e k states) c h = absurd (no_other asked way folder nodes workers _ c e refl)
-  day-comes o way folder nodes workers books (OfFeed x e f) c h = absurd (no_other asked way folder nodes workers _ c e refl)
-  day-comes o way folder nodes workers books (OfBlocks quarters e f) c h = absurd (no_other asked way folder nodes workers _ c e refl)
-  day-comes o way folder nodes workers books (Fails x n y e) c h = failed (IsDayOf way books nodes) o n e
-  day-comes o way folder nodes workers books (Starves e) c h = starving (IsDayOf way books nodes) o e
+      → Comes (IsDayOf way books nodes workers) o
+  day-comes o way folder nodes workers books s c h = elim (books-come o (command_by way folder nodes workers) folder books c (folder_by way folder nodes workers) h s)
+      [ inl is ↦ inl (by-way way pages folder books nodes workers o is) | inr e ↦ inr e ]

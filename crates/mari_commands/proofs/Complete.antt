@@ -30,6 +30,7 @@ use Rattle.mari_capacity.specs.Streams.{EndsAs}
 use Rattle.mari_split.specs.Split.{HoldsIslands}
 use Rattle.mari_split.proofs.Enough.{all_published}
 use Rattle.mari_words.specs.Asked.Asked.{Feed}
+use Rattle.mari_commands.specs.declared.outcome.Job.{Job}
 use Rattle.mari_commands.specs.declared.outcome.Way.{Way}
 use Rattle.mari_commands.specs.declared.outcome.Way.TheVariants.{Whole, Islands}
 use Rattle.mari_commands.specs.declared.outcome.Outcome.{Outcome}
@@ -38,23 +39,18 @@ use Rattle.mari_answers.specs.declared.status.Status.{Status}
 use Rattle.mari_answers.specs.declared.status.Status.TheVariants as status
 use Rattle.mari_commands.specs.Commands.{EndsValues, HasBooksToClear, IsFeedable, IsMigratable, IsReadable, LacksPage, RefusesFeed, RefusesFiles, RefusesText, fetch_of, publication_path, text_refusal}
 use Rattle.mari_commands.specs.Headline.{HasBudget}
-use Rattle.mari_commands.specs.Outcome.{IsOfWords, IsReportedValues, Reported, ReportsFeed, ReportsParts, ReportsText, Says, day_status}
+use Rattle.mari_commands.specs.Outcome.{IsDayOf, IsFeedOf, IsReportedValues, Reported, ReportsDay, ReportsFeed, ReportsParts, ReportsText, Says, day_status}
 use Rattle.mari_answers.specs.Reports.{Reports}
-use Rattle.mari_answers.specs.Reports.Reports.{Printed, CutOff, Starved}
 use Rattle.mari_answers.specs.Lines.{file_line, invalid_line, refused_line}
 use Rattle.mari_commands.specs.Program.{IsDayStatus, IsStatus, IsVerdictStatus, OrFault, gap_status}
 use Rattle.mari_commands.specs.Splits.{EndsBy, HasIslandBudget, IsSplittable}
 use Rattle.mari_commands.specs.Values.{value_line, value_status}
-use Rattle.mari_commands.proofs.Comes.{Comes, IsAText, IsAVerdict, IsDayOf, IsExcused, IsFeedGap, IsGapOf, IsRefusal, day-comes, feed-comes, gap-comes, migrated-comes, refusal-comes, text-comes, values-come, verdict-comes}
+use Rattle.mari_commands.proofs.Reporting.{or-fault}
+use Rattle.mari_commands.proofs.Comes.{Comes, IsAText, IsAVerdict, IsExcused, IsFeedGap, IsGapOf, IsRefusal, day-comes, gap-comes, migrated-comes, refusal-comes, text-comes, values-come, verdict-comes}
 
 module _ (shown : Option Pages) (late : Type 0) (before after : Option (List ℕ)) (result : Status) where
-  pub of-line : (Q : Status → Type 0) (text : List ℕ) (wanted : Status) → Reports text wanted before after result → OrFault Q wanted → OrFault Q result
-  of-line Q text wanted (Printed e p) h = let P : Status → Type 0 = λ x. OrFault Q x in subst P (sym e) h
-  of-line Q text wanted (CutOff e p) h = inr (inr (inl e))
-  of-line Q text wanted (Starved e p) h = inr (inr (inr e))
-
   pub excused : (Q : Status → Type 0) (o : Outcome) → IsExcused o → Reported shown late o before after result → OrFault Q result
-  excused Q (NoPage k fetch.Failed) x r = of-line Q (file_line (codes "readfault") k) status.ReadFault r (inr (inl refl))
+  excused Q (NoPage k fetch.Failed) x r = or-fault before after result Q (file_line (codes "readfault") k) status.ReadFault r (inr (inl refl))
   excused Q (NoPage k fetch.Memory) x r = inr (inr (inr r.0))
   excused Q NoMemory x r = inr (inr (inr r.0))
   excused Q _ x r = absurd x
@@ -63,19 +59,19 @@ module _ (shown : Option Pages) (late : Type 0) (before after : Option (List ℕ
   same-report o p e r = let P : Outcome → Type 0 = λ x. Reported shown late x before after result in subst P e r
 
   refused-answer : (o : Outcome) (refusal : Refusal) → Comes (IsRefusal refusal) o → Reported shown late o before after result → OrFault (IsStatus (status.Refused refusal)) result
-  refused-answer o refusal (inl e) r = of-line (IsStatus (status.Refused refusal)) (refused_line refusal) (status.Refused refusal) (same-report o (Refused refusal) e r) (inl refl)
+  refused-answer o refusal (inl e) r = or-fault before after result (IsStatus (status.Refused refusal)) (refused_line refusal) (status.Refused refusal) (same-report o (Refused refusal) e r) (inl refl)
   refused-answer o refusal (inr x) r = excused (IsStatus (status.Refused refusal)) o x r
 
   gap-report : (k : ℕ) (gap : Gap) → Reported shown late (NoPage k (fetch_of gap)) before after result → OrFault (IsStatus (gap_status gap)) result
-  gap-report k NotHeld r = of-line (IsStatus status.Missing) (file_line (codes "missing") k) status.Missing r (inl refl)
-  gap-report k OverLimit r = of-line (IsStatus status.TooLong) (file_line (codes "toolong") k) status.TooLong r (inl refl)
+  gap-report k NotHeld r = or-fault before after result (IsStatus status.Missing) (file_line (codes "missing") k) status.Missing r (inl refl)
+  gap-report k OverLimit r = or-fault before after result (IsStatus status.TooLong) (file_line (codes "toolong") k) status.TooLong r (inl refl)
 
   gap-of-answer : (o : Outcome) (gap : Gap) → Comes (IsGapOf gap) o → Reported shown late o before after result → OrFault (IsStatus (gap_status gap)) result
   gap-of-answer o gap (inl (k, e)) r = gap-report k gap (same-report o (NoPage k (fetch_of gap)) e r)
   gap-of-answer o gap (inr x) r = excused (IsStatus (gap_status gap)) o x r
 
   text-report : (o : Outcome) → IsAText o → Reported shown late o before after result → OrFault (IsStatus status.Done) result
-  text-report (Text t) x r = of-line (IsStatus status.Done) t.items status.Done r (inl refl)
+  text-report (Text t) x r = or-fault before after result (IsStatus status.Done) t.items status.Done r (inl refl)
   text-report _ x r = absurd x
 
   text-of-answer : (o : Outcome) → Comes IsAText o → Reported shown late o before after result → OrFault (IsStatus status.Done) result
@@ -83,8 +79,8 @@ module _ (shown : Option Pages) (late : Type 0) (before after : Option (List ℕ
   text-of-answer o (inr x) r = excused (IsStatus status.Done) o x r
 
   verdict-report : (o : Outcome) → IsAVerdict o → Reported shown late o before after result → OrFault IsVerdictStatus result
-  verdict-report (Text t) x r = of-line IsVerdictStatus t.items status.Done r (inl (inl refl))
-  verdict-report (Invalid run n) x r = of-line IsVerdictStatus (invalid_line run n) (status.Invalid run n) r (inl (inr (run, n, refl)))
+  verdict-report (Text t) x r = or-fault before after result IsVerdictStatus t.items status.Done r (inl (inl refl))
+  verdict-report (Invalid run n) x r = or-fault before after result IsVerdictStatus (invalid_line run n) (status.Invalid run n) r (inl (inr (run, n, refl)))
   verdict-report _ x r = absurd x
 
   verdict-of-answer : (o : Outcome) → Comes IsAVerdict o → Reported shown late o before after result → OrFault IsVerdictStatus result
@@ -100,9 +96,11 @@ module _ (shown : Option Pages) (late : Type 0) (before after : Option (List ℕ
   ended end.WriteFault = inr (inr (inl refl))
   ended end.Memory = inr (inr (inr refl))
 
-  day-of-answer : (o : Outcome) (way : Way) (books : Books) (nodes : ℕ) → Comes (IsDayOf way books nodes) o → Reported shown late o before after result → OrFault IsDayStatus result
-  day-of-answer o way books nodes (inl (job, e, b, n, w)) r = let d = same-report o (Day job) e r in let P : Status → Type 0 = λ x. OrFault IsDayStatus x in subst P (sym d.status) (ended d.ended)
-  day-of-answer o way books nodes (inr x) r = excused IsDayStatus o x r
+  day-of-answer : (o : Outcome) (way : Way) (books : Books) (nodes workers : ℕ) → Comes (IsDayOf way books nodes workers) o
+      → Reported shown late o before after result → OrFault IsDayStatus result
+  day-of-answer (Day job) way books nodes workers (inl is) r = let P : Status → Type 0 = λ x. OrFault IsDayStatus x in subst P (sym r.status) (ended r.ended)
+  day-of-answer o way books nodes workers (inr x) r = excused IsDayStatus o x r
+  day-of-answer _ way books nodes workers (inl is) r = absurd is
 
   -- the budget holds the search tree of each market that is cleared in this way
   abbrev IsEnoughBy : Way → Books → (nodes : ℕ) → Type 0
@@ -119,17 +117,16 @@ module _ (shown : Option Pages) (late : Type 0) (before after : Option (List ℕ
   whole-end way end.WriteFault books nodes w enough = inr (inr (inl refl))
   whole-end way end.Memory books nodes w enough = inr (inr (inr refl))
 
-  whole-answer : (o : Outcome) (way : Way) (books : Books) (nodes : ℕ) → IsEnoughBy way books nodes
-      → Comes (IsDayOf way books nodes) o → Reported shown late o before after result
+  whole-answer : (o : Outcome) (way : Way) (books : Books) (nodes workers : ℕ) → IsEnoughBy way books nodes
+      → Comes (IsDayOf way books nodes workers) o → Reported shown late o before after result
       → OrFault (IsStatus status.Done) result
-  whole-answer o way books nodes enough (inl (job, e, b, n, w)) r =
-      let d = same-report o (Day job) e r in
-      let B : Books → Type 0 = λ x. IsEnoughBy job.way x job.nodes in
-      let N : ℕ → Type 0 = λ x. IsEnoughBy job.way books x in
-      let W : Way → Type 0 = λ x. IsEnoughBy x books nodes in
-      let P : Status → Type 0 = λ x. OrFault (IsStatus status.Done) x in
-      subst P (sym d.status) (whole-end job.way d.ended job.books job.nodes d.ends (subst B (sym b) (subst N (sym n) (subst W (sym w) enough))))
-  whole-answer o way books nodes enough (inr x) r = excused (IsStatus status.Done) o x r
+  whole-answer (Day job) way books nodes workers enough (inl is) r =
+      let P : Job → Type 0 = λ j. ReportsDay j before after result in
+      let S : Status → Type 0 = λ x. OrFault (IsStatus status.Done) x in
+      let d : ReportsDay (record { books = books; way = way; nodes = nodes; workers = workers }) before after result = subst P is r in
+      subst S (sym d.status) (whole-end way d.ended books nodes d.ends enough)
+  whole-answer o way books nodes workers enough (inr x) r = excused (IsStatus status.Done) o x r
+  whole-answer _ way books nodes workers enough (inl is) r = absurd is
 
   -- how the values of limits end, by their page
   values-report : (o : Outcome) (books : Books) (more : ℕ) (page : Option (List ℕ)) (end : ValueEnd)
@@ -138,22 +135,18 @@ module _ (shown : Option Pages) (late : Type 0) (before after : Option (List ℕ
   values-report (Values v) books more page end states is r = by (states.1 end is)
     where
       by : EndsAs end v → OrFault (IsStatus (value_status end)) result
-      by (inl e) = of-line (IsStatus (value_status end)) (v.text ++ value_line v.end) (value_status v.end) r (inl (ap value_status e))
-      by (inr e) = of-line (IsStatus (value_status end)) (v.text ++ value_line v.end) (value_status v.end) r (inr (inl (ap value_status e)))
+      by (inl e) = or-fault before after result (IsStatus (value_status end)) (v.text ++ value_line v.end) (value_status v.end) r (inl (ap value_status e))
+      by (inr e) = or-fault before after result (IsStatus (value_status end)) (v.text ++ value_line v.end) (value_status v.end) r (inr (inl (ap value_status e)))
   values-report NoMemory books more page end states is r = inr (inr (inr r.0))
   values-report _ books more page end states is r = absurd states
 
   -- how a feed ends, by its page
   module _ (Q : Status → Type 0) (between : Option (List ℕ)) where
     fetch-failed : Reports (file_line (codes "readfault") PUBLICATION) status.ReadFault between after result → OrFault Q result
-    fetch-failed (Printed e p) = inr (inl e)
-    fetch-failed (CutOff e p) = inr (inr (inl e))
-    fetch-failed (Starved e p) = inr (inr (inr e))
+    fetch-failed r = or-fault between after result Q (file_line (codes "readfault") PUBLICATION) status.ReadFault r (inr (inl refl))
 
     wanted : (text : List ℕ) (w : Status) → Q w → Reports text w between after result → OrFault Q result
-    wanted text w q (Printed e p) = inl (subst Q (sym e) q)
-    wanted text w q (CutOff e p) = inr (inr (inl e))
-    wanted text w q (Starved e p) = inr (inr (inr e))
+    wanted text w q r = or-fault between after result Q text w r (inl q)
 
   fault-report : (f : TextFault) (between : Option (List ℕ)) → ReportsText f between after result → OrFault (IsStatus (status.Refused (text_refusal f))) result
   fault-report (text_fault.BadLine n) between r =
@@ -172,27 +165,25 @@ module _ (shown : Option Pages) (late : Type 0) (before after : Option (List ℕ
       → ReportsFeed end between after result → OrFault (IsStatus (status.Refused (text_refusal f))) result
   fed-refused page f bad between (Ok end) (short, took) r = absurd (no-fault-of-text page took.publication f took.is (reported-first page f bad))
   fed-refused page f bad between (Err (stop.Fetch fetch.Failed)) t r = fetch-failed (IsStatus (status.Refused (text_refusal f))) between r
-  fed-refused page f bad between (Err (stop.Fetch fetch.Missing)) t r = absurd t
   fed-refused page f bad between (Err (stop.Fetch fetch.TooLong)) t r = absurd (long-none page f t.0 bad)
-  fed-refused page f bad between (Err (stop.Fetch fetch.Memory)) t r = absurd t
   fed-refused page f bad between (Err (stop.Text g)) t r =
       let same : g ≡ f = one-fault page g f (reported-first page g t.0) (reported-first page f bad) in
       let P : TextFault → Type 0 = λ x. OrFault (IsStatus (status.Refused (text_refusal x))) result in
       subst P same (fault-report g between r)
   fed-refused page f bad between (Err stop.Sink) t r = inr (inr (inl r.0))
   fed-refused page f bad between (Err stop.Memory) t r = inr (inr (inr r.0))
+  fed-refused page f bad between _ t r = absurd t
 
   fed-whole : (page : List ℕ) (p : Publication) → IsText page p → length page ≤ most_given
       → (between : Option (List ℕ)) (end : Result (Unit {0}) FeedStop) → FeedStates (Some page) before between end
       → ReportsFeed end between after result → OrFault (IsStatus status.Done) result
   fed-whole page p is short between (Ok end) t r = inl r.0
   fed-whole page p is short between (Err (stop.Fetch fetch.Failed)) t r = fetch-failed (IsStatus status.Done) between r
-  fed-whole page p is short between (Err (stop.Fetch fetch.Missing)) t r = absurd t
   fed-whole page p is short between (Err (stop.Fetch fetch.TooLong)) t r = absurd (let long = t.0.longer in omega (arith, long, short))
-  fed-whole page p is short between (Err (stop.Fetch fetch.Memory)) t r = absurd t
   fed-whole page p is short between (Err (stop.Text g)) t r = absurd (no-fault-of-text page p g is (reported-first page g t.0))
   fed-whole page p is short between (Err stop.Sink) t r = inr (inr (inl r.0))
   fed-whole page p is short between (Err stop.Memory) t r = inr (inr (inr r.0))
+  fed-whole page p is short between _ t r = absurd t
 
   fed-gap : (page : Option (List ℕ)) (gap : Gap) → IsFeedGap page gap
       → (between : Option (List ℕ)) (end : Result (Unit {0}) FeedStop) → FeedStates page before between end
@@ -210,18 +201,20 @@ module _ (shown : Option Pages) (late : Type 0) (before after : Option (List ℕ
   fed-gap (Some page) OverLimit g between (Err stop.Memory) t r = inr (inr (inr r.0))
   fed-gap _ _ g between _ t r = absurd t
 
-  module _ (asked : Option Asked) (pages : Pages) (is_shown : shown ≡ Some pages) (o : Outcome) (words : IsOfWords asked o) (says : Says asked pages o) (reported : Reported shown late o before after result) where
+  module _ (asked : Option Asked) (pages : Pages) (is_shown : shown ≡ Some pages) (o : Outcome) (says : Says asked pages o) (reported : Reported shown late o before after result) where
     -- what is said of the publication that is printed as a feed
     fed-by : (Q : Status → Type 0) (folder : List ℕ) → asked ≡ Some (Feed folder)
         → ((between : Option (List ℕ)) (end : Result (Unit {0}) FeedStop) → FeedStates (page_of pages (publication_path folder)) before between end → ReportsFeed end between after result → OrFault Q result)
         → OrFault Q result
-    fed-by Q folder feed ends = elim (feed-comes asked pages o folder says feed) [
-      | inl found ↦
-          let parts : ReportsParts shown late (string_bytes found.0) before after result = same-report o (Feeds found.0) found.2 reported in
-          let P : List ℕ → Type 0 = λ x. FeedStates (page_of pages (publication_path x)) before parts.between parts.end in
-          ends parts.between parts.end (subst P found.1 (parts.states pages is_shown)) parts.reports
-      | inr e ↦ excused Q o e reported
-    ]
+    fed-by Q folder feed ends = let P : Option Asked → Type 0 = λ a. Says a pages o in by o (subst P feed says) reported
+      where
+        by : (x : Outcome) → IsFeedOf folder x → Reported shown late x before after result → OrFault Q result
+        by (Feeds name) same r =
+            let parts : ReportsParts shown late (string_bytes name) before after result = r in
+            let P : List ℕ → Type 0 = λ f. FeedStates (page_of pages (publication_path f)) before parts.between parts.end in
+            ends parts.between parts.end (subst P same (parts.states pages is_shown)) parts.reports
+        by NoMemory is r = excused Q NoMemory tt r
+        by _ is r = absurd is
 
     pub refuses-feed-answer : (page : List ℕ) (f : TextFault) → RefusesFeed asked pages page f → OrFault (IsStatus (status.Refused (text_refusal f))) result
     refuses-feed-answer page f h = fed-by (IsStatus (status.Refused (text_refusal f))) h.fed.folder h.fed.feed (λ between end t r.
@@ -232,7 +225,7 @@ module _ (shown : Option Pages) (late : Type 0) (before after : Option (List ℕ
         let P : Option (List ℕ) → Type 0 = λ x. FeedStates x before between end in fed-whole h.page h.publication h.read h.short between end (subst P h.fed.held t) r)
 
     pub refuses-answer : (refusal : Refusal) → RefusesFiles asked pages refusal → OrFault (IsStatus (status.Refused refusal)) result
-    refuses-answer refusal h = refused-answer o refusal (refusal-comes asked pages o refusal words says h) reported
+    refuses-answer refusal h = refused-answer o refusal (refusal-comes asked pages o refusal says h) reported
 
     pub refuses-text-answer : (page : List ℕ) (f : TextFault) → RefusesText asked pages page f → OrFault (IsStatus (status.Refused (text_refusal f))) result
     refuses-text-answer page f h = refused-answer o (text_refusal f) (text-comes asked pages o page f says h) reported
@@ -254,23 +247,23 @@ module _ (shown : Option Pages) (late : Type 0) (before after : Option (List ℕ
       | inr (inr ends) ↦ values-gap gap ends
     ]
 
-    clearable-comes : (h : HasBooksToClear asked pages) → Comes (IsDayOf Whole h.books h.nodes) o
+    clearable-comes : (h : HasBooksToClear asked pages) → Comes (IsDayOf Whole h.books h.nodes h.cleared.workers) o
     clearable-comes h = let c = h.cleared in day-comes asked pages o Whole c.folder h.nodes c.workers h.books says c.clear c.gives
 
     pub cleared-answer : HasBooksToClear asked pages → OrFault IsDayStatus result
-    cleared-answer h = day-of-answer o Whole h.books h.nodes (clearable-comes h) reported
+    cleared-answer h = day-of-answer o Whole h.books h.nodes h.cleared.workers (clearable-comes h) reported
 
     pub complete-answer : HasBudget asked pages → OrFault (IsStatus status.Done) result
-    complete-answer h = whole-answer o Whole h.clearable.books h.clearable.nodes h.enough (clearable-comes h.clearable) reported
+    complete-answer h = let c = h.clearable in whole-answer o Whole c.books c.nodes c.cleared.workers h.enough (clearable-comes c) reported
 
-    splittable-comes : (h : IsSplittable asked pages) → Comes (IsDayOf Islands h.books h.nodes) o
+    splittable-comes : (h : IsSplittable asked pages) → Comes (IsDayOf Islands h.books h.nodes h.split.workers) o
     splittable-comes h = let s = h.split in day-comes asked pages o Islands s.folder h.nodes s.workers h.books says s.split s.gives
 
     pub split-answer : IsSplittable asked pages → OrFault IsDayStatus result
-    split-answer h = day-of-answer o Islands h.books h.nodes (splittable-comes h) reported
+    split-answer h = day-of-answer o Islands h.books h.nodes h.split.workers (splittable-comes h) reported
 
     pub islands-answer : HasIslandBudget asked pages → OrFault (IsStatus status.Done) result
-    islands-answer h = whole-answer o Islands h.splittable.books h.splittable.nodes h.enough (splittable-comes h.splittable) reported
+    islands-answer h = let s = h.splittable in whole-answer o Islands s.books s.nodes s.split.workers h.enough (splittable-comes s) reported
 
     pub checked-answer : IsReadable asked pages → OrFault IsVerdictStatus result
     checked-answer h = verdict-of-answer o (verdict-comes asked pages o says h) reported

@@ -1,5 +1,5 @@
 -- What the pages of quarters decide is what the answer is, unless a fetch or a write failed or there was no memory.
-use Rattle.std.proofs.Common.{◌≡◌, ◌∙◌, ◌⊎◌, inl, inr, ℕ, Bool, true, List, Option, Some, Result, Ok, Err, if◌then◌else◌, ap, arith, refl, subst, sym}
+use Rattle.std.proofs.Common.{◌≡◌, inl, inr, ℕ, Bool, true, List, Option, Some, Result, Ok, Err, if◌then◌else◌, ap, arith, refl, subst}
 use Rattle.std.specs.Prelude.{◌≤◌, ⊤}
 use lib.Chars.{codes}
 use Rattle.mari_units.specs.declared.faults.Refusal.{Refusal}
@@ -22,45 +22,17 @@ use Rattle.mari_quarters.specs.Quarters.{HasBlocks, HasQuartersGap, HasQuartersR
 use Rattle.mari_quarters.proofs.Facts.{made_accepted, made_held, one_gap, one_joint, one_refusal, refused_held}
 use Rattle.mari_words.specs.Asked.{Asked}
 use Rattle.mari_words.specs.Asked.Asked.{Blocks}
-use Rattle.mari_commands.specs.declared.outcome.JointJob.{JointJob}
 use Rattle.mari_commands.specs.declared.outcome.Outcome.{Outcome}
-use Rattle.mari_commands.specs.declared.outcome.Outcome.TheVariants.{Blocks as Joins}
+use Rattle.mari_commands.specs.declared.outcome.Outcome.TheVariants.{Blocks as Joins, Memory as NoMemory}
 use Rattle.mari_answers.specs.declared.status.Status.{Status}
 use Rattle.mari_answers.specs.declared.status.Status.TheVariants as status
 use Rattle.mari_commands.specs.Joint.{Decides, IsJoinable}
-use Rattle.mari_commands.specs.Outcome.{Reported, ReportsBlocks, ReportsQuarters, Says, joint_command}
+use Rattle.mari_commands.specs.Outcome.{IsJointOf, Reported, ReportsBlocks, ReportsQuarters, Says, joint_command}
 use Rattle.mari_answers.specs.Reports.{Reports}
-use Rattle.mari_answers.specs.Reports.Reports.{Printed, CutOff, Starved}
-use Rattle.mari_commands.specs.Outcome.Says.{OfUsage, OfRefusal, OfGap, OfClear, OfCheck, OfMigrate, OfGenerate, OfValues, OfFeed, OfBlocks, Fails, Starves}
 use Rattle.mari_answers.specs.Lines.{file_line, refused_line}
 use Rattle.mari_commands.specs.Program.{IsDayStatus, IsStatus, OrFault, gap_status}
-use Rattle.mari_commands.proofs.Comes.{IsExcused}
-use Rattle.mari_commands.proofs.Complete.{day-end, excused, same-report}
-use Rattle.mari_commands.proofs.Folder.{no_other, reads_no_folder}
-
--- quarters come of the words
-record IsJoined (folder : List ℕ) (first last nodes workers : ℕ) (o : Outcome) : Type 0 where
-  quarters : JointJob
-  is : o ≡ Joins quarters
-  words : joint_command quarters ≡ Blocks folder first last nodes workers
-
-module _ (asked : Option Asked) (pages : Pages) where
-  joins-comes : (o : Outcome) (folder : List ℕ) (first last nodes workers : ℕ) → Says asked pages o
-      → asked ≡ Some (Blocks folder first last nodes workers)
-      → IsJoined folder first last nodes workers o ⊎ IsExcused o
-  joins-comes o folder first last nodes workers (OfUsage e f) c = absurd (cc)
-  joins-comes o folder first last nodes workers (OfRefusal g other s k f) c = absurd (reads_no_folder asked _ g c refl s)
-  joins-comes o folder first last nodes workers (OfGap g n gap s k f) c = absurd (reads_no_folder asked _ g c refl s)
-  joins-comes o folder first last nodes workers (OfClear g job e k f) c = absurd (no_other asked job.way g job.nodes job.workers _ e c refl)
-  joins-comes o folder first last nodes workers (OfCheck g books e k states) c = absurd (cc)
-  joins-comes o folder first last nodes workers (OfMigrate g part books e k states) c = absurd (cc)
-  joins-comes o folder first last nodes workers (OfGenerate n e is) c = absurd (cc)
-  joins-comes o folder first last nodes workers (OfValues g more books e k states) c = absurd (cc)
-  joins-comes o folder first last nodes workers (OfFeed x e f) c = absurd (cc)
-  joins-comes o folder first last nodes workers (OfBlocks q e f) c =
-      inl (record { quarters = q; is = f; words = let both : Some (joint_command q) ≡ Some (Blocks folder first last nodes workers) = sym e ∙ c in cc })
-  joins-comes o folder first last nodes workers (Fails x n y e) c = absurd (reads_no_folder asked _ x c refl y)
-  joins-comes o folder first last nodes workers (Starves e) c = inr (subst IsExcused (sym e) tt)
+use Rattle.mari_commands.proofs.Complete.{day-end, excused}
+use Rattle.mari_commands.proofs.Reporting.{or-fault}
 
 -- within a budget that holds its search tree the joint market is published
 is-published : (books : Books) (first last budget : ℕ) (joint : Joint) (published : Bool) (text : List ℕ)
@@ -70,14 +42,9 @@ is-published books first last budget joint _ _ (Published b is) size sized enoug
 is-published books first last budget joint _ _ (Spent count is) size sized enough = absurd (omega (arith, enough, larger_than_budget joint.market size budget sized is.is_spent.larger))
 
 module _ (before after : Option (List ℕ)) (result : Status) where
-  of-line : (Q : Status → Type 0) (text : List ℕ) (wanted : Status) → Reports text wanted before after result → OrFault Q wanted → OrFault Q result
-  of-line Q text wanted (Printed e p) h = subst (λ (x : Status). OrFault Q x) (sym e) h
-  of-line Q text wanted (CutOff e p) h = inr (inr (inl e))
-  of-line Q text wanted (Starved e p) h = inr (inr (inr e))
-
   -- the line of a fetch that failed
   of-fault : (Q : Status → Type 0) (n : ℕ) → Reports (file_line (codes "readfault") n) status.ReadFault before after result → OrFault Q result
-  of-fault Q n r = of-line Q (file_line (codes "readfault") n) status.ReadFault r (inr (inl refl))
+  of-fault Q n r = or-fault before after result Q (file_line (codes "readfault") n) status.ReadFault r (inr (inl refl))
 
   module _ (pages : Pages) (folder : List ℕ) (first last nodes : ℕ) where
     by-refusal : (refusal : Refusal) → HasQuartersRefusal pages folder first last refusal
@@ -91,7 +58,7 @@ module _ (before after : Option (List ℕ)) (result : Status) where
     by-refusal refusal h (Err (why.Fetch n fetch.Memory)) t r = absurd t
     by-refusal refusal h (Err (why.Refused other)) t r =
         let same : other ≡ refusal = one_refusal pages folder first last other refusal t h in
-        of-line (IsStatus (status.Refused refusal)) (refused_line other) (status.Refused other) r (inl (ap (λ (x : Refusal). status.Refused x) same))
+        or-fault before after result (IsStatus (status.Refused refusal)) (refused_line other) (status.Refused other) r (inl (ap (λ (x : Refusal). status.Refused x) same))
     by-refusal refusal h (Err why.Memory) t r = inr (inr (inr r.0))
 
     by-gap : (k : ℕ) (gap : Gap) → HasQuartersGap pages folder k gap → (given : Result JointText BooksFault)
@@ -100,9 +67,9 @@ module _ (before after : Option (List ℕ)) (result : Status) where
     by-gap k gap h (Ok printed) t r = absurd (made_held pages folder first last t.books t.blocks k gap t.has h)
     by-gap k gap h (Err (why.Fetch n fetch.Failed)) t r = of-fault (IsStatus (gap_status gap)) n r
     by-gap k gap h (Err (why.Fetch n fetch.Missing)) t r =
-        of-line (IsStatus (gap_status gap)) (file_line (codes "missing") n) status.Missing r (inl (ap gap_status (one_gap pages folder first last n k NotHeld gap t h)))
+        or-fault before after result (IsStatus (gap_status gap)) (file_line (codes "missing") n) status.Missing r (inl (ap gap_status (one_gap pages folder first last n k NotHeld gap t h)))
     by-gap k gap h (Err (why.Fetch n fetch.TooLong)) t r =
-        of-line (IsStatus (gap_status gap)) (file_line (codes "toolong") n) status.TooLong r (inl (ap gap_status (one_gap pages folder first last n k OverLimit gap t h)))
+        or-fault before after result (IsStatus (gap_status gap)) (file_line (codes "toolong") n) status.TooLong r (inl (ap gap_status (one_gap pages folder first last n k OverLimit gap t h)))
     by-gap k gap h (Err (why.Fetch n fetch.Memory)) t r = absurd t
     by-gap k gap h (Err (why.Refused refusal)) t r = absurd (refused_held pages folder first last refusal k gap t h)
     by-gap k gap h (Err why.Memory) t r = inr (inr (inr r.0))
@@ -111,7 +78,7 @@ module _ (before after : Option (List ℕ)) (result : Status) where
       by-market : (Q : Status → Type 0)
           → ((printed : JointText) → QuartersReport pages folder first last nodes (Ok printed) → OrFault Q (if printed.published then status.Done else status.Unpublished))
           → (given : Result JointText BooksFault) → QuartersReport pages folder first last nodes given → ReportsQuarters given before after result → OrFault Q result
-      by-market Q ends (Ok printed) t r = of-line Q printed.text (if printed.published then status.Done else status.Unpublished) r (ends printed t)
+      by-market Q ends (Ok printed) t r = or-fault before after result Q printed.text (if printed.published then status.Done else status.Unpublished) r (ends printed t)
       by-market Q ends (Err (why.Fetch n fetch.Failed)) t r = of-fault Q n r
       by-market Q ends (Err (why.Fetch n fetch.Missing)) t r = absurd (made_held pages folder first last books blocks n NotHeld has t)
       by-market Q ends (Err (why.Fetch n fetch.TooLong)) t r = absurd (made_held pages folder first last books blocks n OverLimit has t)
@@ -136,13 +103,15 @@ StatesOf pages _ given = ⊤
 module _ (shown : Option Pages) (late : Type 0) (before after : Option (List ℕ)) (result : Status) (asked : Option Asked) (pages : Pages) (is_shown : shown ≡ Some pages) (o : Outcome) (says : Says asked pages o) (reported : Reported shown late o before after result) where
   by-quarters : (Q : Status → Type 0) (folder : List ℕ) (first last nodes workers : ℕ) → asked ≡ Some (Blocks folder first last nodes workers)
       → ((given : Result JointText BooksFault) → QuartersReport pages folder first last nodes given → ReportsQuarters given before after result → OrFault Q result) → OrFault Q result
-  by-quarters Q folder first last nodes workers words ends = elim (joins-comes asked pages o folder first last nodes workers says words) [
-    | inl found ↦
-        let r : ReportsBlocks shown late found.quarters before after result = same-report shown late before after result o (Joins found.quarters) found.is reported in
-        let states : StatesOf pages (joint_command found.quarters) r.given = r.states pages is_shown in
-        ends r.given (subst (λ (x : Asked). StatesOf pages x r.given) found.words states) r.reports
-    | inr e ↦ excused shown late before after result Q o e reported
-  ]
+  by-quarters Q folder first last nodes workers words ends = let P : Option Asked → Type 0 = λ a. Says a pages o in by o (subst P words says) reported
+    where
+      by : (x : Outcome) → IsJointOf (Blocks folder first last nodes workers) x → Reported shown late x before after result → OrFault Q result
+      by (Joins quarters) same r =
+          let blocks : ReportsBlocks shown late quarters before after result = r in
+          let states : StatesOf pages (joint_command quarters) blocks.given = blocks.states pages is_shown in
+          ends blocks.given (subst (λ (x : Asked). StatesOf pages x blocks.given) same states) blocks.reports
+      by NoMemory is r = excused shown late before after result Q NoMemory tt r
+      by _ is r = absurd is
 
   pub joined-answer : IsJoinable asked pages → OrFault IsDayStatus result
   joined-answer h = by-quarters IsDayStatus h.folder h.first h.last h.nodes h.workers h.words

@@ -6,6 +6,7 @@ use Rattle.mari_io.specs.declared.shelf.Fetch.TheVariants as fetch
 use Rattle.mari_io.specs.Outside.{Pages}
 use Rattle.mari_io.specs.Taken.{TookPart, then_took}
 use Rattle.mari_day.specs.Day.{EndsDay, WroteWholeDay}
+use Rattle.mari_day.specs.Reading.{HasBooks}
 use Rattle.mari_day.specs.declared.day.DayEnd.{DayEnd}
 use Rattle.mari_day.specs.declared.day.DayEnd.TheVariants as end
 use Rattle.mari_day.specs.Files.Gap.{NotHeld, OverLimit}
@@ -41,7 +42,7 @@ use Rattle.mari_commands.proofs.Folder.{files_by}
 use Rattle.mari_split.specs.Days.{EndsSplit, WroteSplitDay}
 use Rattle.mari_split.proofs.Keeping.{keeps_offers, balanced as split-sums}
 use Rattle.mari_commands.proofs.valid.Days.{day-is-valid}
-use Rattle.mari_commands.proofs.Outcomes.{IsToClear, check-alone, check-no-feed, check-reads, cleared-is, day-is, fails-is, files-no-feed, invalid-is, missing-is, no-summary, no-verdict, none-no-feed, part-of-folder, part-of-text, part-of-usage, plain-line, refused-is, split-is, summary-is, text-no-feed, text-prints, too-long-is, values-is, verdict-is}
+use Rattle.mari_commands.proofs.Outcomes.{check-alone, check-no-feed, check-reads, day-is, files-no-feed, invalid-is, lacks-is, no-summary, no-verdict, none-no-feed, part-of-folder, part-of-text, part-of-usage, plain-line, refused-is, summary-is, text-no-feed, text-prints, values-is, verdict-is}
 
 module _ (asked : Option Asked) where
   module _ (pages : Option Pages) (failed : Type 0) (before after : Option (List ℕ)) where
@@ -142,16 +143,19 @@ module _ (asked : Option Asked) where
       of-split-end end.Memory (inl same) = starved same
       of-split-end end.Memory (inr part) = (λ reported t. starved-split job.books job.nodes (is reported t) part, inr (inr (inr splits-it)))
 
-    of-way : (job : Job) (folder : List ℕ) (way : Way) → job.way ≡ way
+    of-way : (job : Job) (folder : List ℕ) (way : Way)
         → asked ≡ Some (command_by way folder job.nodes job.workers) → IsReady job
-        → WhereReported pages (λ reported. IsToClear asked reported job) → (ended : DayEnd)
+        → WhereReported pages (λ reported. HasBooks reported folder job.books) → (ended : DayEnd)
         → EndsBy way job.books job.nodes before after ended → Ends (day_status ended)
-    of-way job folder Whole w words ready is ended ends = of-end job folder words ready (λ reported t. cleared-is asked reported job w (is reported t)) ended ends
-    of-way job folder Islands w words ready is ended ends = of-split-end job folder words ready (λ reported t. split-is asked reported job w (is reported t)) ended ends
+    of-way job folder Whole words ready has ended ends =
+        of-end job folder words ready (λ reported t. record { folder = folder; workers = job.workers; clear = words; gives = has reported t }) ended ends
+    of-way job folder Islands words ready has ended ends =
+        of-split-end job folder words ready (λ reported t. record { folder = folder; workers = job.workers; split = words; gives = has reported t }) ended ends
 
     of-day : (job : Job) (result : Status) → WhereReported pages (λ reported. Says asked reported (Day job))
         → IsOfWords asked (Day job) → IsReady job → ReportsDay job before after result → Ends result
-    of-day job result says words ready r = subst Ends (sym r.status) (of-way job words.0 job.way refl words.1 ready (λ reported t. day-is asked reported job (says reported t)) r.ended r.ends)
+    of-day job result says (folder, words) ready r =
+        subst Ends (sym r.status) (of-way job folder job.way words ready (λ reported t. day-is asked reported job folder words (says reported t)) r.ended r.ends)
 
     by-outcome : (AsksForBlocks asked → ⊥) → (late : Type 0) → (late → failed) → (o : Outcome) (result : Status)
         → WhereReported pages (λ reported. Says asked reported o) → IsOfWords asked o → IsReportable o
@@ -163,45 +167,45 @@ module _ (asked : Option Asked) where
     by-outcome other late later (Feeds folder) result says words ready cause r = feed-answers asked pages failed before after late later (string_bytes folder) words result r
     by-outcome other late later (Joins q) result says words ready cause r = absurd (other (string_bytes q.folder, q.first, q.last, q.nodes, q.workers, words))
     by-outcome other late later (Values v) result says words ready cause r =
-        values-answers asked pages failed before after words.0 v.text v.end words.1 (λ reported t. values-is asked reported v (says reported t)) cause
+        values-answers asked pages failed before after words.0 v.text v.end words.1 (λ reported t. values-is asked reported v words.0 (says reported t)) cause
         result r
     by-outcome other late later (Text text) result says words ready cause r =
         of-line (text-no-feed asked text.items words) text.items status.Done result r
-        (λ p. (λ reported t. done-printed text.items (text-prints asked reported text (says reported t)) p, summary-is asked before after text.items words p, verdict-is asked before after text.items words p))
+        (λ p. (λ reported t. done-printed text.items (text-prints asked reported text words (says reported t)) p, summary-is asked before after text.items words p, verdict-is asked before after text.items words p))
         (part-of-text asked before after text.items words)
-        (λ reported t. line-text (text-prints asked reported text (says reported t)))
+        (λ reported t. line-text (text-prints asked reported text words (says reported t)))
     by-outcome other late later (Invalid run number) result says words ready cause r =
         let alone = check-alone asked PUBLICATION words in
         of-line (check-no-feed asked words) (invalid_line run number) (status.Invalid run number) result r
-        (λ p. (inl words, (λ reported t. invalid-is asked reported run number (says reported t)), plain-line asked pages PUBLICATION TookAll (IsInvalidEnd run number) (invalid_line run number) before after alone p))
-        (λ p. part-of-folder asked before after (check-reads asked words)) (λ reported t. line-invalid run number (invalid-is asked reported run number (says reported t)) alone refl)
+        (λ p. (inl words, (λ reported t. invalid-is asked reported run number words (says reported t)), plain-line asked pages PUBLICATION TookAll (IsInvalidEnd run number) (invalid_line run number) before after alone p))
+        (λ p. part-of-folder asked before after (check-reads asked words)) (λ reported t. line-invalid run number (invalid-is asked reported run number words (says reported t)) alone refl)
     by-outcome other late later (NoPage k fetch.Failed) result says words ready cause r =
         let none = files-no-feed asked words.0 in
         let text = file_line (codes "readfault") k in
         of-line none text status.ReadFault result r
         (λ p. (inl words.0, (k, words.1, plain-line asked pages k TookFirst IsFailedEnd text before after words.2 p)))
         (λ p. part-of-folder asked before after words.0)
-        (λ reported t. let f = fails-is asked reported k (says reported t) in line-fault (cause refl) f.0 k f.1 words.1 words.2 refl)
+        (λ reported t. line-fault (cause refl) words.0.0 k words.0.1 words.1 words.2 refl)
     by-outcome other late later (NoPage k fetch.Missing) result says words ready cause r =
         let none = files-no-feed asked words.0 in
         let text = file_line (codes "missing") k in
         of-line none text status.Missing result r
-        (λ p. (inl words.0, record { file = k; wanted = words.1; first = λ reported t. missing-is asked reported k (says reported t); line = plain-line asked pages k TookFirst (IsGapEnd NotHeld) text before after words.2 p }))
-        (λ p. part-of-folder asked before after words.0) (λ reported t. line-missing k (missing-is asked reported k (says reported t)) words.2 refl)
+        (λ p. (inl words.0, record { file = k; wanted = words.1; first = λ reported t. lacks-is asked reported k NotHeld words.0 (says reported t); line = plain-line asked pages k TookFirst (IsGapEnd NotHeld) text before after words.2 p }))
+        (λ p. part-of-folder asked before after words.0) (λ reported t. line-missing k (lacks-is asked reported k NotHeld words.0 (says reported t)) words.2 refl)
     by-outcome other late later (NoPage k fetch.TooLong) result says words ready cause r =
         let none = files-no-feed asked words.0 in
         let text = file_line (codes "toolong") k in
         of-line none text status.TooLong result r
-        (λ p. (inl words.0, record { file = k; wanted = words.1; first = λ reported t. too-long-is asked reported k (says reported t); line = plain-line asked pages k TookFirst (IsGapEnd OverLimit) text before after words.2 p }))
-        (λ p. part-of-folder asked before after words.0) (λ reported t. line-too-long k (too-long-is asked reported k (says reported t)) words.2 refl)
+        (λ p. (inl words.0, record { file = k; wanted = words.1; first = λ reported t. lacks-is asked reported k OverLimit words.0 (says reported t); line = plain-line asked pages k TookFirst (IsGapEnd OverLimit) text before after words.2 p }))
+        (λ p. part-of-folder asked before after words.0) (λ reported t. line-too-long k (lacks-is asked reported k OverLimit words.0 (says reported t)) words.2 refl)
     by-outcome other late later (NoPage k fetch.Memory) result says words ready cause r = of-nothing result r.0 r.1
     by-outcome other late later (Refused refusal) result says words ready cause r =
         let none = files-no-feed asked words.0 in
         let text = refused_line refusal in
         of-line none text (status.Refused refusal) result r
-        (λ p. (inl words.0, (λ reported t. refused-is asked reported refusal (says reported t)), plain-line asked pages refusal.file TookAll (IsRefusedEnd refusal) text before after words.1 p, ready.1))
+        (λ p. (inl words.0, (λ reported t. refused-is asked reported refusal words.0 (says reported t)), plain-line asked pages refusal.file TookAll (IsRefusedEnd refusal) text before after words.1 p, ready.1))
         (λ p. part-of-folder asked before after words.0)
-        (λ reported t. line-refusal refusal (refused-is asked reported refusal (says reported t)) words.1 refl)
+        (λ reported t. line-refusal refusal (refused-is asked reported refusal words.0 (says reported t)) words.1 refl)
     by-outcome other late later NoMemory result says words ready cause r = of-nothing result r.0 r.1
 
     -- the pages are those that whoever reports the outcome has

@@ -47,6 +47,10 @@ module _ (asked : Option Asked) (pages : Option Pages) (failed : Type 0) (before
   fed : (reported : Pages) (page : List ℕ) → page_in reported ≡ Some page → HasFeed asked reported page
   fed reported page held = record { folder = folder; feed = feed; held = held }
 
+  -- what is so of them is so of those that are reported
+  only : (P : Pages → Type 0) (reported : Pages) → P reported → WhereReported (Some reported) P
+  only P reported h other e = let same : reported ≡ other = cc in subst P same h
+
   abbrev States : Result (Unit {0}) FeedStop → Type 0
   States end = WhereReported pages (λ reported. FeedStates (page_in reported) before between end)
 
@@ -121,11 +125,8 @@ module _ (asked : Option Asked) (pages : Option Pages) (failed : Type 0) (before
       subst Ends (sym e)
       (inr (inl (folder, feed)), (PUBLICATION, wanted, record { between = between; ahead = lines-ahead folder feed refl (λ reported t. ahead-failed (page_in reported) (states reported t)); took = p }))
   of-failed result why states (CutOff e p) =
-      let cut : Ends status.WriteFault = (λ reported t. cut-fault why (folder, feed) (record { between = between; ahead = lines-ahead folder feed refl (λ other u. let P : Pages → Type 0 = λ x. TookOf TookFirst (page_in x) before between in subst P (same reported other u) (ahead-failed (page_in reported) (states reported t))); began = p }), first-part) in
+      let cut : Ends status.WriteFault = (λ reported t. cut-fault why (folder, feed) (record { between = between; ahead = lines-ahead folder feed refl (only (λ x. TookOf TookFirst (page_in x) before between) reported (ahead-failed (page_in reported) (states reported t))); began = p }), first-part) in
       subst Ends (sym e) cut
-    where
-      same : (reported other : Pages) → Some reported ≡ Some other → reported ≡ other
-      same reported other u = cc
   of-failed result why states (Starved e p) = subst Ends (sym e) (starves (λ reported t. ahead-failed (page_in reported) (states reported t)) p)
 
   -- its page can't be had
@@ -153,11 +154,8 @@ module _ (asked : Option Asked) (pages : Option Pages) (failed : Type 0) (before
       → Reports (file_line (gap_word gap) PUBLICATION) (gap_status gap) between after result → Ends result
   of-gap gap result line took (Printed e p) = subst Ends (sym e) (gap-ends gap line took p)
   of-gap gap result line took (CutOff e p) =
-      let cut : Ends status.WriteFault = (λ reported t. cut-gap gap (line reported t) (record { between = between; ahead = lines-ahead folder feed refl (λ other u. let P : Pages → Type 0 = λ x. TookOf TookFirst (page_in x) before between in subst P (same reported other u) (took reported t)); began = p }), first-part) in
+      let cut : Ends status.WriteFault = (λ reported t. cut-gap gap (line reported t) (record { between = between; ahead = lines-ahead folder feed refl (only (λ x. TookOf TookFirst (page_in x) before between) reported (took reported t)); began = p }), first-part) in
       subst Ends (sym e) cut
-    where
-      same : (reported other : Pages) → Some reported ≡ Some other → reported ≡ other
-      same reported other u = cc
   of-gap gap result line took (Starved e p) = subst Ends (sym e) (starves took p)
 
   -- its text has a fault
@@ -181,13 +179,10 @@ module _ (asked : Option Asked) (pages : Option Pages) (failed : Type 0) (before
       let cut : Ends status.WriteFault = (
         λ reported t.
             cut-refused (text_refusal f) (fault-refused f reported (page_in reported) refl (states reported t))
-            (record { between = between; ahead = lines-ahead folder feed refl (λ other u. let P : Pages → Type 0 = λ x. TookOf TookAll (page_in x) before between in subst P (same reported other u) (ahead-fault f (page_in reported) (states reported t))); began = p }),
+            (record { between = between; ahead = lines-ahead folder feed refl (only (λ x. TookOf TookAll (page_in x) before between) reported (ahead-fault f (page_in reported) (states reported t))); began = p }),
         first-part,
       ) in
       subst Ends (sym e) cut
-    where
-      same : (reported other : Pages) → Some reported ≡ Some other → reported ≡ other
-      same reported other u = cc
   of-fault f result name states (Starved e p) = subst Ends (sym e) (starves (λ reported t. first-fault f (page_in reported) (states reported t)) p)
 
   no-wrapped : (page : Option (List ℕ)) → FeedStates {T = Unit {0}} page before between (Err (stop.Fetch fetch.Memory)) → ⊥

@@ -1,5 +1,5 @@
 -- Quarters that are cleared as one market: what each answer says of them.
-use Rattle.std.proofs.Common.{◌≡◌, ◌∙◌, ℕ, Bool, true, false, List, Option, Some, None, Result, Ok, Err, if◌then◌else◌, ap, refl, subst, sym}
+use Rattle.std.proofs.Common.{◌≡◌, ◌∙◌, ℕ, Bool, true, false, List, Option, Some, Result, Ok, Err, if◌then◌else◌, ap, refl, subst, sym}
 use Rattle.std.specs.Prelude.{string_bytes}
 use lib.Chars.{codes}
 use Rattle.mari_io.specs.Outside.{Pages}
@@ -12,7 +12,7 @@ use Rattle.mari_day.specs.declared.reading.BooksFault.TheVariants as why
 use Rattle.mari_blocks.specs.declared.clearing.JointText.{JointText}
 use Rattle.mari_quarters.specs.Quarters.{HasQuartersText, NamesQuartersFile, QuartersReport}
 use Rattle.mari_words.specs.Asked.{Asked}
-use Rattle.mari_words.specs.Asked.Asked.{Blocks, Clear, Check, Generate, Migrate, Feed, Split, Value}
+use Rattle.mari_words.specs.Asked.Asked.{Blocks}
 use Rattle.mari_commands.specs.declared.outcome.JointJob.{JointJob}
 use Rattle.mari_commands.specs.declared.outcome.Outcome.{Outcome}
 use Rattle.mari_commands.specs.declared.outcome.Outcome.TheVariants.{NoCommand, Day, Feed as Feeds, Blocks as Joins, Values, Text, Invalid, NoPage, Refused, Memory as NoMemory}
@@ -27,61 +27,6 @@ use Rattle.mari_answers.specs.Reports.Reports.{Printed, CutOff, Starved}
 use Rattle.mari_answers.specs.Lines.{file_line, refused_line}
 use Rattle.mari_commands.proofs.Ending.{answers}
 use Rattle.mari_commands.proofs.Folder.{no_other}
-
--- ---- why a page wasn't had
-
--- a text that is reported with another status
-other-text : (wanted : Status) → (status.WriteFault ≡ wanted → ⊥) → (status.Memory ≡ wanted → ⊥) → (text : List ℕ) (own : Status) (before after : Option (List ℕ)) (result : Status)
-    → (own ≡ wanted → ⊥) → Reports text own before after result → result ≡ wanted → ⊥
-other-text wanted no-write no-memory text own before after result not (Printed e p) f = not (sym e ∙ f)
-other-text wanted no-write no-memory text own before after result not (CutOff e p) f = no-write (sym e ∙ f)
-other-text wanted no-write no-memory text own before after result not (Starved e p) f = no-memory (sym e ∙ f)
-
--- a market's status is another
-no-market : (published : Bool) (wanted : Status) → (status.Done ≡ wanted → ⊥) → (status.Unpublished ≡ wanted → ⊥) → (if published then status.Done else status.Unpublished) ≡ wanted → ⊥
-no-market true wanted done other e = done e
-no-market false wanted done other e = other e
-
-pub quarters-failed : (given : Result JointText BooksFault) (before after : Option (List ℕ)) (result : Status)
-    → ReportsQuarters given before after result → result ≡ status.ReadFault → IsFetchFault fetch.Failed given
-quarters-failed (Ok printed) before after result r e =
-    absurd (other-text status.ReadFault (λ f. absurd (cc f)) (λ f. absurd (cc f)) _ _ before after result (no-market printed.published status.ReadFault (λ f. absurd (cc f)) (λ f. absurd (cc f))) r e)
-quarters-failed (Err (why.Fetch n fetch.Failed)) before after result r e = refl
-quarters-failed (Err (why.Fetch n fetch.Missing)) before after result r e =
-    absurd (other-text status.ReadFault (λ f. absurd (cc f)) (λ f. absurd (cc f)) _ _ before after result (λ f. absurd (cc f)) r e)
-quarters-failed (Err (why.Fetch n fetch.TooLong)) before after result r e =
-    absurd (other-text status.ReadFault (λ f. absurd (cc f)) (λ f. absurd (cc f)) _ _ before after result (λ f. absurd (cc f)) r e)
-quarters-failed (Err (why.Fetch n fetch.Memory)) before after result r e = let f = sym r.0 ∙ e in absurd (cc f)
-quarters-failed (Err (why.Refused refusal)) before after result r e = absurd (other-text status.ReadFault (λ f. absurd (cc f)) (λ f. absurd (cc f)) _ _ before after result (λ f. absurd (cc f)) r e)
-quarters-failed (Err why.Memory) before after result r e = let f = sym r.0 ∙ e in absurd (cc f)
-
-pub quarters-missing : (given : Result JointText BooksFault) (before after : Option (List ℕ)) (result : Status)
-    → ReportsQuarters given before after result → result ≡ status.Missing → IsFetchFault fetch.Missing given
-quarters-missing (Ok printed) before after result r e =
-    absurd (other-text status.Missing (λ f. absurd (cc f)) (λ f. absurd (cc f)) _ _ before after result (no-market printed.published status.Missing (λ f. absurd (cc f)) (λ f. absurd (cc f))) r e)
-quarters-missing (Err (why.Fetch n fetch.Failed)) before after result r e =
-    absurd (other-text status.Missing (λ f. absurd (cc f)) (λ f. absurd (cc f)) _ _ before after result (λ f. absurd (cc f)) r e)
-quarters-missing (Err (why.Fetch n fetch.Missing)) before after result r e = refl
-quarters-missing (Err (why.Fetch n fetch.TooLong)) before after result r e =
-    absurd (other-text status.Missing (λ f. absurd (cc f)) (λ f. absurd (cc f)) _ _ before after result (λ f. absurd (cc f)) r e)
-quarters-missing (Err (why.Fetch n fetch.Memory)) before after result r e = let f = sym r.0 ∙ e in absurd (cc f)
-quarters-missing (Err (why.Refused refusal)) before after result r e = absurd (other-text status.Missing (λ f. absurd (cc f)) (λ f. absurd (cc f)) _ _ before after result (λ f. absurd (cc f)) r e)
-quarters-missing (Err why.Memory) before after result r e = let f = sym r.0 ∙ e in absurd (cc f)
-
-pub quarters-too-long : (given : Result JointText BooksFault) (before after : Option (List ℕ)) (result : Status)
-    → ReportsQuarters given before after result → result ≡ status.TooLong → IsFetchFault fetch.TooLong given
-quarters-too-long (Ok printed) before after result r e =
-    absurd (other-text status.TooLong (λ f. absurd (cc f)) (λ f. absurd (cc f)) _ _ before after result (no-market printed.published status.TooLong (λ f. absurd (cc f)) (λ f. absurd (cc f))) r e)
-quarters-too-long (Err (why.Fetch n fetch.Failed)) before after result r e =
-    absurd (other-text status.TooLong (λ f. absurd (cc f)) (λ f. absurd (cc f)) _ _ before after result (λ f. absurd (cc f)) r e)
-quarters-too-long (Err (why.Fetch n fetch.Missing)) before after result r e =
-    absurd (other-text status.TooLong (λ f. absurd (cc f)) (λ f. absurd (cc f)) _ _ before after result (λ f. absurd (cc f)) r e)
-quarters-too-long (Err (why.Fetch n fetch.TooLong)) before after result r e = refl
-quarters-too-long (Err (why.Fetch n fetch.Memory)) before after result r e = let f = sym r.0 ∙ e in absurd (cc f)
-quarters-too-long (Err (why.Refused refusal)) before after result r e = absurd (other-text status.TooLong (λ f. absurd (cc f)) (λ f. absurd (cc f)) _ _ before after result (λ f. absurd (cc f)) r e)
-quarters-too-long (Err why.Memory) before after result r e = let f = sym r.0 ∙ e in absurd (cc f)
-
--- ---- what each answer says
 
 module _ (q : JointJob) (pages : Option Pages) (failed : Type 0) (before after : Option (List ℕ)) where
   abbrev Ends : Status → Type 0
@@ -160,27 +105,6 @@ module _ (pages : Option Pages) (failed : Type 0) (before after : Option (List �
   pub answers-of : (asked : Option Asked) → WhereReported pages (λ reported. Says asked reported o)
       → IsOfWords asked o → IsReportable o → (IsNoPage fetch.Failed o → failed)
       → Reported shown late o before after result → AnswersOf asked pages failed before after result
-  answers-of None says words ready cause r = answers None pages failed before after (no-blocks None refl) shown same late later o result says words ready cause r
-  answers-of (Some (Clear folder nodes workers)) says words ready cause r =
-      answers (Some (Clear folder nodes workers)) pages failed before after (no-blocks (Some (Clear folder nodes workers)) refl) shown same late later
-      o result says words ready cause r
-  answers-of (Some (Check folder)) says words ready cause r =
-      answers (Some (Check folder)) pages failed before after (no-blocks (Some (Check folder)) refl) shown same late later o result says words ready
-      cause r
-  answers-of (Some (Generate number)) says words ready cause r =
-      answers (Some (Generate number)) pages failed before after (no-blocks (Some (Generate number)) refl) shown same late later o result says words
-      ready cause r
-  answers-of (Some (Migrate folder part)) says words ready cause r =
-      answers (Some (Migrate folder part)) pages failed before after (no-blocks (Some (Migrate folder part)) refl) shown same late later o result says
-      words ready cause r
-  answers-of (Some (Feed folder)) says words ready cause r =
-      answers (Some (Feed folder)) pages failed before after (no-blocks (Some (Feed folder)) refl) shown same late later o result says words ready
-      cause r
-  answers-of (Some (Split folder nodes workers)) says words ready cause r =
-      answers (Some (Split folder nodes workers)) pages failed before after (no-blocks (Some (Split folder nodes workers)) refl) shown same late later
-      o result says words ready cause r
-  answers-of (Some (Value folder more)) says words ready cause r =
-      answers (Some (Value folder more)) pages failed before after (no-blocks (Some (Value folder more)) refl) shown same late later o result says
-      words ready cause r
   answers-of (Some (Blocks folder first last nodes workers)) says words ready cause r =
       blocks-answers pages failed before after result late later folder first last nodes workers o words (subst (λ (ps : Option Pages). Reported ps late o before after result) same r)
+  answers-of asked says words ready cause r = answers asked pages failed before after (no-blocks asked refl) shown same late later o result says words ready cause r

@@ -1,7 +1,7 @@
 -- What an outcome says of the words and of the pages, as the answers say it.
-use Rattle.std.proofs.Common.{◌≡◌, ◌∙◌, ℕ, List, Option, Some, None, ap, refl, subst}
+use Rattle.std.proofs.Common.{◌≡◌, ◌∙◌, ℕ, List, Option, Some, None, ap, refl, subst, sym}
 use Rattle.std.specs.Global.{Vec}
-use Rattle.std.specs.Prelude.{◌≤◌, length}
+use Rattle.std.specs.Prelude.{◌≤◌, length, ⊤}
 use Rattle.mari_units.specs.declared.faults.Refusal.{Refusal}
 use Rattle.mari_io.specs.declared.shelf.Fetch.TheVariants as fetch
 use Rattle.mari_io.specs.Outside.{Pages, page_of, most_given}
@@ -16,25 +16,25 @@ use Rattle.mari_day.specs.Reading.{HasBooks, HasGap}
 use Rattle.mari_capacity.specs.declared.ending.ValueEnd.{ValueEnd}
 use Rattle.mari_capacity.specs.declared.ending.Valued.{Valued}
 use Rattle.mari_words.specs.Asked.{Asked}
-use Rattle.mari_words.specs.Asked.Asked.{Check, Feed, Generate}
+use Rattle.mari_words.specs.Asked.Asked.{Check, Feed, Generate, Migrate, Value}
 use Rattle.mari_commands.specs.declared.outcome.Job.{Job}
 use Rattle.mari_commands.specs.declared.outcome.Way.{Way}
-use Rattle.mari_commands.specs.declared.outcome.Way.TheVariants.{Whole, Islands}
-use Rattle.mari_commands.specs.declared.outcome.Outcome.TheVariants.{Day, Values, Text, Invalid, NoPage, Refused}
-use Rattle.mari_commands.specs.Commands.{AreCleared, AsksForFeed, AsksForFiles, AsksForLines, AsksToCheck, HasPublication, IsAlone, IsInvalid, IsReadable, IsRefused, LacksPage, Prints, ReadsFolder, StatesValues, fetch_of, publication_path}
+use Rattle.mari_commands.specs.declared.outcome.Outcome.{Outcome}
+use Rattle.mari_commands.specs.declared.outcome.Outcome.TheVariants.{Day, Values, Text, Invalid, NoPage, Refused, Memory as NoMemory}
+use Rattle.mari_commands.specs.Commands.{AsksForFeed, AsksForFiles, AsksForLines, AsksForValues, AsksToCheck, HasPublication, IsAlone, IsInvalid, IsReadable, IsRefused, LacksPage, Prints, ReadsFolder, StatesValues, fetch_of, folder_of, publication_path}
 use Rattle.mari_commands.specs.Commands.IsRefused.{OfFiles as refused-files, OfText as refused-text}
 use Rattle.mari_commands.specs.Commands.RefusesFiles.{OfBooks as refuses-books, OfVersion as refuses-version}
 use Rattle.mari_commands.specs.Commands.LacksPage.{OfBooks as lacks-book, NoPublication as lacks-publication, LongPublication as lacks-long}
 use Rattle.mari_commands.specs.Commands.IsInvalid.{OfCheck as invalid-checked}
 use Rattle.mari_commands.specs.Commands.Prints.{Valid as prints-valid, Migrated as prints-migrated, Generated as prints-generated}
-use Rattle.mari_commands.specs.Outcome.{AsksForText, CheckStates, Says}
-use Rattle.mari_commands.specs.Outcome.Says.{OfUsage, OfRefusal, OfGap, OfClear, OfCheck, OfMigrate, OfGenerate, OfValues, OfFeed, OfBlocks, Fails, Starves}
+use Rattle.mari_commands.specs.Outcome.{AsksForText, CheckStates, ComesOfBooks, Says, SaysOfFolder}
+use Rattle.mari_commands.specs.Outcome.SaysOfFolder.{OfRefusal, OfGap, OfBooks, Fails, Starves}
 use Rattle.mari_commands.specs.Printing.{usage_line, valid_line}
 use Rattle.mari_commands.specs.Program.{TookFirstPart, TookLine, TookSummary, TookVerdict}
 use Rattle.mari_commands.specs.Program.TookAhead.{Nothing as nothing-ahead}
-use Rattle.mari_commands.specs.Splits.{AreSplit, command_by}
+use Rattle.mari_commands.specs.Splits.{command_by}
 use Rattle.mari_commands.proofs.Stating.{check-no-lines}
-use Rattle.mari_commands.proofs.Folder.{no_other, reads, reads_no_folder, reads_none}
+use Rattle.mari_commands.proofs.Folder.{by-way, folder_by, no_other, of-folder, one-folder, reads, reads_no_folder, reads_none}
 
 module _ (asked : Option Asked) where
   -- what there is of the publication of a folder that is checked
@@ -57,20 +57,24 @@ module _ (asked : Option Asked) where
   checked-text pages folder books t (Some page) c g h (n, u, (short, (p, read, (valid, published, unpublished))), spelled) =
       prints-valid (readable pages folder books page p c g h short read) valid (spelled ∙ ap (λ (m : ℕ). valid_line m u) published ∙ ap (λ (m : ℕ). valid_line (published_in p.blocks) m) unpublished)
 
-  pub text-prints : (pages : Pages) (t : Vec ℕ) → Says asked pages (Text t) → Prints asked pages t.items
-  text-prints pages t (OfUsage e f) = absurd (cc)
-  text-prints pages t (OfRefusal folder refusal r h f) = absurd (cc)
-  text-prints pages t (OfGap folder n g r h f) = absurd (cc)
-  text-prints pages t (OfClear folder job e h f) = absurd (cc)
-  text-prints pages t (OfCheck folder books e h states) = checked-text pages folder books t (page_of pages (publication_path folder)) e h refl states
-  text-prints pages t (OfMigrate folder part books e h (first, spelled)) =
-      prints-migrated (record { folder = folder; part = part; migrate = e; books = books; gives = h; first = first }) spelled
-  text-prints pages t (OfGenerate number e is) = prints-generated number e is
-  text-prints pages t (OfValues folder more books e h bad) = absurd bad
-  text-prints pages t (OfFeed folder e f) = absurd (cc)
-  text-prints pages t (OfBlocks quarters e f) = absurd (cc)
-  text-prints pages t (Fails x n y f) = absurd (cc)
-  text-prints pages t (Starves f) = absurd (cc)
+  -- what neither a refusal nor a gap, a failure or want of memory says comes of the folder's books
+  abbrev IsOfBooks : Outcome → Type 0
+  IsOfBooks (NoPage k why) = ⊥
+  IsOfBooks (Refused refusal) = ⊥
+  IsOfBooks NoMemory = ⊥
+  IsOfBooks _ = ⊤
+
+  given : (pages : Pages) (o : Outcome) (x : Asked) (folder : List ℕ) → IsOfBooks o → asked ≡ Some x → folder_of x ≡ Some folder
+      → Says asked pages o
+      → (books : Books) × HasBooks pages folder books × ComesOfBooks (Some x) pages folder books o
+  given pages o x folder own e f s = by (of-folder asked pages o folder (reads asked x folder e f) s)
+    where
+      by : SaysOfFolder asked pages folder o → (books : Books) × HasBooks pages folder books × ComesOfBooks (Some x) pages folder books o
+      by (OfRefusal refusal h d) = absurd (subst IsOfBooks d own)
+      by (OfGap n gap h d) = absurd (subst IsOfBooks d own)
+      by (OfBooks books h is) = let P : Option Asked → Type 0 = λ a. ComesOfBooks a pages folder books o in (books, h, subst P e is)
+      by (Fails n d) = absurd (subst IsOfBooks d own)
+      by (Starves d) = absurd (subst IsOfBooks d own)
 
   -- a fault of the publication that is checked
   checked-invalid : (pages : Pages) (folder : List ℕ) (books : Books) (run number : ℕ) (page : Option (List ℕ))
@@ -79,19 +83,10 @@ module _ (asked : Option Asked) where
   checked-invalid pages folder books run number None c g h states = absurd states
   checked-invalid pages folder books run number (Some page) c g h (short, (p, read, first)) = invalid-checked (readable pages folder books page p c g h short read) first
 
-  pub invalid-is : (pages : Pages) (run number : ℕ) → Says asked pages (Invalid run number) → IsInvalid asked pages run number
-  invalid-is pages run number (OfUsage e f) = absurd (cc)
-  invalid-is pages run number (OfRefusal folder refusal r h f) = absurd (cc)
-  invalid-is pages run number (OfGap folder n g r h f) = absurd (cc)
-  invalid-is pages run number (OfClear folder job e h f) = absurd (cc)
-  invalid-is pages run number (OfCheck folder books e h states) = checked-invalid pages folder books run number (page_of pages (publication_path folder)) e h refl states
-  invalid-is pages run number (OfMigrate folder part books e h bad) = absurd bad
-  invalid-is pages run number (OfGenerate n e bad) = absurd bad
-  invalid-is pages run number (OfValues folder more books e h bad) = absurd bad
-  invalid-is pages run number (OfFeed folder e f) = absurd (cc)
-  invalid-is pages run number (OfBlocks quarters e f) = absurd (cc)
-  invalid-is pages run number (Fails x n y f) = absurd (cc)
-  invalid-is pages run number (Starves f) = absurd (cc)
+  pub invalid-is : (pages : Pages) (run number : ℕ) → AsksToCheck asked → Says asked pages (Invalid run number) → IsInvalid asked pages run number
+  invalid-is pages run number (folder, c) says =
+      let g = given pages (Invalid run number) (Check folder) folder tt c refl says in
+      checked-invalid pages folder g.0 run number (page_of pages (publication_path folder)) c g.1 refl g.2
 
   -- a refusal
   checked-refused : (pages : Pages) (folder : List ℕ) (books : Books) (refusal : Refusal) (page : Option (List ℕ))
@@ -100,23 +95,6 @@ module _ (asked : Option Asked) where
   checked-refused pages folder books refusal None c g h (f, reported, is) = absurd reported
   checked-refused pages folder books refusal (Some page) c g h (f, reported, is) =
       refused-text page f (record { books = books; checked = publication pages folder books page c g h; reported = reported }) is
-
-  pub refused-is : (pages : Pages) (refusal : Refusal) → Says asked pages (Refused refusal) → IsRefused asked pages refusal
-  refused-is pages refusal (OfUsage e f) = absurd (cc)
-  refused-is pages refusal (OfRefusal folder r reads h f) =
-      let same : r ≡ refusal = cc in
-      let P : Refusal → Type 0 = λ x. IsRefused asked pages x in
-      subst P same (refused-files (refuses-books folder reads h))
-  refused-is pages refusal (OfGap folder n g r h f) = absurd (cc)
-  refused-is pages refusal (OfClear folder job e h f) = absurd (cc)
-  refused-is pages refusal (OfCheck folder books e h states) = checked-refused pages folder books refusal (page_of pages (publication_path folder)) e h refl states
-  refused-is pages refusal (OfMigrate folder part books e h (again, is)) = refused-files (refuses-version folder part books e h again is)
-  refused-is pages refusal (OfGenerate n e bad) = absurd bad
-  refused-is pages refusal (OfValues folder more books e h bad) = absurd bad
-  refused-is pages refusal (OfFeed folder e f) = absurd (cc)
-  refused-is pages refusal (OfBlocks quarters e f) = absurd (cc)
-  refused-is pages refusal (Fails x n y f) = absurd (cc)
-  refused-is pages refusal (Starves f) = absurd (cc)
 
   -- a page that can't be had
   gap-is : (pages : Pages) (folder : List ℕ) (n k : ℕ) (g h : Gap) → ReadsFolder asked folder
@@ -145,77 +123,13 @@ module _ (asked : Option Asked) where
   checked-missing pages folder books k None c g h (none, number) = lacks-publication folder books c g h number refl
   checked-missing pages folder books k (Some page) c g h (none, number) = absurd none
 
-  pub missing-is : (pages : Pages) (k : ℕ) → Says asked pages (NoPage k fetch.Missing) → LacksPage asked pages k NotHeld
-  missing-is pages k (OfUsage e f) = absurd (cc)
-  missing-is pages k (OfRefusal folder r reads h f) = absurd (cc)
-  missing-is pages k (OfGap folder n g r h f) = gap-is pages folder n k g NotHeld r h f (cc)
-  missing-is pages k (OfClear folder job e h f) = absurd (cc)
-  missing-is pages k (OfCheck folder books e h states) = checked-missing pages folder books k (page_of pages (publication_path folder)) e h refl states
-  missing-is pages k (OfMigrate folder part books e h bad) = absurd bad
-  missing-is pages k (OfGenerate n e bad) = absurd bad
-  missing-is pages k (OfValues folder more books e h bad) = absurd bad
-  missing-is pages k (OfFeed folder e f) = absurd (cc)
-  missing-is pages k (OfBlocks quarters e f) = absurd (cc)
-  missing-is pages k (Fails x n y f) = absurd (cc)
-  missing-is pages k (Starves f) = absurd (cc)
-
-  pub too-long-is : (pages : Pages) (k : ℕ) → Says asked pages (NoPage k fetch.TooLong) → LacksPage asked pages k OverLimit
-  too-long-is pages k (OfUsage e f) = absurd (cc)
-  too-long-is pages k (OfRefusal folder r reads h f) = absurd (cc)
-  too-long-is pages k (OfGap folder n g r h f) = gap-is pages folder n k g OverLimit r h f (cc)
-  too-long-is pages k (OfClear folder job e h f) = absurd (cc)
-  too-long-is pages k (OfCheck folder books e h states) = checked-too-long pages folder books k (page_of pages (publication_path folder)) e h refl states
-  too-long-is pages k (OfMigrate folder part books e h bad) = absurd bad
-  too-long-is pages k (OfGenerate n e bad) = absurd bad
-  too-long-is pages k (OfValues folder more books e h bad) = absurd bad
-  too-long-is pages k (OfFeed folder e f) = absurd (cc)
-  too-long-is pages k (OfBlocks quarters e f) = absurd (cc)
-  too-long-is pages k (Fails x n y f) = absurd (cc)
-  too-long-is pages k (Starves f) = absurd (cc)
-
   -- a day to clear: its books are those of the folder that the words ask to clear so
-  pub record IsToClear (pages : Pages) (job : Job) : Type 0 where
-    pub folder : List ℕ
-    pub command : asked ≡ Some (command_by job.way folder job.nodes job.workers)
-    pub gives : HasBooks pages folder job.books
-
-  pub day-is : (pages : Pages) (job : Job) → Says asked pages (Day job) → IsToClear pages job
-  day-is pages job (OfUsage e f) = absurd (cc)
-  day-is pages job (OfRefusal folder r reads h f) = absurd (cc)
-  day-is pages job (OfGap folder n g r h f) = absurd (cc)
-  day-is pages job (OfClear folder other e h f) =
-      let same : other ≡ job = cc in
-      subst (IsToClear pages) same (record { folder = folder; command = e; gives = h })
-  day-is pages job (OfCheck folder books e h bad) = absurd bad
-  day-is pages job (OfMigrate folder part books e h bad) = absurd bad
-  day-is pages job (OfGenerate n e bad) = absurd bad
-  day-is pages job (OfValues folder more books e h bad) = absurd bad
-  day-is pages job (OfFeed folder e f) = absurd (cc)
-  day-is pages job (OfBlocks quarters e f) = absurd (cc)
-  day-is pages job (Fails x n y f) = absurd (cc)
-  day-is pages job (Starves f) = absurd (cc)
-
-  -- so of each way
-  pub cleared-is : (pages : Pages) (job : Job) → job.way ≡ Whole → IsToClear pages job → AreCleared asked pages job.books job.nodes
-  cleared-is pages job w is = record { folder = is.folder; workers = job.workers; clear = rw w at is.command; gives = is.gives }
-
-  pub split-is : (pages : Pages) (job : Job) → job.way ≡ Islands → IsToClear pages job → AreSplit asked pages job.books job.nodes
-  split-is pages job w is = record { folder = is.folder; workers = job.workers; split = rw w at is.command; gives = is.gives }
-
-  -- where a fetch failed, the words ask for what reads a folder's files
-  pub fails-is : (pages : Pages) (k : ℕ) → Says asked pages (NoPage k fetch.Failed) → AsksForFiles asked
-  fails-is pages k (OfUsage e f) = absurd (cc)
-  fails-is pages k (OfRefusal folder r reads h f) = (folder, reads)
-  fails-is pages k (OfGap folder n g r h f) = (folder, r)
-  fails-is pages k (OfClear folder job e h f) = absurd (cc)
-  fails-is pages k (OfCheck folder books e h states) = (folder, reads asked (Check folder) folder e refl)
-  fails-is pages k (OfMigrate folder part books e h bad) = absurd bad
-  fails-is pages k (OfGenerate n e bad) = absurd bad
-  fails-is pages k (OfValues folder more books e h bad) = absurd bad
-  fails-is pages k (OfFeed folder e f) = absurd (cc)
-  fails-is pages k (OfBlocks quarters e f) = absurd (cc)
-  fails-is pages k (Fails folder n r f) = (folder, r)
-  fails-is pages k (Starves f) = absurd (cc)
+  pub day-is : (pages : Pages) (job : Job) (folder : List ℕ) → asked ≡ Some (command_by job.way folder job.nodes job.workers)
+      → Says asked pages (Day job) → HasBooks pages folder job.books
+  day-is pages job folder c says =
+      let g = given pages (Day job) (command_by job.way folder job.nodes job.workers) folder tt c (folder_by job.way folder job.nodes job.workers) says in
+      let same = by-way job.way pages folder g.0 job.nodes job.workers (Day job) g.2 in
+      subst (HasBooks pages folder) (sym (ap (λ (j : Job). j.books) same)) g.1
 
   -- the line of a valid publication, where one is checked
   pub verdict-is : (before after : Option (List ℕ)) (t : List ℕ) → AsksForText asked t → after ≡ then_took before t → TookVerdict asked before after
@@ -272,16 +186,67 @@ module _ (asked : Option Asked) where
   plain-line pages file Took Is line before after alone p = record { between = before; ahead = nothing-ahead alone refl; took = p }
 
   -- the values of limits
-  pub values-is : (pages : Pages) (v : Valued) → Says asked pages (Values v) → StatesValues asked pages v.end v.text
-  values-is pages v (OfUsage e f) = absurd (cc)
-  values-is pages v (OfRefusal folder r reads h f) = absurd (cc)
-  values-is pages v (OfGap folder n g r h f) = absurd (cc)
-  values-is pages v (OfClear folder job e h f) = absurd (cc)
-  values-is pages v (OfCheck folder books e h bad) = absurd bad
-  values-is pages v (OfMigrate folder part books e h bad) = absurd bad
-  values-is pages v (OfGenerate n e bad) = absurd bad
-  values-is pages v (OfValues folder more books e h states) = record { folder = folder; more = more; value = e; books = books; gives = h; states = states.0 }
-  values-is pages v (OfFeed folder e f) = absurd (cc)
-  values-is pages v (OfBlocks quarters e f) = absurd (cc)
-  values-is pages v (Fails x n y f) = absurd (cc)
-  values-is pages v (Starves f) = absurd (cc)
+  pub values-is : (pages : Pages) (v : Valued) → AsksForValues asked → Says asked pages (Values v) → StatesValues asked pages v.end v.text
+  values-is pages v (folder, more, c) says =
+      let g = given pages (Values v) (Value folder more) folder tt c refl says in
+      record { folder = folder; more = more; value = c; books = g.0; gives = g.1; states = g.2.0 }
+
+-- a text that is printed where all is well
+pub text-prints : (asked : Option Asked) (pages : Pages) (t : Vec ℕ) → AsksForText asked t.items → Says asked pages (Text t) → Prints asked pages t.items
+text-prints (Some (Check folder)) pages t words says =
+    let g = given (Some (Check folder)) pages (Text t) (Check folder) folder tt refl refl says in
+    checked-text (Some (Check folder)) pages folder g.0 t (page_of pages (publication_path folder)) refl g.1 refl g.2
+text-prints (Some (Migrate folder part)) pages t words says =
+    let g = given (Some (Migrate folder part)) pages (Text t) (Migrate folder part) folder tt refl refl says in
+    prints-migrated (record { folder = folder; part = part; migrate = refl; books = g.0; gives = g.1; first = g.2.0 }) g.2.1
+text-prints (Some (Generate number)) pages t words says = prints-generated number refl says
+text-prints _ pages t words says = absurd words
+
+-- what is refused though the folder has books
+refused-by : (asked : Option Asked) (pages : Pages) (folder : List ℕ) (books : Books) (refusal : Refusal) → ReadsFolder asked folder
+    → HasBooks pages folder books → ComesOfBooks asked pages folder books (Refused refusal) → IsRefused asked pages refusal
+refused-by (Some (Check f)) pages folder books refusal r h is =
+    let same : f ≡ folder = one-folder f folder r in
+    checked-refused (Some (Check f)) pages folder books refusal (page_of pages (publication_path folder)) (ap (λ x. Some (Check x)) same) h refl is
+refused-by (Some (Migrate f part)) pages folder books refusal r h (again, is) =
+    let same : f ≡ folder = one-folder f folder r in
+    refused-files (refuses-version folder part books (ap (λ x. Some (Migrate x part)) same) h again is)
+refused-by _ pages folder books refusal r h is = absurd is
+
+pub refused-is : (asked : Option Asked) (pages : Pages) (refusal : Refusal) → AsksForFiles asked → Says asked pages (Refused refusal) → IsRefused asked pages refusal
+refused-is asked pages refusal (folder, r) says = by (of-folder asked pages (Refused refusal) folder r says)
+  where
+    by : SaysOfFolder asked pages folder (Refused refusal) → IsRefused asked pages refusal
+    by (OfRefusal other h e) =
+        let same : other ≡ refusal = cc in
+        let P : Refusal → Type 0 = λ x. IsRefused asked pages x in
+        subst P same (refused-files (refuses-books folder r h))
+    by (OfGap n gap h e) = absurd cc
+    by (OfBooks books h is) = refused-by asked pages folder books refusal r h is
+    by (Fails n e) = absurd cc
+    by (Starves e) = absurd cc
+
+-- the publication that is checked can't be had though the folder has books
+lacks-by : (asked : Option Asked) (pages : Pages) (folder : List ℕ) (books : Books) (k : ℕ) (gap : Gap) → ReadsFolder asked folder
+    → HasBooks pages folder books → ComesOfBooks asked pages folder books (NoPage k (fetch_of gap)) → LacksPage asked pages k gap
+lacks-by (Some (Check f)) pages folder books k NotHeld r h is =
+    let same : f ≡ folder = one-folder f folder r in
+    checked-missing (Some (Check f)) pages folder books k (page_of pages (publication_path folder)) (ap (λ x. Some (Check x)) same) h refl is
+lacks-by (Some (Check f)) pages folder books k OverLimit r h is =
+    let same : f ≡ folder = one-folder f folder r in
+    checked-too-long (Some (Check f)) pages folder books k (page_of pages (publication_path folder)) (ap (λ x. Some (Check x)) same) h refl is
+lacks-by _ pages folder books k gap r h is = absurd is
+
+no-failure : (gap : Gap) → fetch_of gap ≡ fetch.Failed → ⊥
+no-failure NotHeld e = cc
+no-failure OverLimit e = cc
+
+pub lacks-is : (asked : Option Asked) (pages : Pages) (k : ℕ) (gap : Gap) → AsksForFiles asked → Says asked pages (NoPage k (fetch_of gap)) → LacksPage asked pages k gap
+lacks-is asked pages k gap (folder, r) says = by (of-folder asked pages (NoPage k (fetch_of gap)) folder r says)
+  where
+    by : SaysOfFolder asked pages folder (NoPage k (fetch_of gap)) → LacksPage asked pages k gap
+    by (OfRefusal refusal h e) = absurd cc
+    by (OfGap n g h e) = gap-is asked pages folder n k g gap r h e cc
+    by (OfBooks books h is) = lacks-by asked pages folder books k gap r h is
+    by (Fails n e) = absurd (no-failure gap cc)
+    by (Starves e) = absurd cc

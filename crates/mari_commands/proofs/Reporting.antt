@@ -1,6 +1,5 @@
--- Reports of one text under another name, of a text with a line after it, of a page that can't be had, of a refusal, and of
--- a feed of which nothing is printed.
-use Rattle.std.proofs.Common.{◌≡◌, ℕ, List, Option, Some, None, refl, subst}
+-- Reports of a text, of a refusal, and of a feed of which nothing is printed.
+use Rattle.std.proofs.Common.{◌≡◌, ℕ, List, Option, Some, None, inl, inr, refl, subst, sym}
 use Rattle.std.specs.Prelude.{Err}
 use Rattle.mari_io.proofs.Taken.{took_nothing}
 use Rattle.mari_units.specs.declared.faults.Refusal.{Refusal}
@@ -12,7 +11,16 @@ use Rattle.mari_feed.proofs.Feeding.{took_none}
 use Rattle.mari_answers.specs.declared.status.Status.{Status}
 use Rattle.mari_commands.specs.Commands.{text_refusal}
 use Rattle.mari_commands.specs.Outcome.{ReportsText, refusal_of}
-use Rattle.mari_answers.specs.Reports.{ReportsRefusal}
+use Rattle.mari_answers.specs.Reports.{Reports, ReportsRefusal}
+use Rattle.mari_answers.specs.Reports.Reports.{Printed, CutOff, Starved}
+use Rattle.mari_commands.specs.Program.{OrFault}
+
+-- the answer is the status of a text, unless a write failed or there was no memory
+pub or-fault : (before after : Option (List ℕ)) (result : Status) (Q : Status → Type 0) (text : List ℕ) (wanted : Status)
+    → Reports text wanted before after result → OrFault Q wanted → OrFault Q result
+or-fault before after result Q text wanted (Printed e p) h = let P : Status → Type 0 = λ x. OrFault Q x in subst P (sym e) h
+or-fault before after result Q text wanted (CutOff e p) h = inr (inr (inl e))
+or-fault before after result Q text wanted (Starved e p) h = inr (inr (inr e))
 
 -- the refusal of a fault of a publication's text
 pub same_refusal : (fault : TextFault) (refusal : Refusal) (before after : Option (List ℕ)) (result : Status)

@@ -11,21 +11,34 @@ use Rattle.mari_day.specs.Reading.{BooksReport, NamesAFile}
 use Rattle.mari_day.specs.declared.reading.BooksFault.{BooksFault}
 use Rattle.mari_day.specs.declared.reading.BooksFault.TheVariants as why
 use Rattle.mari_words.specs.Asked.{Asked}
-use Rattle.mari_words.specs.Asked.Asked.{Check, Generate, Migrate}
+use Rattle.mari_words.specs.Asked.Asked.{Check, Clear, Generate, Migrate, Split, Value}
 use Rattle.mari_words.specs.declared.command.FilePart.{FilePart}
 use Rattle.mari_commands.specs.declared.outcome.Outcome.{Outcome}
 use Rattle.mari_commands.specs.declared.outcome.Outcome.TheVariants.{Text, Refused, Memory as NoMemory}
 use Rattle.mari_commands.specs.Commands.{AsksForLines, ReadsFolder}
-use Rattle.mari_commands.specs.Outcome.{IsMigrated, IsOfWords, IsSummarised, Says, no_books, text_outcome}
-use Rattle.mari_commands.specs.Outcome.Says.{OfRefusal, OfGap, Fails, Starves}
+use Rattle.mari_commands.specs.Outcome.{IsMigrated, IsOfWords, IsSummarised, Says, SaysOfFolder, no_books, text_outcome}
+use Rattle.mari_commands.specs.Outcome.SaysOfFolder.{OfRefusal, OfGap, Fails, Starves}
+use Rattle.mari_commands.proofs.Folder.{says-folder}
 
 pub says-fault : (asked : Option Asked) (pages : Pages) (folder : List ℕ) (fault : BooksFault) → ReadsFolder asked folder → BooksReport pages folder (Err fault) → Says asked pages (no_books fault)
-says-fault asked pages folder (why.Fetch n fetch.Failed) r states = Fails folder n r refl
-says-fault asked pages folder (why.Fetch n fetch.Missing) r states = OfGap folder n NotHeld r states refl
-says-fault asked pages folder (why.Fetch n fetch.TooLong) r states = OfGap folder n OverLimit r states refl
-says-fault asked pages folder (why.Fetch n fetch.Memory) r states = absurd states
-says-fault asked pages folder (why.Refused refusal) r states = OfRefusal folder refusal r states refl
-says-fault asked pages folder why.Memory r states = Starves refl
+says-fault asked pages folder fault r states = says-folder asked pages (no_books fault) folder r (by fault states)
+  where
+    by : (fault : BooksFault) → BooksReport pages folder (Err fault) → SaysOfFolder asked pages folder (no_books fault)
+    by (why.Fetch n fetch.Failed) states = Fails n refl
+    by (why.Fetch n fetch.Missing) states = OfGap n NotHeld states refl
+    by (why.Fetch n fetch.TooLong) states = OfGap n OverLimit states refl
+    by (why.Fetch n fetch.Memory) states = absurd states
+    by (why.Refused refusal) states = OfRefusal refusal states refl
+    by why.Memory states = Starves refl
+
+-- whatever the words ask for there may be no memory
+pub says-memory : (asked : Option Asked) (pages : Pages) → Says asked pages NoMemory
+says-memory (Some (Clear folder nodes workers)) pages = Starves refl
+says-memory (Some (Check folder)) pages = Starves refl
+says-memory (Some (Migrate folder part)) pages = Starves refl
+says-memory (Some (Split folder nodes workers)) pages = Starves refl
+says-memory (Some (Value folder more)) pages = Starves refl
+says-memory _ pages = tt
 
 -- words that ask for no lines of a publication
 pub check-no-lines : (folder : List ℕ) → AsksForLines (Some (Check folder)) → ⊥

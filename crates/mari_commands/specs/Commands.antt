@@ -187,8 +187,10 @@ pub data LacksPage (asked : Option Asked) (pages : Pages) (file : ℕ) (gap : Ga
   OfBooks : (folder : List ℕ) → ReadsFolder asked folder → HasGap pages folder file gap → LacksPage asked pages file gap
   NoPublication : (folder : List ℕ) (books : Books) → asked ≡ Some (Check folder) → HasBooks pages folder books → page_of pages (publication_path folder) ≡ None
       → file ≡ PUBLICATION → gap ≡ NotHeld → LacksPage asked pages file gap
-  LongPublication : (books : Books) (page : List ℕ) → HasPublication asked pages books page → IsTooLong page → file ≡ PUBLICATION → gap ≡ OverLimit → LacksPage asked pages file gap
-  NoFeed : (folder : List ℕ) → asked ≡ Some (Feed folder) → page_of pages (publication_path folder) ≡ None → file ≡ PUBLICATION → gap ≡ NotHeld → LacksPage asked pages file gap
+  LongPublication : (books : Books) (page : List ℕ) → HasPublication asked pages books page → IsTooLong page → file ≡ PUBLICATION → gap ≡ OverLimit
+      → LacksPage asked pages file gap
+  NoFeed : (folder : List ℕ) → asked ≡ Some (Feed folder) → page_of pages (publication_path folder) ≡ None → file ≡ PUBLICATION → gap ≡ NotHeld
+      → LacksPage asked pages file gap
   LongFeed : (page : List ℕ) → HasFeed asked pages page → IsTooLong page → file ≡ PUBLICATION → gap ≡ OverLimit → LacksPage asked pages file gap
   OfValues : EndsValues asked pages (values.Fetch (fetch_of gap)) → file ≡ PUBLICATION → LacksPage asked pages file gap
 

@@ -41,9 +41,12 @@ module _ (folder : List ℕ) (first last nodes : ℕ) where
   -- a write failed: a first part was taken of the text, or of the line of a refusal, of a page that can't be had, or of a
   -- failed fetch, which is said only where a call of the shelf failed
   pub data AreCutOff (pages : Pages) (failed : Type 0) (before after : Option (List ℕ)) : Type 0 where
-    Text : (published : Bool) (text : List ℕ) → HasQuartersText pages folder first last nodes published text → TookPart before after text → AreCutOff pages failed before after
-    Refuses : (refusal : Refusal) → HasQuartersRefusal pages folder first last refusal → TookPart before after (refused_line refusal) → AreCutOff pages failed before after
-    Lacks : (file : ℕ) (gap : Gap) → HasQuartersGap pages folder file gap → TookPart before after (file_line (gap_word gap) file) → AreCutOff pages failed before after
+    Text : (published : Bool) (text : List ℕ) → HasQuartersText pages folder first last nodes published text → TookPart before after text
+        → AreCutOff pages failed before after
+    Refuses : (refusal : Refusal) → HasQuartersRefusal pages folder first last refusal → TookPart before after (refused_line refusal)
+        → AreCutOff pages failed before after
+    Lacks : (file : ℕ) (gap : Gap) → HasQuartersGap pages folder file gap → TookPart before after (file_line (gap_word gap) file)
+        → AreCutOff pages failed before after
     Fails : failed → (file : ℕ) → IsQuartersFile file → TookPart before after (file_line (page_word fetch.Failed) file) → AreCutOff pages failed before after
 
   -- what each answer says; out of memory nothing is taken
@@ -51,7 +54,8 @@ module _ (folder : List ℕ) (first last nodes : ℕ) where
   BlocksAnswers pages failed before after Done = WhereReported pages (λ reported. TookQuarters reported true before after)
   BlocksAnswers pages failed before after Unpublished = WhereReported pages (λ reported. TookQuarters reported false before after)
   BlocksAnswers pages failed before after (Refused refusal) =
-      WhereReported pages (λ reported. HasQuartersRefusal reported folder first last refusal) × IsQuartersFile refusal.file × HasName refusal × (after ≡ then_took before (refused_line refusal))
+      WhereReported pages (λ reported. HasQuartersRefusal reported folder first last refusal) × IsQuartersFile refusal.file × HasName refusal
+      × (after ≡ then_took before (refused_line refusal))
   BlocksAnswers pages failed before after ReadFault = (file : ℕ) × IsQuartersFile file × (after ≡ then_took before (file_line (page_word fetch.Failed) file))
   BlocksAnswers pages failed before after Missing = TookQuartersGap pages NotHeld before after
   BlocksAnswers pages failed before after TooLong = TookQuartersGap pages OverLimit before after
@@ -62,7 +66,8 @@ module _ (folder : List ℕ) (first last nodes : ℕ) where
 
 -- what each answer of the program says: of quarters that are cleared as one market, or of what else the words ask for
 abbrev pub AnswersOf : Option Asked → Option Pages → (failed : Type 0) → (before after : Option (List ℕ)) → Status → Type 0
-AnswersOf (Some (Blocks folder first last nodes workers)) pages failed before after result = BlocksAnswers folder first last nodes pages failed before after result
+AnswersOf (Some (Blocks folder first last nodes workers)) pages failed before after result =
+    BlocksAnswers folder first last nodes pages failed before after result
 AnswersOf asked pages failed before after result = Answers asked pages failed before after result
 
 -- ---- what the pages decide

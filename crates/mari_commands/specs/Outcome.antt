@@ -1,7 +1,6 @@
 -- What the words and the pages come to, and how it is reported.
-use Rattle.std.specs.Prelude.{ℕ, ◌≡◌, ◌≢◌, ◌⊎◌, ◌≤◌, ◌==◌, ◌++◌, List, Option, Some, None, Result, Ok, Err, ⊤, String, string_bytes, if◌then◌else◌}
+use Rattle.std.specs.Prelude.{ℕ, ◌≡◌, ◌≢◌, ◌⊎◌, ◌≤◌, ◌==◌, ◌++◌, List, Option, Some, None, Result, Ok, Err, ⊤, option_and_then, string_bytes, if◌then◌else◌}
 use Rattle.std.specs.Option.{option_map_or}
-use Rattle.std.specs.declared.alloc.Global.{Global}
 use Rattle.mari_io.specs.declared.shelf.Fetch.{Fetch}
 use Rattle.mari_io.specs.declared.shelf.Fetch.TheVariants as fetch
 use Rattle.mari_io.specs.Outside.{Pages, page_of}
@@ -38,12 +37,14 @@ use Rattle.mari_market.specs.Clearing.{IsBudget, IsWorkerCount}
 use Rattle.mari_publish.specs.Streams.{AsksForPage}
 use Rattle.mari_commands.specs.declared.outcome.Job.{Job}
 use Rattle.mari_commands.specs.declared.outcome.JointJob.{JointJob}
+use Rattle.mari_commands.specs.declared.outcome.Way.{Way}
+use Rattle.mari_commands.specs.declared.outcome.Way.TheVariants.{Whole, Islands}
 use Rattle.mari_commands.specs.declared.outcome.Outcome.{Outcome}
 use Rattle.mari_commands.specs.declared.outcome.Outcome.TheVariants.{NoCommand, Day, Feed as Feeds, Blocks as Joins, Values, Text, Invalid, NoPage, Refused, Memory as NoMemory}
 use Rattle.mari_answers.specs.declared.status.Status.{Status}
 use Rattle.mari_answers.specs.declared.status.Status.TheVariants as status
 use Rattle.mari_words.specs.declared.command.FilePart.{FilePart}
-use Rattle.mari_commands.specs.Commands.{AsksForFiles, AsksForLines, AsksForValues, AsksToCheck, IsAlone, ReadsFolder, already_two, fetch_of, page_of_part, publication_path, text_refusal}
+use Rattle.mari_commands.specs.Commands.{AsksForFiles, AsksForLines, AsksForValues, AsksToCheck, IsAlone, already_two, fetch_of, folder_of, page_of_part, publication_path, text_refusal}
 use Rattle.mari_commands.specs.Splits.{EndsBy, command_by}
 use Rattle.mari_commands.specs.Summary.{IsGenerated}
 use Rattle.mari_commands.specs.Printing.{usage_line, valid_line}
@@ -277,25 +278,64 @@ IsReportedValues books more page (Values v) = ValuesReport books more page v
 IsReportedValues books more page NoMemory = ⊤
 IsReportedValues books more page _ = ⊥
 
--- what an outcome says of what the words ask for and of the pages: the words are no command; a folder's market files
--- are refused, or a page of them can't be had; or they give books, which are cleared, checked, migrated or valued; a
--- day is generated; a publication is printed as a feed; quarters are cleared as one market; or a fetch failed, or there
--- was no memory
-pub data Says (asked : Option Asked) (pages : Pages) (o : Outcome) : Type 0 where
-  OfUsage : asked ≡ None → o ≡ NoCommand → Says asked pages o
-  OfRefusal : (folder : List ℕ) (refusal : Refusal) → ReadsFolder asked folder → HasRefusal pages folder refusal → o ≡ Refused refusal → Says asked pages o
-  OfGap : (folder : List ℕ) (file : ℕ) (gap : Gap) → ReadsFolder asked folder → HasGap pages folder file gap → o ≡ NoPage file (fetch_of gap) → Says asked pages o
-  OfClear : (folder : List ℕ) (job : Job) → asked ≡ Some (command_by job.way folder job.nodes job.workers) → HasBooks pages folder job.books → o ≡ Day job → Says asked pages o
-  OfCheck : (folder : List ℕ) (books : Books) → asked ≡ Some (Check folder) → HasBooks pages folder books → CheckStates books (page_of pages (publication_path folder)) o → Says asked pages o
-  OfMigrate : (folder : List ℕ) (part : FilePart) (books : Books) → asked ≡ Some (Migrate folder part) → HasBooks pages folder books → IsMigrated books part o → Says asked pages o
-  OfGenerate : (number : ℕ) → asked ≡ Some (Generate number) → IsSummarised number o → Says asked pages o
-  OfValues : (folder : List ℕ) (more : ℕ) (books : Books) → asked ≡ Some (Value folder more)
-      → HasBooks pages folder books → IsReportedValues books more (page_of pages (publication_path folder)) o
-      → Says asked pages o
-  OfFeed : (folder : String Global) → asked ≡ Some (Feed (string_bytes folder)) → o ≡ Feeds folder → Says asked pages o
-  OfBlocks : (quarters : JointJob) → asked ≡ Some (joint_command quarters) → o ≡ Joins quarters → Says asked pages o
-  Fails : (folder : List ℕ) (file : ℕ) → ReadsFolder asked folder → o ≡ NoPage file fetch.Failed → Says asked pages o
-  Starves : o ≡ NoMemory → Says asked pages o
+-- what comes of words that are no command
+abbrev pub IsUsage : Outcome → Type 0
+IsUsage NoCommand = ⊤
+IsUsage NoMemory = ⊤
+IsUsage _ = ⊥
+
+-- what comes of a folder whose publication is printed as a feed
+abbrev pub IsFeedOf : (folder : List ℕ) → Outcome → Type 0
+IsFeedOf folder (Feeds name) = string_bytes name ≡ folder
+IsFeedOf folder NoMemory = ⊤
+IsFeedOf folder _ = ⊥
+
+-- what comes of a command that clears quarters as one market
+abbrev pub IsJointOf : (command : Asked) → Outcome → Type 0
+IsJointOf command (Joins quarters) = joint_command quarters ≡ command
+IsJointOf command NoMemory = ⊤
+IsJointOf command _ = ⊥
+
+-- what comes of words that read no market files
+abbrev pub ComesAtOnce : Option Asked → Outcome → Type 0
+ComesAtOnce None o = IsUsage o
+ComesAtOnce (Some (Generate number)) o = IsSummarised number o
+ComesAtOnce (Some (Feed folder)) o = IsFeedOf folder o
+ComesAtOnce (Some (Blocks folder first last nodes workers)) o = IsJointOf (Blocks folder first last nodes workers) o
+ComesAtOnce _ o = ⊥
+
+-- what comes of books whose runs are cleared in this way
+abbrev pub IsDayOf : Way → Books → (nodes workers : ℕ) → Outcome → Type 0
+IsDayOf way books nodes workers (Day job) = job ≡ record { books = books; way = way; nodes = nodes; workers = workers }
+IsDayOf way books nodes workers _ = ⊥
+
+-- what comes of the books of the folder whose market files the words read: a day to clear, what the check of its
+-- publication states, the new form of a file, or the values of its limits
+abbrev pub ComesOfBooks : Option Asked → Pages → (folder : List ℕ) → Books → Outcome → Type 0
+ComesOfBooks (Some (Clear _ nodes workers)) pages folder books o = IsDayOf Whole books nodes workers o
+ComesOfBooks (Some (Check _)) pages folder books o = CheckStates books (page_of pages (publication_path folder)) o
+ComesOfBooks (Some (Migrate _ part)) pages folder books o = IsMigrated books part o
+ComesOfBooks (Some (Split _ nodes workers)) pages folder books o = IsDayOf Islands books nodes workers o
+ComesOfBooks (Some (Value _ more)) pages folder books o = IsReportedValues books more (page_of pages (publication_path folder)) o
+ComesOfBooks _ pages folder books o = ⊥
+
+-- what an outcome says of the folder whose market files the words read: they are refused, or a page of them can't be
+-- had; or they give books, of which the outcome comes; or a fetch failed, or there was no memory
+pub data SaysOfFolder (asked : Option Asked) (pages : Pages) (folder : List ℕ) (o : Outcome) : Type 0 where
+  OfRefusal : (refusal : Refusal) → HasRefusal pages folder refusal → o ≡ Refused refusal → SaysOfFolder asked pages folder o
+  OfGap : (file : ℕ) (gap : Gap) → HasGap pages folder file gap → o ≡ NoPage file (fetch_of gap) → SaysOfFolder asked pages folder o
+  OfBooks : (books : Books) → HasBooks pages folder books → ComesOfBooks asked pages folder books o → SaysOfFolder asked pages folder o
+  Fails : (file : ℕ) → o ≡ NoPage file fetch.Failed → SaysOfFolder asked pages folder o
+  Starves : o ≡ NoMemory → SaysOfFolder asked pages folder o
+
+-- the same where the words may read none
+abbrev pub SaysBy : Option Asked → Pages → (folder : Option (List ℕ)) → Outcome → Type 0
+SaysBy asked pages None o = ComesAtOnce asked o
+SaysBy asked pages (Some folder) o = SaysOfFolder asked pages folder o
+
+-- what an outcome says of what the words ask for and of the pages
+abbrev pub Says : Option Asked → Pages → Outcome → Type 0
+Says asked pages o = SaysBy asked pages (option_and_then folder_of asked) o
 
 -- books, or the outcome of a folder that has none
 abbrev pub Found : Option Asked → Pages → List ℕ → Result Books Outcome → Type 0

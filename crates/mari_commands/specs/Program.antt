@@ -62,7 +62,8 @@ SaysValues asked pages Ends lines = (end : ValueEnd) × Ends end × StatesValues
 -- what is printed before a line that names this file: nothing, where the words ask for no lines of a publication or the
 -- file isn't that; or lines of its parts, where they ask for a feed; or the lines of the blocks that were checked,
 -- where they ask for the values of limits
-pub data TookAhead (asked : Option Asked) (pages : Option Pages) (file : ℕ) (Took : List ℕ → Option (List ℕ) → Option (List ℕ) → Type 0) (Ends : ValueEnd → Type 0) (before after : Option (List ℕ)) : Type 0 where
+pub data TookAhead (asked : Option Asked) (pages : Option Pages) (file : ℕ) (Took : List ℕ → Option (List ℕ) → Option (List ℕ) → Type 0)
+    (Ends : ValueEnd → Type 0) (before after : Option (List ℕ)) : Type 0 where
   Nothing : IsAlone asked file → after ≡ before → TookAhead asked pages file Took Ends before after
   Lines : (folder : List ℕ) → asked ≡ Some (Feed folder) → file ≡ PUBLICATION
       → WhereReported pages (λ reported. TookOf Took (page_of reported (publication_path folder)) before after)
@@ -72,13 +73,15 @@ pub data TookAhead (asked : Option Asked) (pages : Option Pages) (file : ℕ) (T
       → TookAhead asked pages file Took Ends before after
 
 -- and then this line was taken
-pub record TookLine (asked : Option Asked) (pages : Option Pages) (file : ℕ) (Took : List ℕ → Option (List ℕ) → Option (List ℕ) → Type 0) (Ends : ValueEnd → Type 0) (line : List ℕ) (before after : Option (List ℕ)) : Type 0 where
+pub record TookLine (asked : Option Asked) (pages : Option Pages) (file : ℕ) (Took : List ℕ → Option (List ℕ) → Option (List ℕ) → Type 0)
+    (Ends : ValueEnd → Type 0) (line : List ℕ) (before after : Option (List ℕ)) : Type 0 where
   pub between : Option (List ℕ)
   pub ahead : TookAhead asked pages file Took Ends before between
   pub took : after ≡ then_took between line
 
 -- and then a first part of this line was taken
-pub record BeganLine (asked : Option Asked) (pages : Pages) (Took : List ℕ → Option (List ℕ) → Option (List ℕ) → Type 0) (line : List ℕ) (before after : Option (List ℕ)) : Type 0 where
+pub record BeganLine (asked : Option Asked) (pages : Pages) (Took : List ℕ → Option (List ℕ) → Option (List ℕ) → Type 0) (line : List ℕ)
+    (before after : Option (List ℕ)) : Type 0 where
   pub between : Option (List ℕ)
   pub ahead : TookAhead asked (Some pages) PUBLICATION Took (λ end. ⊥) before between
   pub began : TookPart between after line
@@ -107,9 +110,11 @@ pub data IsDone (asked : Option Asked) (pages : Pages) (before after : Option (L
 pub data IsLine (asked : Option Asked) (pages : Pages) (failed : Type 0) (text : List ℕ) : Type 0 where
   OfUsage : asked ≡ None → text ≡ usage_line → IsLine asked pages failed text
   OfRefusal : (refusal : Refusal) → IsRefused asked pages refusal → IsAlone asked refusal.file → text ≡ refused_line refusal → IsLine asked pages failed text
-  OfFault : failed → (folder : List ℕ) (file : ℕ) → ReadsFolder asked folder → MayWant asked file → IsAlone asked file → text ≡ file_line (page_word fetch.Failed) file → IsLine asked pages failed text
+  OfFault : failed → (folder : List ℕ) (file : ℕ) → ReadsFolder asked folder → MayWant asked file → IsAlone asked file
+      → text ≡ file_line (page_word fetch.Failed) file → IsLine asked pages failed text
   OfMissing : (file : ℕ) → LacksPage asked pages file NotHeld → IsAlone asked file → text ≡ file_line (gap_word NotHeld) file → IsLine asked pages failed text
-  OfTooLong : (file : ℕ) → LacksPage asked pages file OverLimit → IsAlone asked file → text ≡ file_line (gap_word OverLimit) file → IsLine asked pages failed text
+  OfTooLong : (file : ℕ) → LacksPage asked pages file OverLimit → IsAlone asked file → text ≡ file_line (gap_word OverLimit) file
+      → IsLine asked pages failed text
   OfInvalid : (run fault : ℕ) → IsInvalid asked pages run fault → IsAlone asked PUBLICATION → text ≡ invalid_line run fault → IsLine asked pages failed text
   OfText : Prints asked pages text → IsLine asked pages failed text
 
@@ -120,10 +125,14 @@ pub data IsCutOff (asked : Option Asked) (pages : Pages) (failed : Type 0) (befo
   Day : (books : Books) (nodes : ℕ) → AreCleared asked pages books nodes → WrotePrefix books nodes before after → IsCutOff asked pages failed before after
   Line : (AsksForFeed asked → ⊥) → (text : List ℕ) → IsLine asked pages failed text → TookPart before after text → IsCutOff asked pages failed before after
   FeedPart : (page : List ℕ) → HasFeed asked pages page → TookSome page before after → IsCutOff asked pages failed before after
-  SplitDay : (books : Books) (nodes : ℕ) → AreSplit asked pages books nodes → WroteSplitPrefix books nodes before after → IsCutOff asked pages failed before after
-  FeedRefused : (refusal : Refusal) → IsRefused asked pages refusal → BeganLine asked pages TookAll (refused_line refusal) before after → IsCutOff asked pages failed before after
-  FeedFault : failed → AsksForFeed asked → BeganLine asked pages TookFirst (file_line (page_word fetch.Failed) PUBLICATION) before after → IsCutOff asked pages failed before after
-  FeedGap : (gap : Gap) → LacksPage asked pages PUBLICATION gap → BeganLine asked pages TookFirst (file_line (gap_word gap) PUBLICATION) before after → IsCutOff asked pages failed before after
+  SplitDay : (books : Books) (nodes : ℕ) → AreSplit asked pages books nodes → WroteSplitPrefix books nodes before after
+      → IsCutOff asked pages failed before after
+  FeedRefused : (refusal : Refusal) → IsRefused asked pages refusal → BeganLine asked pages TookAll (refused_line refusal) before after
+      → IsCutOff asked pages failed before after
+  FeedFault : failed → AsksForFeed asked → BeganLine asked pages TookFirst (file_line (page_word fetch.Failed) PUBLICATION) before after
+      → IsCutOff asked pages failed before after
+  FeedGap : (gap : Gap) → LacksPage asked pages PUBLICATION gap → BeganLine asked pages TookFirst (file_line (gap_word gap) PUBLICATION) before after
+      → IsCutOff asked pages failed before after
   ValuesPart : BeganValues asked pages failed before after → IsCutOff asked pages failed before after
 
 -- out of memory: nothing was taken, or the head and whole blocks of a day part, or the lines of the first parts of
@@ -158,7 +167,8 @@ pub record TookFirstPart (asked : Option Asked) (before after : Option (List ℕ
 -- what each answer says of what the words ask for, of the pages where they are reported, of a fetch that failed, and of
 -- what the sink has taken; a refusal is printed with the name of its check, and has one
 abbrev pub Answers : Option Asked → Option Pages → (failed : Type 0) → (before after : Option (List ℕ)) → Status → Type 0
-Answers asked pages failed before after Done = WhereReported pages (λ reported. IsDone asked reported before after) × TookSummary asked before after × TookVerdict asked before after
+Answers asked pages failed before after Done =
+    WhereReported pages (λ reported. IsDone asked reported before after) × TookSummary asked before after × TookVerdict asked before after
 Answers asked pages failed before after Unpublished =
     (AsksToClear asked × WhereReported pages (λ reported. WroteDay asked reported false before after))
     ⊎ (AsksToSplit asked × WhereReported pages (λ reported. WroteSplit asked reported false before after))
@@ -169,7 +179,8 @@ Answers asked pages failed before after (Refused refusal) =
 Answers asked pages failed before after ReadFault =
     AsksForPages asked
     × ((file : ℕ) × MayWant asked file × TookLine asked pages file TookFirst IsFailedEnd (file_line (page_word fetch.Failed) file) before after)
-Answers asked pages failed before after WriteFault = WhereReported pages (λ reported. IsCutOff asked reported failed before after) × TookFirstPart asked before after
+Answers asked pages failed before after WriteFault =
+    WhereReported pages (λ reported. IsCutOff asked reported failed before after) × TookFirstPart asked before after
 Answers asked pages failed before after Memory =
     WhereReported pages (λ reported. IsStarved asked reported before after)
     × ((after ≡ before) ⊎ (AsksToClear asked ⊎ (AsksForFeed asked ⊎ AsksToSplit asked)))

@@ -30,7 +30,8 @@ fn no_books(fault: BooksFault) -> Outcome
 pub fn books_in<S: Shelf>(alloc: Global, shelf: &mut S, folder: &str) -> Result<Books, Outcome>
     // What is found of the folder's pages, where the shelf reports them.
     ensures same { S.pages shelf.new ≡ S.pages shelf.old }
-    ensures reported { (asked : Option Asked) (reported : Pages) → ReadsFolder asked folder.now → S.pages shelf.old ≡ Some reported → Found asked reported folder.now result }
+    ensures reported { (asked : Option Asked) (reported : Pages) → ReadsFolder asked folder.now → S.pages shelf.old ≡ Some reported
+        → Found asked reported folder.now result }
 
     // What holds of the books on any shelf.
     ensures accepted { IfOk result IsAccepted }

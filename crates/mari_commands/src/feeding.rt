@@ -30,7 +30,8 @@ pub fn fed<S: Shelf, K: Sink>(alloc: Global, shelf: &mut S, sink: &mut K, folder
     ensures same { S.pages shelf.new ≡ S.pages shelf.old }
     ensures fetched { AsksForOne (S.fetches shelf.old) (S.fetches shelf.new) (S.given shelf.new) }
     ensures named { S.named shelf.new ≤ S.named shelf.old + 1 }
-    ensures reported { ReportsParts (S.pages shelf.old) (Rose (S.faults shelf.old) (S.faults shelf.new)) folder.now (K.taken sink.old) (K.taken sink.new) result }
+    ensures reported { ReportsParts (S.pages shelf.old) (Rose (S.faults shelf.old) (S.faults shelf.new)) folder.now
+        (K.taken sink.old) (K.taken sink.new) result }
 
     // Why the page wasn't had, or a text not written.
     ensures read_fault { Counts (result ≡ Status.ReadFault) (S.faults shelf.old) (S.faults shelf.new) }

@@ -62,7 +62,8 @@ fn join_by<S: Shelf, K: Sink, C: Clearer>(
     requires quarters { AreJoinable quarters.now }
     requires ready { C.ready clearer.old }
     ensures same { S.pages shelf.new ≡ S.pages shelf.old }
-    ensures reported { ReportsBlocks (S.pages shelf.old) (Rose (S.faults shelf.old) (S.faults shelf.new)) quarters.now (K.taken sink.old) (K.taken sink.new) result }
+    ensures reported { ReportsBlocks (S.pages shelf.old) (Rose (S.faults shelf.old) (S.faults shelf.new)) quarters.now
+        (K.taken sink.old) (K.taken sink.new) result }
 
     // Why a page wasn't had, or a text not written.
     ensures read_fault { Counts (result ≡ Status.ReadFault) (S.faults shelf.old) (S.faults shelf.new) }
@@ -91,7 +92,8 @@ pub fn join_alone<S: Shelf, K: Sink>(
 ) -> Status
     requires quarters { AreJoinable quarters.now }
     ensures same { S.pages shelf.new ≡ S.pages shelf.old }
-    ensures reported { ReportsBlocks (S.pages shelf.old) (Rose (S.faults shelf.old) (S.faults shelf.new)) quarters.now (K.taken sink.old) (K.taken sink.new) result }
+    ensures reported { ReportsBlocks (S.pages shelf.old) (Rose (S.faults shelf.old) (S.faults shelf.new)) quarters.now
+        (K.taken sink.old) (K.taken sink.new) result }
 
     // Why a page wasn't had, or a text not written.
     ensures read_fault { Counts (result ≡ Status.ReadFault) (S.faults shelf.old) (S.faults shelf.new) }
@@ -113,7 +115,8 @@ pub fn join_together<S: Shelf, K: Sink, G: Turnstile, R: Threads + Wait + Sync>(
 ) -> Status
     requires quarters { AreJoinable quarters.now }
     ensures same { S.pages shelf.new ≡ S.pages shelf.old }
-    ensures reported { ReportsBlocks (S.pages shelf.old) (Rose (S.faults shelf.old) (S.faults shelf.new)) quarters.now (K.taken sink.old) (K.taken sink.new) result }
+    ensures reported { ReportsBlocks (S.pages shelf.old) (Rose (S.faults shelf.old) (S.faults shelf.new)) quarters.now
+        (K.taken sink.old) (K.taken sink.new) result }
 
     // Why a page wasn't had, or a text not written.
     ensures read_fault { Counts (result ≡ Status.ReadFault) (S.faults shelf.old) (S.faults shelf.new) }

@@ -161,7 +161,8 @@ pub fn run_program<S: Shelf, K: Sink, G: Turnstile, R: Threads + Wait + Sync>(
     turnstile: &G,
 ) -> Status
     // The headline is in here: what each answer says of the words, of the pages and of what is printed.
-    ensures answers { AnswersOf (command_at (map string_bytes words.now)) (S.pages shelf.old) (Rose (S.faults shelf.old) (S.faults shelf.new)) (K.taken sink.old) (K.taken sink.new) result }
+    ensures answers { AnswersOf (command_at (map string_bytes words.now)) (S.pages shelf.old) (Rose (S.faults shelf.old) (S.faults shelf.new))
+        (K.taken sink.old) (K.taken sink.new) result }
     ensures same { S.pages shelf.new ≡ S.pages shelf.old }
 
     // Where the words read no page, nothing is fetched. On a feed at most one call names a page, and each further one is for
@@ -180,33 +181,48 @@ pub fn run_program<S: Shelf, K: Sink, G: Turnstile, R: Threads + Wait + Sync>(
     // the text of a publication that is checked or printed as a feed, and the first page that isn't held or is too
     // long.
     ensures no_command { command_at (map string_bytes words.now) ≡ None → (result ≡ Status.Usage) ⊎ ((result ≡ Status.WriteFault) ⊎ (result ≡ Status.Memory)) }
-    ensures refuses { (reported : Pages) (refusal : Refusal) → S.pages shelf.old ≡ Some reported → RefusesFiles (command_at (map string_bytes words.now)) reported refusal
+    ensures refuses { (reported : Pages) (refusal : Refusal) → S.pages shelf.old ≡ Some reported
+        → RefusesFiles (command_at (map string_bytes words.now)) reported refusal
         → OrFault (IsStatus (Status.Refused refusal)) result }
-    ensures refuses_text { (reported : Pages) (page : List ℕ) (fault : TextFault) → S.pages shelf.old ≡ Some reported → RefusesText (command_at (map string_bytes words.now)) reported page fault
+    ensures refuses_text { (reported : Pages) (page : List ℕ) (fault : TextFault) → S.pages shelf.old ≡ Some reported
+        → RefusesText (command_at (map string_bytes words.now)) reported page fault
         → OrFault (IsStatus (Status.Refused (text_refusal fault))) result }
-    ensures refuses_feed { (reported : Pages) (page : List ℕ) (fault : TextFault) → S.pages shelf.old ≡ Some reported → RefusesFeed (command_at (map string_bytes words.now)) reported page fault
+    ensures refuses_feed { (reported : Pages) (page : List ℕ) (fault : TextFault) → S.pages shelf.old ≡ Some reported
+        → RefusesFeed (command_at (map string_bytes words.now)) reported page fault
         → OrFault (IsStatus (Status.Refused (text_refusal fault))) result }
-    ensures gaps { (reported : Pages) (file : ℕ) (gap : Gap) → S.pages shelf.old ≡ Some reported → LacksPage (command_at (map string_bytes words.now)) reported file gap
+    ensures gaps { (reported : Pages) (file : ℕ) (gap : Gap) → S.pages shelf.old ≡ Some reported
+        → LacksPage (command_at (map string_bytes words.now)) reported file gap
         → OrFault (IsStatus (gap_status gap)) result }
 
     // Folders whose pages are accepted are cleared, and wholly where the budget holds each run's search tree, or that
     // of each island where they are cleared island by island; a publication that is read is checked, or printed as a
     // feed; the values of limits end as the publication does, with their last line exactly where it is valid; files
     // that state their limits for the day are migrated; and days are generated.
-    ensures cleared { (reported : Pages) → S.pages shelf.old ≡ Some reported → HasBooksToClear (command_at (map string_bytes words.now)) reported → OrFault IsDayStatus result }
-    ensures complete { (reported : Pages) → S.pages shelf.old ≡ Some reported → HasBudget (command_at (map string_bytes words.now)) reported → OrFault (IsStatus Status.Done) result }
-    ensures split { (reported : Pages) → S.pages shelf.old ≡ Some reported → IsSplittable (command_at (map string_bytes words.now)) reported → OrFault IsDayStatus result }
-    ensures islands { (reported : Pages) → S.pages shelf.old ≡ Some reported → HasIslandBudget (command_at (map string_bytes words.now)) reported → OrFault (IsStatus Status.Done) result }
-    ensures checked { (reported : Pages) → S.pages shelf.old ≡ Some reported → IsReadable (command_at (map string_bytes words.now)) reported → OrFault IsVerdictStatus result }
-    ensures fed { (reported : Pages) → S.pages shelf.old ≡ Some reported → IsFeedable (command_at (map string_bytes words.now)) reported → OrFault (IsStatus Status.Done) result }
-    ensures values { (reported : Pages) (end : TheValueEnd) → S.pages shelf.old ≡ Some reported → EndsValues (command_at (map string_bytes words.now)) reported end → OrFault (IsStatus (value_status end)) result }
-    ensures migrated { (reported : Pages) → S.pages shelf.old ≡ Some reported → IsMigratable (command_at (map string_bytes words.now)) reported → OrFault (IsStatus Status.Done) result }
-    ensures generated { (number : ℕ) → command_at (map string_bytes words.now) ≡ Some (Generate number) → (result ≡ Status.Done) ⊎ ((result ≡ Status.WriteFault) ⊎ (result ≡ Status.Memory)) }
+    ensures cleared { (reported : Pages) → S.pages shelf.old ≡ Some reported → HasBooksToClear (command_at (map string_bytes words.now)) reported
+        → OrFault IsDayStatus result }
+    ensures complete { (reported : Pages) → S.pages shelf.old ≡ Some reported → HasBudget (command_at (map string_bytes words.now)) reported
+        → OrFault (IsStatus Status.Done) result }
+    ensures split { (reported : Pages) → S.pages shelf.old ≡ Some reported → IsSplittable (command_at (map string_bytes words.now)) reported
+        → OrFault IsDayStatus result }
+    ensures islands { (reported : Pages) → S.pages shelf.old ≡ Some reported → HasIslandBudget (command_at (map string_bytes words.now)) reported
+        → OrFault (IsStatus Status.Done) result }
+    ensures checked { (reported : Pages) → S.pages shelf.old ≡ Some reported → IsReadable (command_at (map string_bytes words.now)) reported
+        → OrFault IsVerdictStatus result }
+    ensures fed { (reported : Pages) → S.pages shelf.old ≡ Some reported → IsFeedable (command_at (map string_bytes words.now)) reported
+        → OrFault (IsStatus Status.Done) result }
+    ensures values { (reported : Pages) (end : TheValueEnd) → S.pages shelf.old ≡ Some reported
+        → EndsValues (command_at (map string_bytes words.now)) reported end → OrFault (IsStatus (value_status end)) result }
+    ensures migrated { (reported : Pages) → S.pages shelf.old ≡ Some reported → IsMigratable (command_at (map string_bytes words.now)) reported
+        → OrFault (IsStatus Status.Done) result }
+    ensures generated { (number : ℕ) → command_at (map string_bytes words.now) ≡ Some (Generate number)
+        → (result ≡ Status.Done) ⊎ ((result ≡ Status.WriteFault) ⊎ (result ≡ Status.Memory)) }
 
     // Quarters that are cleared as one market are refused by their first refusal, lack their first page that can't be
     // had, and are cleared where there is one; wholly where the budget holds its search tree.
-    ensures blocks { (reported : Pages) (wanted : Status) → S.pages shelf.old ≡ Some reported → Decides (command_at (map string_bytes words.now)) reported wanted → OrFault (IsStatus wanted) result }
-    ensures joined { (reported : Pages) → S.pages shelf.old ≡ Some reported → IsJoinable (command_at (map string_bytes words.now)) reported → OrFault IsDayStatus result }
+    ensures blocks { (reported : Pages) (wanted : Status) → S.pages shelf.old ≡ Some reported
+        → Decides (command_at (map string_bytes words.now)) reported wanted → OrFault (IsStatus wanted) result }
+    ensures joined { (reported : Pages) → S.pages shelf.old ≡ Some reported → IsJoinable (command_at (map string_bytes words.now)) reported
+        → OrFault IsDayStatus result }
 {
     let outcome = outcome_of(rt, alloc, words, shelf, turnstile);
     finish(rt, alloc, &outcome, shelf, sink, turnstile)

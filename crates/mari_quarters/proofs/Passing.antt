@@ -48,9 +48,8 @@ pub page-states : (reported : Pages) (folder : List ℕ) (first last budget : �
 page-states reported folder first last budget books has (why.Fetch number fetch.Failed) states file = tt
 page-states reported folder first last budget books has (why.Fetch number fetch.Missing) states file = gaps.OfBlocks books has states file
 page-states reported folder first last budget books has (why.Fetch number fetch.TooLong) states file = gaps.OfBlocks books has states file
-page-states reported folder first last budget books has (why.Fetch number fetch.Memory) states file = absurd states
-page-states reported folder first last budget books has (why.Refused refusal) states file = absurd states
 page-states reported folder first last budget books has why.Memory states file = tt
+page-states reported folder first last budget books has _ states file = absurd states
 
 -- the page of blocks.csv, which was had
 pub has-page : (reported : Pages) (folder : List ℕ) (books : Books) (page : List ℕ) → HasBooks reported folder books

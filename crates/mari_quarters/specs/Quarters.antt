@@ -51,7 +51,8 @@ pub record HasBlocks (pages : Pages) (folder : List ℕ) (first last : ℕ) (boo
 -- the first refusal: of the market files; of a line of blocks.csv; or of what can't be one market, after all lines
 pub data HasQuartersRefusal (pages : Pages) (folder : List ℕ) (first last : ℕ) (refusal : Refusal) : Type 0 where
   OfFiles : HasRefusal pages folder refusal → HasQuartersRefusal pages folder first last refusal
-  OfBlocks : (books : Books) (page : List ℕ) (line number : ℕ) → HasPage pages folder books page → blocks_in books first last page ≡ Err (refused.At line number)
+  OfBlocks : (books : Books) (page : List ℕ) (line number : ℕ) → HasPage pages folder books page
+      → blocks_in books first last page ≡ Err (refused.At line number)
       → refusal ≡ record { file = BLOCKS; line = line; number = number } → HasQuartersRefusal pages folder first last refusal
   OfMarket : (books : Books) (blocks : BlockBook) → HasBlocks pages folder first last books blocks → joint_in books blocks first last ≡ Err refusal
       → HasQuartersRefusal pages folder first last refusal
@@ -60,7 +61,8 @@ pub data HasQuartersRefusal (pages : Pages) (folder : List ℕ) (first last : �
 -- they are read
 pub data HasQuartersGap (pages : Pages) (folder : List ℕ) (number : ℕ) (gap : Gap) : Type 0 where
   OfFiles : HasGap pages folder number gap → HasQuartersGap pages folder number gap
-  OfBlocks : (books : Books) → HasBooks pages folder books → gap_of (blocks_page pages folder) ≡ Some gap → number ≡ BLOCKS → HasQuartersGap pages folder number gap
+  OfBlocks : (books : Books) → HasBooks pages folder books → gap_of (blocks_page pages folder) ≡ Some gap → number ≡ BLOCKS
+      → HasQuartersGap pages folder number gap
 
 -- the text of the quarters' joint market, by whether it is published within this budget of nodes
 pub record HasQuartersText (pages : Pages) (folder : List ℕ) (first last budget : ℕ) (published : Bool) (text : List ℕ) : Type 0 where
@@ -120,8 +122,10 @@ RefusesAfterFiles (Err why.Memory) = ⊤
 -- blocks.csv once they give books; and where a page can't be had, one for it and each before it
 abbrev pub FetchesText : (count before now : ℕ) → Result JointText BooksFault → Type 0
 FetchesText count before now (Ok printed) = now ≡ counted_by (count + 1) before
-FetchesText count before now (Err (why.Fetch number f)) = (IsFileNumber number × (now ≡ counted_by (min number 8) before)) ⊎ ((number ≡ BLOCKS) × (now ≡ counted_by (count + 1) before))
-FetchesText count before now (Err (why.Refused refusal)) = (IsByCheck refusal × (now ≡ counted_by count before)) ⊎ (IsAfterFiles refusal × (now ≡ counted_by (count + 1) before))
+FetchesText count before now (Err (why.Fetch number f)) =
+    (IsFileNumber number × (now ≡ counted_by (min number 8) before)) ⊎ ((number ≡ BLOCKS) × (now ≡ counted_by (count + 1) before))
+FetchesText count before now (Err (why.Refused refusal)) =
+    (IsByCheck refusal × (now ≡ counted_by count before)) ⊎ (IsAfterFiles refusal × (now ≡ counted_by (count + 1) before))
 FetchesText count before now (Err why.Memory) = SomeFetched (count + 1) before now
 
 -- how many fetches clearing the quarters of a folder takes

@@ -127,7 +127,8 @@ fn clear_books<C: Clearer>(
     ensures ready { C.ready clearer.new }
 
     // What is found where these are a folder's books, and its blocks.csv is this page.
-    ensures reported { (reported : Pages) (folder : List ℕ) → HasPage reported folder books.now page.now → QuartersReport reported folder first last budget result }
+    ensures reported { (reported : Pages) (folder : List ℕ) → HasPage reported folder books.now page.now
+        → QuartersReport reported folder first last budget result }
 
     // Why there is no text. Nothing is fetched.
     ensures fetch { (fault : FetchFault) → IsFetchFault fault result → ⊥ }

@@ -57,9 +57,6 @@ spent_at islands budget k part is = by (slice_get islands k) refl is.spent
 pub spent_below : (islands : List Island) (budget k : ℕ) (part : Spent) → IsIslandSpent islands budget k part → k < length islands
 spent_below islands budget k part is = let s = spent_at islands budget k part is in slice_get_within islands k s.island s.at
 
-pub spent_few : (islands : List Island) (budget k : ℕ) (part : Spent) → IsIslandSpent islands budget k part → length part.items ≤ budget
-spent_few islands budget k part is = (spent_at islands budget k part is).spent.within_budget
-
 pub unpublished_split : (books : Books) (budget run : ℕ) (made : RunMarket) (islands : List Island) (k : ℕ) (part : Spent) → AreIslands made.market islands → IsIslandSpent islands budget k part
     → IsUnpublishedSplitOf books budget run made (heading_of books run) (k + 1) (length part.items)
 unpublished_split books budget run made islands k part are is =
@@ -80,11 +77,10 @@ unpublished_split books budget run made islands k part are is =
 trees_fit : (budget : ℕ) → budget ≤ 50000 → (islands : List Island) (clearings : List Clearing)
     → AllZip (IsClearedBy budget) islands clearings → All (λ (c : Clearing). length c.tree ≤ 50000) clearings
 trees_fit budget small [] [] a = All-nil (λ (c : Clearing). length c.tree ≤ 50000)
-trees_fit budget small [] (c ∷ clearings) a = absurd a
-trees_fit budget small (i ∷ islands) [] a = absurd a
 trees_fit budget small (i ∷ islands) (c ∷ clearings) a =
     All-cons (λ (c : Clearing). length c.tree ≤ 50000) c clearings (omega (arith, a.0.within_budget, small))
     (trees_fit budget small islands clearings a.1)
+trees_fit budget small _ _ a = absurd a
 
 module _ (m : Market) (v : IsValid m) (budget : ℕ) (islands : List Island) (are : AreIslands m islands) (joined : Joined) (clearings : List Clearing) (published : ArePublished m islands budget joined clearings) where
   pub run_fits : (b : FullBlock) → budget ≤ 50000 → MarketFits b → RunFits (record { block = b; islands = islands; clearings = clearings })

@@ -42,7 +42,8 @@ split_run_text names r =
 
 -- one that isn't: its heading, the island for which the budget is spent, and how many nodes were made
 abbrev pub unpublished_text : Heading → (island count : ℕ) → List ℕ
-unpublished_text heading island count = codes "run" ++ spaced (heading_fields heading) ++ spaced (published_text false ∷ decimal island ∷ decimal count ∷ []) ++ 10 ∷ []
+unpublished_text heading island count =
+    codes "run" ++ spaced (heading_fields heading) ++ spaced (published_text false ∷ decimal island ∷ decimal count ∷ []) ++ 10 ∷ []
 
 -- the text of a block
 abbrev pub split_block_text : (names : List (List ℕ)) → SplitBlock → List ℕ

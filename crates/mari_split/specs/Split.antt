@@ -52,7 +52,8 @@ blocks_of blocks = map block_of blocks
 
 -- a published run: that of the market after the blocks printed before
 abbrev pub IsSplitRun : Books → (budget : ℕ) → (before : List SplitBlock) → SplitRun → Type 0
-IsSplitRun books budget before r = IsSplitOf books budget (run_after (blocks_of before)) (market_after books (blocks_of before)) (also_after books (blocks_of before)) r
+IsSplitRun books budget before r =
+    IsSplitOf books budget (run_after (blocks_of before)) (market_after books (blocks_of before)) (also_after books (blocks_of before)) r
 
 -- a run of a market that isn't published: the islands before the one of this number, counted from 1, can be cleared
 -- within the budget, which is spent on that one
@@ -68,7 +69,8 @@ pub record IsUnpublishedSplitOf (books : Books) (budget run : ℕ) (made : RunMa
 
 -- one of the market after the blocks printed before
 abbrev pub IsUnpublishedSplitRun : Books → (budget : ℕ) → (before : List SplitBlock) → Heading → (island count : ℕ) → Type 0
-IsUnpublishedSplitRun books budget before heading island count = IsUnpublishedSplitOf books budget (run_after (blocks_of before)) (market_after books (blocks_of before)) heading island count
+IsUnpublishedSplitRun books budget before heading island count =
+    IsUnpublishedSplitOf books budget (run_after (blocks_of before)) (market_after books (blocks_of before)) heading island count
 
 -- the block of the run after the blocks printed before
 abbrev pub IsSplitBlock : Books → (budget : ℕ) → (before : List SplitBlock) → SplitBlock → Type 0

@@ -16,8 +16,10 @@ use mari_remain::Books;
 pub fn split_days_keep(books: &Books)
     requires { IsAccepted books.now }
     ensures offers { (budget : ℕ) (blocks : List PrintedSplit) → IsSplitPart books.now budget blocks → KeepsOffers books.now (blocks_of blocks) }
-    ensures blocks { (budget : ℕ) (blocks : List PrintedSplit) → IsSplitPart books.now budget blocks → (k : ℕ) (b : PrintedBlock) → slice_get (blocks_of blocks) k ≡ Some b → BlockSumsToZero b }
-    ensures published { (budget : ℕ) (blocks : List PrintedSplit) → IsSplitDay books.now budget blocks → HoldsIslands books.now budget → unpublished_in (blocks_of blocks) ≡ 0 }
+    ensures blocks { (budget : ℕ) (blocks : List PrintedSplit) → IsSplitPart books.now budget blocks → (k : ℕ) (b : PrintedBlock)
+        → slice_get (blocks_of blocks) k ≡ Some b → BlockSumsToZero b }
+    ensures published { (budget : ℕ) (blocks : List PrintedSplit) → IsSplitDay books.now budget blocks → HoldsIslands books.now budget
+        → unpublished_in (blocks_of blocks) ≡ 0 }
 {
     let _books = books;
 }

@@ -49,7 +49,8 @@ pub fn run_split<C: Clearer>(
     requires ready { C.ready clearer.old }
 
     // The block, whatever blocks these are.
-    ensures done { (blocks : List PrintedBlock) → IsProgress books.now (blocks_of blocks) progress.now → run ≡ run_after (blocks_of blocks) → IfOk result (IsSplitDone books.now budget blocks) }
+    ensures done { (blocks : List PrintedBlock) → IsProgress books.now (blocks_of blocks) progress.now → run ≡ run_after (blocks_of blocks)
+        → IfOk result (IsSplitDone books.now budget blocks) }
     ensures fits { IfOk result (λ done. SplitFits done.block) }
 
     // The clearer may clear on.

@@ -1,16 +1,12 @@
-use Rattle.std.proofs.Common.{Some, refl}
-use Rattle.mari_commands.specs.declared.outcome.Job.{Job}
-use Rattle.mari_commands.specs.Outcome.Says.{OfClear}
+use Rattle.std.proofs.Common.{Some}
 use Rattle.mari_commands.specs.Splits.{command_by}
-use Rattle.mari_commands.proofs.Folder.{folder_by}
+use Rattle.mari_commands.proofs.Folder.{folder_by, says-day}
 use Rattle.mari_commands.proofs.clearing.to_clear.Goals as goal
 
 pub returns-in-Ok-clause-reported : goal.returns-in-Ok-clause-reported
 returns-in-Ok-clause-reported g c = λ reported e.
-    let job : Job = record { books = c.in-Ok.books; way = c.args.way; nodes = c.args.nodes; workers = c.args.workers } in
-    OfClear c.args.folder.now job refl
+    says-day c.args.way reported c.args.folder.now c.in-Ok.books c.args.nodes c.args.workers
     (c.in-Ok.ensures.reported (Some (command_by c.args.way c.args.folder.now c.args.nodes c.args.workers)) reported (folder_by c.args.way c.args.folder.now c.args.nodes c.args.workers) e)
-    refl
 
 pub returns-in-Err-clause-reported : goal.returns-in-Err-clause-reported
 returns-in-Err-clause-reported g c = λ reported e.

@@ -1,13 +1,13 @@
 use Rattle.std.proofs.Common.{Some, refl}
 use Rattle.mari_words.specs.Asked.Asked.{Migrate}
-use Rattle.mari_commands.specs.Outcome.Says.{OfMigrate}
+use Rattle.mari_commands.specs.Outcome.SaysOfFolder.{OfBooks}
 use Rattle.mari_commands.proofs.Naming.{migrated-reportable}
 use Rattle.mari_commands.proofs.Stating.{words-of-migrated}
 use Rattle.mari_commands.proofs.migrating.migrated.Goals as goal
 
 pub returns-in-Ok-clause-reported : goal.returns-in-Ok-clause-reported
 returns-in-Ok-clause-reported g c = λ reported e.
-    OfMigrate c.args.folder.now c.args.part c.in-Ok.books refl (c.in-Ok.ensures.reported (Some (Migrate c.args.folder.now c.args.part)) reported refl e) c.migrated_books.ensures
+    OfBooks c.in-Ok.books (c.in-Ok.ensures.reported (Some (Migrate c.args.folder.now c.args.part)) reported refl e) c.migrated_books.ensures
 
 pub returns-in-Err-clause-reported : goal.returns-in-Err-clause-reported
 returns-in-Err-clause-reported g c = λ reported e. c.in-Err.ensures.reported (Some (Migrate c.args.folder.now c.args.part)) reported refl e

@@ -1,13 +1,11 @@
 use Rattle.std.proofs.Common.{◌≡◌, ◌∙◌, ℕ, List, Option, Global, Some, ap, map, refl, subst, sym}
-use Rattle.std.specs.Prelude.{String, string_bytes}
+use Rattle.std.specs.Prelude.{string_bytes}
 use Rattle.mari_words.specs.Asked.{Asked, asked}
 use Rattle.mari_words.specs.declared.command.Command.{Command}
-use Rattle.mari_commands.specs.Outcome.Says.{OfBlocks, OfFeed, OfGenerate}
-use Rattle.mari_commands.specs.declared.outcome.JointJob.{JointJob}
 use Rattle.mari_answers.proofs.Limits.{IsWithin, within}
 use Rattle.mari_commands.specs.Commands.{AsksForFiles, folder_of}
 use Rattle.mari_commands.proofs.Folder.{reads}
-use Rattle.mari_commands.proofs.Stating.{words-of-summary}
+use Rattle.mari_commands.proofs.Stating.{says-memory, words-of-summary}
 use Rattle.mari_commands.proofs.program.outcome_of.Goals as goal
 
 -- words that name a folder ask for its files
@@ -30,9 +28,7 @@ pub returns-in-Ok-Check-clause-reported : goal.returns-in-Ok-Check-clause-report
 returns-in-Ok-Check-clause-reported g c = λ reported e. rw (c.in-Ok-Check.ensures, c.in-Ok-Check.field-0-is, sym c.deref-in-Ok-Check.ensures) (c.checked.ensures.reported reported e)
 
 pub returns-in-Ok-Generate-clause-reported : goal.returns-in-Ok-Generate-clause-reported
-returns-in-Ok-Generate-clause-reported g c = λ reported e.
-    OfGenerate c.in-Ok-Generate.number (c.in-Ok-Generate.ensures ∙ ap (λ (x : Command). Some (asked x)) c.in-Ok-Generate.field-0-is)
-    c.generated.ensures
+returns-in-Ok-Generate-clause-reported g c = λ reported e. rw (c.in-Ok-Generate.ensures, c.in-Ok-Generate.field-0-is) c.generated.ensures
 
 pub returns-in-Ok-Migrate-clause-reported : goal.returns-in-Ok-Migrate-clause-reported
 returns-in-Ok-Migrate-clause-reported g c = λ reported e. rw (c.in-Ok-Migrate.ensures, c.in-Ok-Migrate.field-0-is, sym c.deref-in-Ok-Migrate.ensures) (c.migrated.ensures.reported reported e)
@@ -50,7 +46,7 @@ pub returns-in-Ok-Migrate-clause-words : goal.returns-in-Ok-Migrate-clause-words
 returns-in-Ok-Migrate-clause-words g c = rw (c.in-Ok-Migrate.ensures, c.in-Ok-Migrate.field-0-is, sym c.deref-in-Ok-Migrate.ensures) c.migrated.ensures.words
 
 pub returns-in-Ok-Feed-clause-reported : goal.returns-in-Ok-Feed-clause-reported
-returns-in-Ok-Feed-clause-reported g c = λ reported e. OfFeed c.in-Ok-Feed.folder (c.in-Ok-Feed.ensures ∙ ap (λ (x : Command). Some (asked x)) c.in-Ok-Feed.field-0-is) refl
+returns-in-Ok-Feed-clause-reported g c = λ reported e. rw (c.in-Ok-Feed.ensures, c.in-Ok-Feed.field-0-is) refl
 
 pub returns-in-Ok-Feed-clause-words : goal.returns-in-Ok-Feed-clause-words
 returns-in-Ok-Feed-clause-words g c = c.in-Ok-Feed.ensures ∙ ap (λ (x : Command). Some (asked x)) c.in-Ok-Feed.field-0-is
@@ -116,14 +112,8 @@ returns-in-Ok-Value-clause-untouched g c = λ none. absurd (none (reads-files _ 
 pub returns-in-Ok-Value-clause-unnamed : goal.returns-in-Ok-Value-clause-unnamed
 returns-in-Ok-Value-clause-unnamed g c = λ none. absurd (none (reads-files _ _ _ _ c.in-Ok-Value.ensures c.in-Ok-Value.field-0-is refl))
 
--- the quarters of the words
-abbrev quarters_of : (folder : String Global) (first last nodes workers : ℕ) → JointJob
-quarters_of folder first last nodes workers = record { folder = folder; first = first; last = last; nodes = nodes; workers = workers }
-
 pub returns-in-Ok-Blocks-clause-reported : goal.returns-in-Ok-Blocks-clause-reported
-returns-in-Ok-Blocks-clause-reported g c = λ reported e.
-    OfBlocks (quarters_of c.in-Ok-Blocks.folder c.in-Ok-Blocks.first c.in-Ok-Blocks.last c.in-Ok-Blocks.nodes c.in-Ok-Blocks.workers)
-    (c.in-Ok-Blocks.ensures ∙ ap (λ (x : Command). Some (asked x)) c.in-Ok-Blocks.field-0-is) refl
+returns-in-Ok-Blocks-clause-reported g c = λ reported e. rw (c.in-Ok-Blocks.ensures, c.in-Ok-Blocks.field-0-is) refl
 
 pub returns-in-Ok-Blocks-clause-words : goal.returns-in-Ok-Blocks-clause-words
 returns-in-Ok-Blocks-clause-words g c = c.in-Ok-Blocks.ensures ∙ ap (λ (x : Command). Some (asked x)) c.in-Ok-Blocks.field-0-is
@@ -132,3 +122,9 @@ pub returns-in-Ok-Blocks-clause-reportable : goal.returns-in-Ok-Blocks-clause-re
 returns-in-Ok-Blocks-clause-reportable g c =
     let limits = subst is_within c.in-Ok-Blocks.field-0-is (within (map (string_bytes {Z = Global}) c.args.words.now) (asked c.in-Ok-Blocks.field-0) c.in-Ok-Blocks.ensures) in
     record { in_order = limits.0; last = limits.1; nodes = limits.2; workers = limits.3 }
+
+pub returns-in-Err-Memory-clause-reported : goal.returns-in-Err-Memory-clause-reported
+returns-in-Err-Memory-clause-reported g c = λ reported e. says-memory _ reported
+
+pub returns-in-Err-Usage-clause-reported : goal.returns-in-Err-Usage-clause-reported
+returns-in-Err-Usage-clause-reported g c = λ reported e. rw (rw c.in-Err-Usage.field-0-is at c.in-Err-Usage.ensures) tt

@@ -1,11 +1,11 @@
 use Rattle.std.proofs.Common.{◌∙◌, Some, refl}
 use Rattle.mari_words.specs.Asked.Asked.{Value}
-use Rattle.mari_commands.specs.Outcome.Says.{OfValues}
+use Rattle.mari_commands.specs.Outcome.SaysOfFolder.{OfBooks}
 use Rattle.mari_commands.proofs.valuing.valued.Goals as goal
 
 pub returns-in-Ok-clause-reported : goal.returns-in-Ok-clause-reported
 returns-in-Ok-clause-reported g c = λ reported e.
-    OfValues c.args.folder.now c.args.more c.in-Ok.books refl (c.in-Ok.ensures.reported (Some (Value c.args.folder.now c.args.more)) reported refl e)
+    OfBooks c.in-Ok.books (c.in-Ok.ensures.reported (Some (Value c.args.folder.now c.args.more)) reported refl e)
     (c.valued_books.ensures.reported reported (c.in-Ok.ensures.same ∙ e))
 
 pub returns-in-Err-clause-reported : goal.returns-in-Err-clause-reported

@@ -95,4 +95,5 @@ cut_level In Withdraw low high = high
 
 -- what a cut counts of an offer of a side
 abbrev pub put_by : CutSide → Side → PriceBox → List ℕ → Offer → ℤ
-put_by cut side box zones x = if lt_z x.price (rung_of side (cut_level cut side (int_at box.low x.zone) (int_at box.high x.zone))) then mw_in zones x.zone x else pos 0
+put_by cut side box zones x =
+    if lt_z x.price (rung_of side (cut_level cut side (int_at box.low x.zone) (int_at box.high x.zone))) then mw_in zones x.zone x else pos 0

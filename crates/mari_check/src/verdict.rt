@@ -56,7 +56,11 @@ pub fn has_totals(
     if !are_money_lines(operators, &books.zones.operators, sums) {
         return false;
     }
-    are_total_lines(providers, &books.bids.providers, totals.providers.as_slice())
+    are_total_lines(
+        providers,
+        &books.bids.providers,
+        totals.providers.as_slice(),
+    )
 }
 
 impl DayCheck {

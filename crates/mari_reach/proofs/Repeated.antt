@@ -439,8 +439,20 @@ pub keeps_rank : (m : Market) (us : List Cents) (a : Activation) → IsValid m �
 keeps_rank m us a v f c =
     by_exchange m us (λ x. (b : Activation) × (IsFeasible m b × (IsConsistent m b us × (KeepsRank m (is_open m b) × IsNoWorse m b x)))) v
     (λ x fx cx ranked. (x, (fx, (cx, (ranked, inl refl)))))
-    (λ x y fy cy ahead best. (best.0, (best.1.0, (best.1.1.0, (best.1.1.1.0, elim (best.1.1.1.1) [
-      | inl same ↦ inr (subst (λ (z : Activation). IsAhead m z x) (sym same) ahead)
-      | inr further ↦ inr (ahead_both m best.0 y x further ahead)
-    ])))))
+    (λ x y fy cy ahead best. (
+      best.0,
+      (
+        best.1.0,
+        (
+          best.1.1.0,
+          (
+            best.1.1.1.0,
+            elim (best.1.1.1.1) [
+              | inl same ↦ inr (subst (λ (z : Activation). IsAhead m z x) (sym same) ahead)
+              | inr further ↦ inr (ahead_both m best.0 y x further ahead)
+            ],
+          ),
+        ),
+      ),
+    ))
     a f c

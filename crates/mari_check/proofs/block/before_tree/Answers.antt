@@ -13,6 +13,8 @@ returns-in-Some-2 c = λ also budget.
     (c.in_ok-fault.ensures c.args.books.now c.args.run c.args.made.now also budget refl (c.in_default.ensures also budget))
 
 pub returns-in-None : goal.returns-in-None
-returns-in-None c = λ also budget.
-    (found-none _ 9 c.in_ok-fault.field-0 c.in-None.is (c.in_ok-fault.ensures c.args.books.now c.args.run c.args.made.now also budget refl (c.in_default.ensures also budget)),
-    c.in_ok-activation.ensures, c.in_ok-prices.ensures)
+returns-in-None c = λ also budget. (
+  found-none _ 9 c.in_ok-fault.field-0 c.in-None.is (c.in_ok-fault.ensures c.args.books.now c.args.run c.args.made.now also budget refl (c.in_default.ensures also budget)),
+  c.in_ok-activation.ensures,
+  c.in_ok-prices.ensures,
+)

@@ -27,7 +27,8 @@ all_printed blocks = map printed blocks
 -- what is so where the block after these blocks doesn't have a fault. One whose run isn't there has a fault in its heading
 abbrev pub IsReachFreeIn : Books → (budget : ℕ) → (before : List NamedBlock) → NamedBlock → Fault → Type 0
 IsReachFreeIn books budget before b any =
-    (run_after (all_printed before) ≤ length books.runs.runs) × IsReachFreeOf books (run_after (all_printed before)) (market_after books (all_printed before)) (also_after books (all_printed before)) budget b any
+    (run_after (all_printed before) ≤ length books.runs.runs)
+    × IsReachFreeOf books (run_after (all_printed before)) (market_after books (all_printed before)) (also_after books (all_printed before)) budget b any
 
 -- none of these blocks has a fault, each after those before it
 abbrev pub AreReachFree : Books → (budget : ℕ) → List NamedBlock → Type 0

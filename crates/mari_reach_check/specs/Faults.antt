@@ -72,7 +72,8 @@ IsReachFreeOf books run made also budget b fault.Totals = ⊤
 abbrev pub ExaminesReach : Books → (run : ℕ) → RunMarket → (also : Option (List Cents)) → (budget : ℕ) → NamedBlock → Examined → Type 0
 ExaminesReach books run made also budget b (Faulty least) = IsLeast (IsReachFreeOf books run made also budget b) least
 ExaminesReach books run made also budget b (Sound a ps ledger) =
-    ((any : Fault) → IsReachFreeOf books run made also budget b any) × IsRunOf books made also b.block (record { made = made; activation = a; prices = ps; ledger = ledger })
+    ((any : Fault) → IsReachFreeOf books run made also budget b any)
+    × IsRunOf books made also b.block (record { made = made; activation = a; prices = ps; ledger = ledger })
 
 -- what is found of a tree, and of one by names
 abbrev pub FindsTree : Market → (cutoff : ℤ) → (word : List Bool) → (budget : ℕ) → List ReachItem → TreeFound → Type 0

@@ -15,7 +15,8 @@ use Rattle.mari_reach_check.specs.Day.{IsReachFreeIn, all_printed}
 abbrev pub TestsReach : Books → (budget : ℕ) → (before : List NamedBlock) → NamedBlock → Tested → Type 0
 TestsReach books budget before b (Faulty least) = IsLeast (IsReachFreeIn books budget before b) least
 TestsReach books budget before b (Sound settled) =
-    ((any : Fault) → IsReachFreeIn books budget before b any) × IsRunOf books (market_after books (all_printed before)) (also_after books (all_printed before)) b.block settled
+    ((any : Fault) → IsReachFreeIn books budget before b any)
+    × IsRunOf books (market_after books (all_printed before)) (also_after books (all_printed before)) b.block settled
 
 -- the fault of the first line is reported exactly where it is there
 abbrev pub HeadStates : (right : Type 0) → Option Fault → Type 0

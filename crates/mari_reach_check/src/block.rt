@@ -17,7 +17,7 @@ use mari_remain::{Books, RunMarket};
 use mari_units::{Items, Memory};
 use std::alloc::Global;
 
-/// The same, of the parts of a block.
+/// What is found of the parts of a block, as `examine_block` says it.
 fn examine_parts(
     alloc: Global,
     books: &Books,
@@ -34,7 +34,8 @@ fn examine_parts(
     requires made { IsMarketOf books.now made.now }
     requires claim { IsClaim claim }
     requires also { IfSome also (λ scheduled. ArePrices made.now.market scheduled.now.cents) }
-    ensures { IfOk result (ExaminesReach books.now run made.now (option_map (λ scheduled. scheduled.now.cents) also.entry) budget (record { block = block.now; claim = claim; tree = tree })) }
+    ensures { IfOk result (ExaminesReach books.now run made.now (option_map (λ scheduled. scheduled.now.cents) also.entry) budget
+        (record { block = block.now; claim = claim; tree = tree })) }
 {
     let (activation, prices) = match before_tree(alloc, books, run, made, block)? {
         BeforeTree::Faulty(fault) => return Ok(Examined::Faulty(fault)),
@@ -74,9 +75,9 @@ fn examine_parts(
 /// its least fault, or that it has none and what it states of its run.
 ///
 /// The faults are those of a block of the first form but for the tree's: a name that is no free gate's or no zone's, a price
-/// outside of the box, a part missing or left over, or more items than the budget (9); else a leaf that doesn't hold (10),
-/// for the activation's gate word at its welfare where the block says that it is the first, and else for the word that closes
-/// every gate at the welfare and the gap.
+/// outside of the box, a branch in a void state, a part missing or left over, or more items than the budget (9); else a leaf
+/// that doesn't hold (10), for the activation's gate word at its welfare where the block says that it is the first, and else
+/// for the word that closes every gate at the welfare and the gap.
 pub fn examine_block(
     alloc: Global,
     books: &Books,

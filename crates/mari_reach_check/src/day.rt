@@ -1,6 +1,6 @@
 //! The check of a day of the second form, block by block.
 
-ghost use Rattle.std.specs.Prelude.{◌≡◌, ◌≤◌, ◌+◌, ◌++◌, ◌∷◌, [], List, None, Ok, IfOk, length};
+ghost use Rattle.std.specs.Prelude.{◌≡◌, ◌≤◌, ◌+◌, ◌++◌, ◌∷◌, [], List, None, Ok, IfOk, OnErr, length};
 ghost use Rattle.mari_remain.specs.Accepted.{IsAccepted};
 ghost use Rattle.mari_progress.specs.After.{run_after};
 ghost use Rattle.mari_progress.specs.Totals.{HasHead};
@@ -110,7 +110,8 @@ impl ReachDayCheck {
         requires last { run ≤ length books.now.runs.runs }
         requires claim { IsClaim block.claim }
         requires stands { (blocks : List TheBlock) × IsReachChecked books.now blocks self.now × (run ≡ run_after (all_printed blocks)) }
-        ensures { (blocks : List TheBlock) → IsReachChecked books.now blocks self.now → run ≡ run_after (all_printed blocks) → IfOk result (TestsReach books.now self.now.budget blocks block) }
+        ensures { (blocks : List TheBlock) → IsReachChecked books.now blocks self.now → run ≡ run_after (all_printed blocks)
+            → IfOk result (TestsReach books.now self.now.budget blocks block) }
     {
         let made = self.progress.market_of(alloc, books, run)?;
         let also = self.progress.also(books, run);
@@ -140,9 +141,14 @@ impl ReachDayCheck {
         requires accepted { IsAccepted books.now }
         requires claim { IsClaim block.claim }
         requires stands { (blocks : List TheBlock) × IsReachChecked books.now blocks self.old }
-        ensures finds { (blocks : List TheBlock) → IsReachChecked books.now blocks self.old → IfOk result (Finds (IsReachFreeIn books.now self.old.budget blocks block)) }
-        ensures stands { (blocks : List TheBlock) → IsReachChecked books.now blocks self.old → result ≡ Ok None → IsReachChecked books.now (blocks ++ block ∷ []) self.new }
+        ensures finds { (blocks : List TheBlock) → IsReachChecked books.now blocks self.old
+            → IfOk result (Finds (IsReachFreeIn books.now self.old.budget blocks block)) }
+        ensures stands { (blocks : List TheBlock) → IsReachChecked books.now blocks self.old → result ≡ Ok None
+            → IsReachChecked books.now (blocks ++ block ∷ []) self.new }
         ensures budget { self.new.budget ≡ self.old.budget }
+
+        // Out of memory, what is kept is as before.
+        ensures same { OnErr result (self.new ≡ self.old) }
     {
         let run = self.next_run();
         if run > run_count(books) {

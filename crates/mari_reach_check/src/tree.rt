@@ -26,7 +26,7 @@ pub(crate) enum TreeFound {
     Sound,
     /// It hasn't the shape, or it has more items than the budget.
     BadTree,
-    /// It has both, and a leaf doesn't hold.
+    /// Its shape and its number of items are right, and a leaf doesn't hold.
     BadLeaf,
 }
 

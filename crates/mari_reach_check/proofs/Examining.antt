@@ -27,42 +27,28 @@ module _ (books : Books) (run : ℕ) (made : RunMarket) (also : Option (List Cen
   first any = IsFreeOf books run made also None b.block any
 
   -- the faults before the tree's are those of the first form
-  to-free : (f : Fault) → fault_number f < 9 → first f → free f
-  to-free fault.Heading l h = h
-  to-free fault.Lines l h = h
-  to-free fault.Infeasible l h = h
-  to-free fault.Welfare l h = h
-  to-free fault.Inconsistent l h = h
-  to-free fault.Interval l h = h
-  to-free fault.Price l h = h
-  to-free fault.Area l h = h
-  to-free fault.Tree l h = absurd (omega (arith, l))
-  to-free fault.Leaf l h = absurd (omega (arith, l))
-  to-free fault.Ledger l h = h
-  to-free fault.Totals l h = h
-
-  to-first : (f : Fault) → fault_number f < 9 → free f → first f
-  to-first fault.Heading l h = h
-  to-first fault.Lines l h = h
-  to-first fault.Infeasible l h = h
-  to-first fault.Welfare l h = h
-  to-first fault.Inconsistent l h = h
-  to-first fault.Interval l h = h
-  to-first fault.Price l h = h
-  to-first fault.Area l h = h
-  to-first fault.Tree l h = absurd (omega (arith, l))
-  to-first fault.Leaf l h = absurd (omega (arith, l))
-  to-first fault.Ledger l h = h
-  to-first fault.Totals l h = h
+  as-first : (f : Fault) → fault_number f < 9 → (first f → free f) × (free f → first f)
+  as-first fault.Heading l = (λ h. h, λ h. h)
+  as-first fault.Lines l = (λ h. h, λ h. h)
+  as-first fault.Infeasible l = (λ h. h, λ h. h)
+  as-first fault.Welfare l = (λ h. h, λ h. h)
+  as-first fault.Inconsistent l = (λ h. h, λ h. h)
+  as-first fault.Interval l = (λ h. h, λ h. h)
+  as-first fault.Price l = (λ h. h, λ h. h)
+  as-first fault.Area l = (λ h. h, λ h. h)
+  as-first fault.Tree l = absurd (omega (arith, l))
+  as-first fault.Leaf l = absurd (omega (arith, l))
+  as-first fault.Ledger l = (λ h. h, λ h. h)
+  as-first fault.Totals l = (λ h. h, λ h. h)
 
   pub faulty-before : (least : Fault) → IsLeast first least × (fault_number least < 9) → IsLeast free least
   faulty-before least h = record {
-    there = λ is. h.0.there (to-first least h.1 is);
-    none_lower = λ other less. to-free other (omega (arith, less, h.1)) (h.0.none_lower other less);
+    there = λ is. h.0.there ((as-first least h.1).1 is);
+    none_lower = λ other less. (as-first other (omega (arith, less, h.1))).0 (h.0.none_lower other less);
   }
 
   none-before : NoneBelow first 9 → NoneBelow free 9
-  none-before none f l = to-free f l (none f l)
+  none-before none f l = (as-first f l).0 (none f l)
 
   -- what is found of the tree of the activation that the block states
   abbrev tree-found : Activation → TreeFound → Type 0

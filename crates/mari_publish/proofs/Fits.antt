@@ -142,7 +142,7 @@ lines_in_range p h =
           (all_join InRange (map line.TotalProvider p.providers) _ (to_map line.TotalProvider p.providers h.totals.providers.1) (done, tt))),
     )
 
-block_within : (b : Block) → BlockFits b → IsWithinLimits b
+pub block_within : (b : Block) → BlockFits b → IsWithinLimits b
 block_within (block.Published b) f = (f.zones.0, f.borders.0.1, f.bids.0.1, f.operators.0, f.providers.0.1)
 block_within (block.Unpublished heading count) f = tt
 

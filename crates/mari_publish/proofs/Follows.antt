@@ -201,7 +201,7 @@ regrouped zs bs ds ms is os ps rest t e =
     inner2 : (is ++ (os ++ (ps ++ e ∷ []))) ++ rest ≡ is ++ (os ++ (ps ++ e ∷ rest))
     inner2 = append_assoc is (os ++ (ps ++ e ∷ [])) rest ∙ ap (λ (y : List Line). is ++ y) (append_assoc os (ps ++ e ∷ []) rest ∙ ap (λ (y : List Line). os ++ y) (append_assoc ps (e ∷ []) rest))
 
-block_follows : (p : Publication) (m n : ℕ) (b : Block) (rest : List Line) → IsWithinLimits b → m + n < 1000
+pub block_follows : (p : Publication) (m n : ℕ) (b : Block) (rest : List Line) → IsWithinLimits b → m + n < 1000
     → after_all p (at m n held.Between) (block_lines b ++ rest) ≡ after_all (grown p (Some (part.Block b))) (at (m + ones b) (n + others b) held.Between) rest
 block_follows p m n (block.Unpublished h count) rest within lt =
     rw (lt-ltb _ _ lt) (ap (λ x. after_all (grown p (Some (part.Block (block.Unpublished h count)))) (at x (n + 1) held.Between) rest) (omega arith))
@@ -291,7 +291,7 @@ total_providers_follow p m n os before (a ∷ ps) rest le =
     ∙ total_providers_follow p m n os (before ++ a ∷ []) ps rest (omega (arith, len, le))
     ∙ ap (λ (xs : List AmountLine). after_all p (at m n (held.Totals os xs)) rest) (append_assoc before (a ∷ []) ps)
 
-last_follows : (p : Publication) (m n : ℕ) (os : List MoneyLine) (ps : List AmountLine) → Between 1 64 (length os) → length ps ≤ 1638400
+pub last_follows : (p : Publication) (m n : ℕ) (os : List MoneyLine) (ps : List AmountLine) → Between 1 64 (length os) → length ps ≤ 1638400
     → after_all p (at m n held.Between) (map line.TotalOperator os ++ (map line.TotalProvider ps ++ line.Done m n ∷ [])) ≡ Some (grown p (Some (part.Totals os ps)), at m n held.Done)
 last_follows p m n [] ps some few = absurd (omega (arith, some.0))
 last_follows p m n (o ∷ os) ps some few =

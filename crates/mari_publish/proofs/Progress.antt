@@ -55,8 +55,11 @@ number_fits bytes rest n p k a =
     let is = a.number_is in
     omega (arith, few, len, is)
 
+pub counts_kept : (ls : List Line) (p : Publication) (k : Kept) → Stands ls p k k.held → k.counts.published + k.counts.unpublished ≤ 1000
+counts_kept ls p k s = let c = both_kinds p.blocks in omega (arith, c, s.published, s.unpublished, s.runs)
+
 pub counts_fit : (bytes rest : List ℕ) (n : ℕ) (p : Publication) (k : Kept) → Progress bytes rest n p k → k.counts.published + k.counts.unpublished ≤ 1000
-counts_fit bytes rest n p k a = let c = both_kinds p.blocks in let s = a.stands in omega (arith, c, s.published, s.unpublished, s.runs)
+counts_fit bytes rest n p k a = counts_kept a.before p k a.stands
 
 room_in : (h : Held) (p : Publication) (c : Counts) → c.published + c.unpublished ≡ length p.blocks → HeldFits p h → HasRoom h c
 room_in held.Start p c e f = tt
@@ -68,8 +71,11 @@ room_in (held.Ending b) p c e f = let g = f.0 in omega (arith, e, g)
 room_in (held.Totals os ps) p c e f = tt
 room_in held.Done p c e f = tt
 
+pub room_kept : (ls : List Line) (p : Publication) (k : Kept) → Stands ls p k k.held → HasRoom k.held k.counts
+room_kept ls p k s = let c = both_kinds p.blocks in room_in k.held p k.counts (omega (arith, c, s.published, s.unpublished)) s.fits
+
 pub has_room : (bytes rest : List ℕ) (n : ℕ) (p : Publication) (k : Kept) → Progress bytes rest n p k → HasRoom k.held k.counts
-has_room bytes rest n p k a = let c = both_kinds p.blocks in let s = a.stands in room_in k.held p k.counts (omega (arith, c, s.published, s.unpublished)) s.fits
+has_room bytes rest n p k a = room_kept a.before p k a.stands
 
 -- one line more
 pub more_text : (before : List Line) (l : Line) (here after : List ℕ) → spelling l ≡ here → text_of_lines before ++ (here ++ 10 ∷ after) ≡ text_of_lines (before ++ l ∷ []) ++ after

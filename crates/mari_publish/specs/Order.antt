@@ -193,6 +193,10 @@ nothing_read = record { date = []; quarters = 0; budget = 0; blocks = []; operat
 abbrev pub nothing_kept : Kept
 nothing_kept = record { held = held.Start; counts = record { published = 0; unpublished = 0 } }
 
+-- what is kept after so many blocks
+abbrev pub kept_at : Held → (published unpublished : ℕ) → Kept
+kept_at h published unpublished = record { held = h; counts = record { published = published; unpublished = unpublished } }
+
 -- a publication so far and what is kept, after lines that may follow one another
 abbrev pub after_all : Publication → Kept → List Line → Option (Publication × Kept)
 after_all p k [] = Some (p, k)

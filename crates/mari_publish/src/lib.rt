@@ -10,6 +10,7 @@ mod coming;
 mod fault;
 mod follow;
 mod held;
+mod laws;
 mod publication;
 mod reader;
 mod reading;
@@ -18,11 +19,15 @@ mod taking;
 mod write;
 
 pub use fault::TextFault;
+pub use follow::{FollowFault, follow};
+pub use held::{Counts, Ending, Growing, Held, Kept, Listing, Pending};
+pub use laws::lines_give;
 pub use mari_lines::{AmountLine, BidLine, BorderLine, Heading, MoneyLine, ZoneLine};
 pub use publication::{Block, FullBlock, Part, Publication};
 pub use reader::TextReader;
 pub use reading::read_text;
 pub use stream::{PartsSoFar, ReadStop, read_parts};
+pub use taking::TakeFault;
 pub use write::{
     block_text, closing_text, head_text, put_ending, put_market, put_market_lines, put_opening,
     put_tree_lines, total_text, write_text,

@@ -1,0 +1,32 @@
+use Rattle.std.proofs.Common.{◌≡◌, ◌≤◌, ◌<◌, ◌+◌, ℕ, List, [], ◌∷◌, ◌++◌, Some, refl, sym, ap, ◌∙◌}
+use Rattle.std.proofs.lemmas.List.{append-nil}
+use Rattle.mari_lines.specs.declared.line.Line.{Line}
+use Rattle.mari_publish.specs.Lines.{full_lines}
+use Rattle.mari_publish.specs.Order.{after_all, kept_at}
+use Rattle.mari_publish.specs.Pieces.{Gives}
+use Rattle.mari_publish.specs.Texts.{text_of_lines}
+use Rattle.mari_publish.specs.declared.held.Held.TheVariants as held
+use Rattle.mari_publish.specs.declared.held.Kept.{Kept}
+use Rattle.mari_publish.specs.declared.publication.Block.TheVariants as block
+use Rattle.mari_publish.specs.declared.publication.Part.{Part}
+use Rattle.mari_publish.proofs.Fits.{block_within}
+use Rattle.mari_publish.proofs.Follows.{block_follows, last_follows}
+use Rattle.mari_publish.proofs.PartsGiven.{gives_nothing, next_gives, stands_of}
+use Rattle.mari_publish.proofs.Progress.{counts_kept, room_kept}
+use Rattle.mari_publish.proofs.laws.lines_give.Goals as goal
+
+pub returns-clause-nothing : goal.returns-clause-nothing
+returns-clause-nothing c = gives_nothing
+
+pub returns-clause-more : goal.returns-clause-more
+returns-clause-more c = λ lines parts old new line x g e. next_gives lines parts old new line x g e
+
+pub returns-clause-room : goal.returns-clause-room
+returns-clause-room c = λ lines parts kept g. let s = stands_of lines g.so_far kept g.follow in (room_kept lines g.so_far kept s, counts_kept lines g.so_far kept s)
+
+pub returns-clause-block : goal.returns-clause-block
+returns-clause-block c = λ p m n b fits room.
+    ap (λ (ls : List Line). after_all p (kept_at held.Between m n) ls) (sym (append-nil (full_lines b))) ∙ block_follows p m n (block.Published b) [] (block_within (block.Published b) fits) room
+
+pub returns-clause-closing : goal.returns-clause-closing
+returns-clause-closing c = λ p m n operators providers fits. last_follows p m n operators providers fits.0.0 fits.1.0.1

@@ -1,6 +1,8 @@
 //! What lines that may follow one another give, for a form of text whose lines stand for some of these.
 
-ghost use Rattle.std.specs.Prelude.{◌≡◌, ◌≤◌, ◌<◌, ◌+◌, ◌×◌, ◌++◌, ◌∷◌, [], ℕ, List, Option, Some};
+ghost use Rattle.std.specs.Prelude.{◌≡◌, ◌≤◌, ◌<◌, ◌+◌, ◌^◌, ◌++◌, ◌∷◌, [], ℕ, List, Option, Some, length};
+ghost use Rattle.std.specs.List.{AllByRecursion};
+ghost use Rattle.mari_lines.specs.Ranges.{InRange};
 ghost use Rattle.mari_lines.specs.declared.line.AmountLine.{AmountLine as AnAmountLine};
 ghost use Rattle.mari_lines.specs.declared.line.Line.{Line as AnyLine};
 ghost use Rattle.mari_lines.specs.declared.line.MoneyLine.{MoneyLine as AMoneyLine};
@@ -27,6 +29,7 @@ pub fn lines_give()
         → after old old.held line ≡ Some (new, x) → Gives (lines ++ line ∷ []) (with_part parts x) new }
     ensures room { (lines : List AnyLine) (parts : List AnyPart) (kept : AnyKept) → Gives lines parts kept
         → HasRoom kept.held kept.counts × (kept.counts.published + kept.counts.unpublished ≤ MOST_RUNS) }
+    ensures few { (lines : List AnyLine) (parts : List AnyPart) (kept : AnyKept) → AllByRecursion InRange lines → Gives lines parts kept → length lines < 2 ^ 31 }
     ensures block { (p : ThePublication) (published unpublished : ℕ) (b : AFullBlock) → FullFits b → published + unpublished < MOST_RUNS
         → after_all p (kept_at held.Between published unpublished) (full_lines b)
         ≡ Some (grown p (Some (part.Block (block.Published b))), kept_at held.Between (published + 1) unpublished) }

@@ -22,7 +22,7 @@ class Gate(NamedTuple):
 
 
 class Decision(NamedTuple):
-    """A decision of a tree of the second form: a bid's gate is open or closed, or a zone's price at most or above one."""
+    """A decision of a tree of the second form: at the gate of a bid, or at a price of a zone."""
 
     bid: str
     zone: str

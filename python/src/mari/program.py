@@ -60,7 +60,7 @@ class Checked(NamedTuple):
 
 
 class Reached(NamedTuple):
-    """How many runs of a valid publication of the second form have the first activation, and how many one within a gap."""
+    """How many runs of a valid publication have the first activation, and how many one within a gap of the best."""
 
     first: int
     within: int

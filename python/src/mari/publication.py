@@ -1,7 +1,8 @@
 """The text of a printed day, of either form, read into rows.
 
 Prices are in euro per MWh and money in euro, both exact decimals; quantities are in MW. `Program.check`, or of the
-second form `Reach.check`, is what says whether a publication is that of its folder: reading tests the form of lines alone.
+second form `Reach.check`, is what says whether a publication is that of its folder: reading tests the form of lines
+alone.
 """
 
 from __future__ import annotations
@@ -16,7 +17,7 @@ from typing import NamedTuple, TextIO
 
 from mari.errors import MariMissing, MariText, MariUnreadable, shown
 from mari.text import PRICE, WHOLE, Lines
-from mari.units import MOST_GAP, NAME, euros
+from mari.units import MOST_GAP, MOST_NODES, NAME, euros
 
 
 class ZonePrice(NamedTuple):
@@ -391,7 +392,7 @@ class _Reader(Lines):
         return euros(self.whole(self.one("welfare", 2)[1]))
 
     def market(self, block: RunBlock) -> None:
-        block.zones = self.many("zone", self.zone)
+        block.zones = self.some("zone", self.zone)
         block.borders = self.many("border", self.border)
         block.bids = self.many("bid", lambda words: Activation(words[1], self.mw(words[2])))
         start = self.number
@@ -414,6 +415,8 @@ class _Reader(Lines):
 
     def tree(self, form: int = 1) -> list[Item]:
         count = self.whole(self.one("tree", 2)[1])
+        if not 1 <= count <= MOST_NODES:
+            raise MariText(self.read, f"no tree has {count} items")
         kinds = _TREES[form]
         return [self.item(kinds) for _ in range(count)]
 
@@ -441,7 +444,7 @@ class _Reader(Lines):
         return Island(number, welfare, zones, self.tree())
 
     def ledger(self, prefix: str) -> tuple[list[OperatorMoney], list[ProviderMoney]]:
-        operators = self.many(f"{prefix}operator", self.operator)
+        operators = self.some(f"{prefix}operator", self.operator)
         providers = self.many(f"{prefix}provider", lambda words: ProviderMoney(words[1], self.money(words[2])))
         return operators, providers
 

@@ -1,6 +1,7 @@
 """Days of the second form: their text, the program that prints it, and what is said of them."""
 
 import csv
+import os
 import random
 import subprocess
 import sys
@@ -8,9 +9,10 @@ import tempfile
 import unittest
 from decimal import Decimal
 from pathlib import Path
+from unittest import mock
 
 import mari
-from mari import Day, Folder, Item, MariText, Publication, State
+from mari import Day, Folder, Item, MariText, Program, Publication, Reach, State
 from mari.certificate import Decision, reach_leaves
 from mari.units import quarter_cents
 
@@ -123,6 +125,12 @@ class TestText(unittest.TestCase):
         self.refused(old.replace("mari 1", "mari 2"))
         self.refused(old.replace("published", "first"))
         self.refused(old.replace("tree 1\nbound 20.00 60.00", "tree 1\nnone"))
+
+
+class TestFinding(unittest.TestCase):
+    def test_the_environment_names_each_program(self):
+        with mock.patch.dict(os.environ, {"MARI": "/one/mari", "REACH": "/other/reach"}):
+            self.assertEqual((Program().path, Reach().path), (Path("/one/mari"), Path("/other/reach")))
 
 
 @needs_reach

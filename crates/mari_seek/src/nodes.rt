@@ -112,7 +112,7 @@ impl Node {
         add_changes(&mut changes, 0, &root.amounts, &optimum.amounts)?;
         let orders = root.amounts.len();
         add_changes(&mut changes, orders, &root.flows, &optimum.flows)?;
-        changes.shrink_to_fit()?;
+        changes.shrink_to_fit();
         let mut potentials = Vec::with_capacity(alloc, optimum.potentials.len())?;
         for potential in &optimum.potentials {
             potentials.push(small(*potential))?;

@@ -1,10 +1,11 @@
 -- A form of text, line by line, and what a text of a form is. Read this file first.
-use Rattle.std.specs.Prelude.{◌≡◌, ℕ, ◌+◌, Bool, true, List, [], ◌∷◌, ◌++◌, Option, Some, None, length}
+use Rattle.std.specs.Prelude.{◌≡◌, ℕ, ◌+◌, Bool, true, List, [], ◌∷◌, ◌++◌, Option, Some, None, Result, Ok, Err, length, option_and_then, ⊤}
 use Rattle.std.specs.List.{AllByRecursion, flat_map}
-use Rattle.std.specs.Option.{option_and_then}
 use Rattle.mari_lines.specs.Reading.{Lacks}
 use Rattle.mari_publish.specs.declared.fault.TextFault.{TextFault}
 use Rattle.mari_publish.specs.declared.fault.TextFault.TheVariants as fault
+use Rattle.mari_publish.specs.declared.taking.TakeFault.{TakeFault}
+use Rattle.mari_publish.specs.declared.taking.TakeFault.TheVariants as take_fault
 
 -- what is kept before the first line; which line may follow, with what is kept after it and the part that is whole with it;
 -- whether the last line has come; how a line is spelled, without its end; and that the numbers of a line are in range
@@ -23,7 +24,7 @@ with_part parts (Some x) = parts ++ x ∷ []
 -- the parts and what is kept, after lines that may follow one another
 abbrev pub after_lines : {K L P : Type 0} → Form K L P → List P → K → List L → Option (List P × K)
 after_lines form parts kept [] = Some (parts, kept)
-after_lines form parts kept (l ∷ ls) = option_and_then (λ (x : K × Option P). after_lines form (with_part parts x.1) x.0 ls) (form.after kept l)
+after_lines form parts kept (l ∷ ls) = option_and_then (λ x. after_lines form (with_part parts x.1) x.0 ls) (form.after kept l)
 
 -- the texts of lines, each with a line feed at its end
 abbrev pub text_by : {K L P : Type 0} → Form K L P → List L → List ℕ
@@ -47,7 +48,7 @@ abbrev pub HasPart : {K L P : Type 0} → Form K L P → List ℕ → List P →
 HasPart form text parts x = HoldsParts form text (parts ++ x ∷ [])
 
 abbrev pub NoPart : {K L P : Type 0} → Form K L P → List ℕ → List P → Type 0
-NoPart form text parts = (x : P) → HasPart form text parts x → ⊥
+NoPart form text parts = (x : _) → HasPart form text parts x → ⊥
 
 -- the text of a whole, and its parts: the last line has come, and nothing is after it
 pub record IsWhole {K L P : Type 0} (form : Form K L P) (text : List ℕ) (parts : List P) : Type 0 where
@@ -59,7 +60,14 @@ pub record IsWhole {K L P : Type 0} (form : Form K L P) (text : List ℕ) (parts
 
 -- no line is spelled so
 abbrev pub IsFormless : {K L P : Type 0} → Form K L P → List ℕ → Type 0
-IsFormless form here = (l : L) → form.IsLine l → form.spelled l ≡ here → ⊥
+IsFormless form here = (l : _) → form.IsLine l → form.spelled l ≡ here → ⊥
+
+-- the line that is spelled so was taken, with the part that is whole with it; or there is none, or it may not follow
+abbrev pub TookLine : {K L P : Type 0} → Form K L P → K → List ℕ → K → Result (Option P) TakeFault → Type 0
+TookLine form old here new (Ok x) = (l : _) × form.IsLine l × (form.spelled l ≡ here) × (form.after old l ≡ Some (new, x))
+TookLine form old here new (Err take_fault.Formless) = IsFormless form here
+TookLine form old here new (Err take_fault.OutOfOrder) = (l : _) × form.IsLine l × (form.spelled l ≡ here) × (form.after old l ≡ None)
+TookLine form old here new (Err take_fault.Memory) = ⊤
 
 -- after lines that may follow one another comes a line of no form
 pub record BadLineAt {K L P : Type 0} (form : Form K L P) (text : List ℕ) (n : ℕ) : Type 0 where

@@ -1,10 +1,15 @@
 //! What a form of text is, to whoever reads it.
 
+ghost use Rattle.std.specs.Prelude.{◌≡◌, ◌≤◌, ◌<◌, ◌^◌, ℕ, List, length};
+ghost use Rattle.mari_lines.specs.Reading.{Lacks};
+ghost use Rattle.mari_lines.specs.declared.line.TheConstants.{MOST_LINE};
+ghost use Rattle.mari_stream.specs.Forms.{Follow, Form, TookLine};
+
 use mari_publish::TakeFault;
 use std::alloc::Global;
 
-/// What a reader keeps of a text of a form between two lines.
-pub trait TextForm {
+/// What is kept of a text of a form between two lines.
+pub trait TextForm: Drop {
     /// A line.
     type Line;
 
@@ -27,8 +32,10 @@ pub trait TextForm {
     fn is_done(&self) -> bool
         ensures { result ≡ form.is_done self.now };
 
-    /// Lines in range that are spelled alike are the same, and no spelling has a line feed or is longer than `MOST_LINE`. Lines
-    /// that may follow one another are few.
+    /// Lines in range that are spelled alike are the same, no spelling has a line feed or is longer than `MOST_LINE`, and
+    /// lines that may follow one another are few.
+    ///
+    /// The call does nothing: its contract is a law of the form.
     fn lines_keep()
         ensures same { (l m : Self.Line) → form.IsLine l → form.IsLine m → form.spelled l ≡ form.spelled m → l ≡ m }
         ensures no_feed { (l : Self.Line) → form.IsLine l → Lacks 10 (form.spelled l) }

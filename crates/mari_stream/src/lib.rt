@@ -4,3 +4,7 @@
 //! text is an `impl` of `TakesParts`; `read_text_parts` reads a page of any form for any of them. Its promise: the parts and the
 //! first fault of a text are the same wherever it is cut, and a text has one answer.
 #![tactic(auto)]
+
+mod form;
+
+pub use form::TextForm;

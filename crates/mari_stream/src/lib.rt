@@ -5,6 +5,7 @@
 //! first fault of a text are the same wherever it is cut, and a text has one answer.
 #![tactic(auto)]
 
+mod coming;
 mod form;
 
 pub use form::TextForm;

@@ -87,7 +87,10 @@ pub fn append<F: TextForm>(coming: &mut Coming<F>, piece: &[u8]) -> Result<(), M
 }
 
 /// Handles the first line after the handled ones, if it is whole.
-fn handle_line<F: TextForm>(alloc: Global, coming: &mut Coming<F>) -> Result<Handled<F::Part>, TextFault>
+fn handle_line<F: TextForm>(
+    alloc: Global,
+    coming: &mut Coming<F>,
+) -> Result<Handled<F::Part>, TextFault>
     requires handled { coming.old.handled ≤ vec_len coming.old.bytes }
     requires come { IsCome F.form (come_of coming.old) }
     ensures handled { coming.new.handled ≤ vec_len coming.new.bytes }
@@ -140,7 +143,10 @@ fn forget<F: TextForm>(coming: &mut Coming<F>)
 }
 
 /// Handles lines up to the next part, or as far as whole lines have come: then at most 2 times `MOST_LINE` bytes stay.
-pub fn next_part<F: TextForm>(alloc: Global, coming: &mut Coming<F>) -> Result<Option<F::Part>, TextFault>
+pub fn next_part<F: TextForm>(
+    alloc: Global,
+    coming: &mut Coming<F>,
+) -> Result<Option<F::Part>, TextFault>
     requires handled { coming.old.handled ≤ vec_len coming.old.bytes }
     requires come { IsCome F.form (come_of coming.old) }
     ensures handled { coming.new.handled ≤ vec_len coming.new.bytes }
@@ -169,10 +175,17 @@ pub fn end<F: TextForm>(coming: &Coming<F>) -> Result<(), TextFault>
     ensures { (text : List ℕ) (parts : List F.Part) → AllCome F.form (come_of coming.now) text parts → IsEnd F.form text parts result }
 {
     keep_lines::<F>();
-    let all = matches!(coming.ahead, Ahead::Whole) && coming.handled == coming.bytes.len();
-    if all && coming.kept.is_done() {
+    let cut_off = TextFault::Truncated(coming.lines + 1);
+    match coming.ahead {
+        Ahead::Whole => {}
+        _ => return Err(cut_off),
+    }
+    if coming.handled < coming.bytes.len() {
+        return Err(cut_off);
+    }
+    if coming.kept.is_done() {
         Ok(())
     } else {
-        Err(TextFault::Truncated(coming.lines + 1))
+        Err(cut_off)
     }
 }

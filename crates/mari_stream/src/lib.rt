@@ -7,5 +7,9 @@
 
 mod coming;
 mod form;
+mod laws;
+mod stream;
 
 pub use form::TextForm;
+pub use laws::texts_have_one_answer;
+pub use stream::{TakesParts, read_text_parts};

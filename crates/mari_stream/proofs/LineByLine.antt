@@ -17,7 +17,7 @@ use Rattle.mari_stream.specs.declared.coming.Ahead.{Ahead}
 use Rattle.mari_stream.specs.declared.coming.Ahead.TheVariants as mark
 use Rattle.mari_stream.specs.declared.coming.Handled.{Handled}
 use Rattle.mari_stream.specs.declared.coming.Handled.TheVariants as step
-use Rattle.mari_stream.proofs.Lines.{follow-push, more-text}
+use Rattle.mari_stream.proofs.Lines.{follow-nothing, follow-push, more-text}
 use Rattle.mari_stream.proofs.Stops.{end-stop, line-stop, no-cut, no-part, one-stop, order-stop}
 
 -- ---- bytes
@@ -175,6 +175,13 @@ module _ {K L P : Type 0} (form : Form K L P) where
         number = ap (λ n. n + 1) s.number ∙ sym (length-append s.lines (t.0 ∷ []));
         ahead = subst (λ b. IsAhead b unread following) (sym all) (sym left);
       }
+
+    -- nothing has come
+    pub all-of-nothing : (kept : K) (bytes : List ℕ) → kept ≡ form.start → bytes ≡ [] → AllCome form (record { kept = kept; lines = 0; ahead = mark.Whole; unread = bytes }) [] []
+    all-of-nothing kept bytes start none =
+        let follow = subst (λ (k : K). Follow form [] [] k) (sym start) (follow-nothing form) in
+        let come : ComesFrom form (record { kept = kept; lines = 0; ahead = mark.Whole; unread = bytes }) [] [] = record { lines = []; rest = []; is = refl; follow = follow; number = refl; ahead = sym none } in
+        nothing-next (record { kept = kept; lines = 0; ahead = mark.Whole; unread = bytes }) [] [] come (subst (λ (xs : List ℕ). Lacks 10 xs) (sym none) refl)
 
     -- ---- the end of the text
 

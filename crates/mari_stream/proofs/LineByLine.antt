@@ -1,5 +1,5 @@
 -- What has come of a text, line by line.
-use Rattle.std.proofs.Common.{◌≡◌, ◌∙◌, ◌+◌, ◌-◌, ◌<◌, ◌^◌, ℕ, true, not, eqb, List, [], ◌∷◌, ◌++◌, length, take, drop, Option, Some, None, Result, Ok, Err, refl, sym, ap, subst, append_assoc, append-nil, length-append, arith}
+use Rattle.std.proofs.Common.{◌≡◌, ◌∙◌, ◌+◌, ◌-◌, ◌<◌, ◌^◌, ℕ, true, not, eqb, List, [], ◌∷◌, ◌++◌, length, take, drop, Option, Some, None, Ok, Err, refl, sym, ap, subst, append_assoc, append-nil, length-append, arith}
 use Rattle.std.specs.List.{list_all}
 use Rattle.std.specs.Prelude.{MatchOption, is_some}
 use Rattle.std.proofs.Math.Seq.{drop-append-add, take-length}
@@ -8,11 +8,10 @@ use Rattle.std.proofs.lemmas.List.{drop-drop, length-drop}
 use Rattle.mari_lines.specs.Reading.{Lacks}
 use Rattle.mari_lines.specs.declared.line.TheConstants.{MOST_LINE}
 use Rattle.mari_publish.specs.Gathering.{text_fault}
-use Rattle.mari_publish.specs.declared.fault.TextFault.{TextFault}
 use Rattle.mari_publish.specs.declared.taking.TakeFault.{TakeFault}
 use Rattle.mari_publish.specs.declared.taking.TakeFault.TheVariants as take_fault
 use Rattle.mari_stream.specs.Coming.{AllCome, ComeState, ComesFrom, Handles, HasNoLine, IsAhead, IsCome, IsFirstFault, LinesKeep, NoLineIn}
-use Rattle.mari_stream.specs.Forms.{BadLineAt, BadOrderAt, Follow, Form, HasPart, HoldsParts, IsFormless, IsWhole, NoFault, NoPart, TookLine, TruncatedAt, text_by, with_part}
+use Rattle.mari_stream.specs.Forms.{BadLineAt, BadOrderAt, Follow, Form, HoldsParts, IsFormless, IsWhole, NoPart, TookLine, TruncatedAt, text_by, with_part}
 use Rattle.mari_stream.specs.declared.coming.Ahead.{Ahead}
 use Rattle.mari_stream.specs.declared.coming.Ahead.TheVariants as mark
 use Rattle.mari_stream.specs.declared.coming.Handled.{Handled}

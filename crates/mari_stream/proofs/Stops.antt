@@ -7,7 +7,7 @@ use Rattle.mari_lines.specs.Reading.{Lacks}
 use Rattle.mari_publish.specs.declared.fault.TextFault.{TextFault}
 use Rattle.mari_publish.specs.declared.fault.TextFault.TheVariants as fault
 use Rattle.mari_stream.specs.Coming.{LinesKeep}
-use Rattle.mari_stream.specs.Forms.{BadLineAt, BadOrderAt, Follow, Form, HasPart, HoldsParts, IsFormless, IsLineFault, IsTextFault, IsWhole, NoPart, TruncatedAt, text_by}
+use Rattle.mari_stream.specs.Forms.{BadLineAt, BadOrderAt, Follow, Form, HoldsParts, IsLineFault, IsTextFault, IsWhole, NoPart, TruncatedAt, text_by}
 use Rattle.mari_stream.proofs.Lines.{all-back, first-text, follow-front, follow-next, not-longer, one-kept, one-parts, text-both}
 
 not-feed : (b : ℕ) → not (eqb b 10) ≡ true → b ≡ 10 → ⊥

@@ -1,9 +1,8 @@
 -- A page whose parts are taken piece by piece.
-use Rattle.std.proofs.Common.{◌≡◌, ◌∙◌, ◌+◌, ◌<◌, ◌≤◌, ℕ, true, List, [], ◌∷◌, ◌++◌, length, take, drop, Option, Some, None, Ok, Err, inl, inr, refl, sym, ap, subst, add-one, arith}
+use Rattle.std.proofs.Common.{◌≡◌, ◌+◌, ◌≤◌, ℕ, List, [], ◌∷◌, ◌++◌, length, drop, Option, Some, None, Ok, Err, inl, inr, refl, subst, arith}
 use Rattle.std.specs.Option.{option_map}
 use Rattle.std.proofs.lemmas.Bool.{cases_lt}
-use Rattle.std.proofs.lemmas.List.{take-append-drop}
-use Rattle.mari_io.specs.Outside.{IsOverlong, IsPiece, OpenStates, counted, counted_by, most_given}
+use Rattle.mari_io.specs.Outside.{IsOverlong, IsPiece, OpenStates, most_given}
 use Rattle.mari_io.specs.declared.shelf.Fetch.{Fetch}
 use Rattle.mari_io.specs.declared.shelf.Fetch.TheVariants as fetch
 use Rattle.mari_publish.specs.Streams.{IsReadFetch, IsUnopened, IsWrapped, stop_of_fetch, stop_of_opening, stop_of_text}
@@ -12,13 +11,13 @@ use Rattle.mari_publish.specs.declared.fault.TextFault.TheVariants as fault
 use Rattle.mari_publish.specs.declared.stream.ReadStop.{ReadStop}
 use Rattle.mari_publish.specs.declared.stream.ReadStop.TheVariants.{Unopened, Fetch as OfFetch, Text as OfText, Part as OfPart, Memory as NoMemory}
 use Rattle.mari_stream.specs.Coming.{AllCome, ComeState, ComesFrom, GivesNext, IsEnd, IsFirstFault, LinesKeep}
-use Rattle.mari_stream.specs.Forms.{Form, HasPart, HoldsParts, IsLineFault, IsWhole, NoFault, NoPart}
-use Rattle.mari_stream.specs.Streams.{AllTaken, BrokeAt, HasTaken, IsReportedFault, IsTooLong, PartsReport, ReadStates, SomePieces, SomeStates, StopStates, TookAll, TookFirst, TookWhole}
+use Rattle.mari_stream.specs.Forms.{Form, HasPart, HoldsParts, IsLineFault, NoFault, NoPart}
+use Rattle.mari_stream.specs.Streams.{AllTaken, BrokeAt, HasTaken, IsReportedFault, IsTooLong, PartsReport, ReadStates, SomeStates, StopStates, TookAll, TookFirst, TookWhole}
 use Rattle.mari_stream.specs.Streams.IsReportedFault.{OfPage as of-page, OfGiven as of-given}
 use Rattle.mari_stream.proofs.LineByLine.{come-parts}
 use Rattle.mari_stream.proofs.Lines.{follow-nothing, parts-stay}
 use Rattle.mari_stream.proofs.Paging.{Under, all-of-it, given-front, last-piece, one-piece, overlong-front, overlong-page, with-piece}
-use Rattle.mari_stream.proofs.Stops.{end-stop, fault-first, fault-stays, no-more, no-part}
+use Rattle.mari_stream.proofs.Stops.{fault-first, fault-stays, no-more}
 
 module _ {K L P : Type 0} (form : Form K L P) where
   pub nothing : (text : List ℕ) → HoldsParts form text []

@@ -8,7 +8,7 @@ ghost use Rattle.mari_stream.specs.Coming.{AllCome, come_of};
 ghost use Rattle.mari_stream.specs.Forms.{HasPart};
 ghost use Rattle.mari_stream.specs.Streams.{HasTaken, PartsReport, PiecesReport, ReadStates, SomePieces, SomeStates};
 
-use crate::coming::{Coming, append, end, next_part, nothing_come};
+use crate::coming::{Coming, append, end, keep_lines, next_part, nothing_come};
 use crate::form::TextForm;
 use mari_io::{Fetch, Shelf};
 use mari_publish::{ReadStop, TextFault};
@@ -132,6 +132,7 @@ fn read_pieces<W, S: Shelf, F: TextForm, P: TakesParts<F, W>>(
     ensures too_long { Counts (IsReadFetch fetch.TooLong result) (S.overs shelf.old) (S.overs shelf.new) }
     ensures written { Counts (IsPartFault P.IsFault result) (P.faults with.old) (P.faults with.new) }
 {
+    keep_lines::<F>();
     let mut piece = Vec::new(alloc);
     'pieces: loop {
         piece.clear();

@@ -29,8 +29,8 @@ module _ (books : Books) (ok : IsAccepted books) (budget : ℕ) (blocks : List R
           let within = slice_get_within blocks k r f in
           let last : run_after (blocks_of (take k blocks)) ≤ length books.runs.runs =
           omega (arith, within, part.few, length-map (take k blocks) block_of, length-take-le k blocks (omega (arith, within))) in
-          let own : IsReachFreeIn books budget (take k (all_named books blocks)) (named_of books r) any =
-          subst (λ (bs : List NamedBlock). IsReachFreeIn books budget bs (named_of books r) any) (sym (take-map (named_of books) k blocks)) (free_in books ok budget (take k blocks) r (part.each k r f) last any) in
+          let Free : List NamedBlock → Type 0 = λ bs. IsReachFreeIn books budget bs (named_of books r) any in
+          let own : Free (take k (all_named books blocks)) = subst Free (sym (take-map (named_of books) k blocks)) (free_in books ok budget (take k blocks) r (part.each k r f) last any) in
           subst (λ (x : NamedBlock). IsReachFreeIn books budget (take k (all_named books blocks)) x any) (same_Some (named_of books r) b g) own
 
 -- the totals of the day are the sums over its blocks by names

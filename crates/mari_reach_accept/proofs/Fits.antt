@@ -118,7 +118,8 @@ module _ (books : Books) (ok : IsAccepted books) (dated : IsDated books) (budget
   market_is k l =
       let part = day.part in
       let long = length-map blocks block_of in
-      let before : AreFirstBlocks books (before_of books (take k (blocks_of blocks))) = keeping.up books ok (blocks_of blocks) (few books ok budget blocks part) (each books ok budget blocks part) k (omega (arith, l, long)) in
+      let before : AreFirstBlocks books (before_of books (take k (blocks_of blocks))) =
+      keeping.up books ok (blocks_of blocks) (few books ok budget blocks part) (each books ok budget blocks part) k (omega (arith, l, long)) in
       let own : AreFirstBlocks books (before_of books (blocks_of (take k blocks))) = subst (λ (bs : List Block). AreFirstBlocks books (before_of books bs)) (take-map block_of k blocks) before in
       let many : length (blocks_of (take k blocks)) ≡ k = length-map (take k blocks) block_of ∙ length-take-le k blocks (omega (arith, l)) in
       market-of books ok (before_of books (blocks_of (take k blocks))) own (run_after (blocks_of (take k blocks))) (omega arith) (omega (arith, many, l, part.few))
@@ -133,7 +134,8 @@ module _ (books : Books) (ok : IsAccepted books) (dated : IsDated books) (budget
       let run = run_after (blocks_of before) in
       let past = before_of books (blocks_of before) in
       let gates : length made.market.gates ≡ length r.gated = gated_count books (taken_before books past run) run ∙ ap length (sym is.gated) in
-      let there : All (λ i. i < length books.bids.ids) r.gated = subst (λ (is : List ℕ). All (λ i. i < length books.bids.ids) is) (sym is.gated) (gated_there books ok (taken_before books past run) run) in
+      let Own : List ℕ → Type 0 = λ gated. All (λ i. i < length books.bids.ids) gated in
+      let there : Own r.gated = subst Own (sym is.gated) (gated_there books ok (taken_before books past run) run) in
       named_fits books ok dated budget run made (also_after books (blocks_of before)) r is (market_is k l) (omega arith) (omega (arith, many, l, day.part.few)) own gates there
 
   blocks_fit : All NamedFits (all_named books blocks)

@@ -48,6 +48,10 @@ pub holding : (m : Market) (budget : ℕ) (claim : Claim) (f : Found) → IsAnsw
 holding m budget First f is = is.tree
 holding m budget (Within gap) f is = is.tree
 
+-- a leaf holds as the checker asks it of a block
+abbrev leaf_holds : Market → ReachBlock → List Decision → ReachLeaf → Type 0
+leaf_holds m r = ReachLeafHolds m (cutoff_of r.block.welfare r.claim) (word_claimed m (activation_of r.block) r.claim)
+
 -- a block of a run's market, the names of whose tree stand for it
 module _ (books : Books) (budget run : ℕ) (made : RunMarket) (also : Option (List Cents)) (r : ReachBlock) (is : IsReachOf books budget run made also r)
     (stands : IsNumbered books (gated_of books made) (map (named_item books r.gated) r.tree) r.tree) where
@@ -64,7 +68,7 @@ module _ (books : Books) (budget run : ℕ) (made : RunMarket) (also : Option (L
     tree = r.tree;
     numbered = stands;
     whole = record {
-      shape = any_parts made.market (ReachLeafHolds made.market (cutoff_of r.block.welfare r.claim) (word_claimed made.market (activation_of r.block) r.claim)) ([] ∷ []) r.tree (holding made.market budget r.claim (found_in r) is.answer);
+      shape = any_parts made.market (leaf_holds made.market r) ([] ∷ []) r.tree (holding made.market budget r.claim (found_in r) is.answer);
       few = (items made.market budget r.claim (found_in r) is.answer).few;
     };
   }
@@ -85,8 +89,9 @@ module _ (books : Books) (ok : IsAccepted books) (taken : Taken) (run : ℕ) whe
   gated_there =
       let named = ok.bids.named in
       let Own : ℕ → Type 0 = λ i. i < length books.bids.ids in
-      All-filter (has_gate books.links) Own (numbers_left books taken run) (All-filter (is_available books taken (run_numbered books run)) Own of_quarter
-      (All-weaker (IsPlace 0 (length books.bids.bids)) Own (λ i l. omega (arith, l.below, named)) of_quarter (places-within (λ (b : Bid). b.quarter == (run_numbered books run).quarter) 0 books.bids.bids)))
+      let places = places-within (λ (b : Bid). b.quarter == (run_numbered books run).quarter) 0 books.bids.bids in
+      let within : All Own of_quarter = All-weaker (IsPlace 0 (length books.bids.bids)) Own (λ i l. omega (arith, l.below, named)) of_quarter places in
+      All-filter (has_gate books.links) Own (numbers_left books taken run) (All-filter (is_available books taken (run_numbered books run)) Own of_quarter within)
 
   pub gated_count : length (run_market_left books taken run).market.gates ≡ length (gated_left books taken run)
   gated_count = length-map (gated_left books taken run) (gate_at books.links.links (gated_left books taken run))
@@ -111,8 +116,10 @@ module _ (books : Books) (ok : IsAccepted books) (budget : ℕ) (before : List R
 
   stands : IsNumbered books (gated_of books made) (map (named_item books r.gated) r.tree) r.tree
   stands =
+      let run = run_after (blocks_of before) in
+      let taken = taken_before books (before_of books (blocks_of before)) run in
       let P : List ℕ → Type 0 = λ gated. IsNumbered books (gated_of books made) (map (named_item books gated) r.tree) r.tree in
-      subst P (sym is.gated) (names_stand books ok (taken_before books (before_of books (blocks_of before)) (run_after (blocks_of before))) (run_after (blocks_of before)) (ReachLeafHolds made.market (cutoff_of r.block.welfare r.claim) (word_claimed made.market (activation_of r.block) r.claim)) r.tree (holding made.market budget r.claim (found_in r) is.answer))
+      subst P (sym is.gated) (names_stand books ok taken run (leaf_holds made.market r) r.tree (holding made.market budget r.claim (found_in r) is.answer))
 
   -- the block of a run that is there has none of the faults
   pub free_in : run_after (blocks_of before) ≤ length books.runs.runs → (any : Fault) → IsReachFreeIn books budget (all_named books before) (named_of books r) any

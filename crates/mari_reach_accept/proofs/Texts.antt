@@ -88,7 +88,7 @@ module _ (books : Books) (budget : ℕ) (blocks : List ReachBlock) where
       let named = flat_map named_block_lines (all_named books blocks) in
       let closing = reach_closing_lines (publication_of books budget blocks) in
       sym (
-        flat_map-append reach_line_text (reach.Head books.date books.quarters budget ∷ named) closing
-        ∙ ap (λ (t : List ℕ). (head ++ t) ++ text_of_reach_lines closing) (blocks_same books blocks)
-        ∙ ap (λ (t : List ℕ). (head ++ flat_map (reach_block_text books) blocks) ++ t) closing_same
+      flat_map-append reach_line_text (reach.Head books.date books.quarters budget ∷ named) closing
+      ∙ ap (λ (t : List ℕ). (head ++ t) ++ text_of_reach_lines closing) (blocks_same books blocks)
+      ∙ ap (λ (t : List ℕ). (head ++ flat_map (reach_block_text books) blocks) ++ t) closing_same
       )

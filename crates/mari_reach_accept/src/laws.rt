@@ -26,7 +26,8 @@ pub fn printed_blocks_are_free(books: &Books)
     ensures free { (budget : ℕ) (before : List PrintedReach) (r : PrintedReach) → IsReachBlock books.now budget before r
         → run_after (blocks_of before) ≤ length books.now.runs.runs → (any : TheFault)
         → IsReachFreeIn books.now budget (all_named books.now before) (named_of books.now r) any }
-    ensures part { (budget : ℕ) (blocks : List PrintedReach) → IsReachPart books.now budget blocks → AreReachFree books.now budget (all_named books.now blocks) }
+    ensures part { (budget : ℕ) (blocks : List PrintedReach) → IsReachPart books.now budget blocks
+        → AreReachFree books.now budget (all_named books.now blocks) }
 {
     let _books = books;
 }
@@ -35,9 +36,12 @@ pub fn printed_blocks_are_free(books: &Books)
 pub fn printed_days_are_free(books: &Books)
     requires { IsAccepted books.now }
     ensures head { HasHead books.now books.now.date books.now.quarters }
-    ensures free { (budget : ℕ) (blocks : List PrintedReach) → IsReachDay books.now budget blocks → AreReachFree books.now budget (all_named books.now blocks) }
-    ensures every { (budget : ℕ) (blocks : List PrintedReach) → IsReachDay books.now budget blocks → length (all_named books.now blocks) ≡ length books.now.runs.runs }
-    ensures sums { (blocks : List PrintedReach) → AreSums books.now (all_named books.now blocks) (operator_totals books.now (blocks_of blocks)) (provider_totals books.now (blocks_of blocks)) }
+    ensures free { (budget : ℕ) (blocks : List PrintedReach) → IsReachDay books.now budget blocks
+        → AreReachFree books.now budget (all_named books.now blocks) }
+    ensures every { (budget : ℕ) (blocks : List PrintedReach) → IsReachDay books.now budget blocks
+        → length (all_named books.now blocks) ≡ length books.now.runs.runs }
+    ensures sums { (blocks : List PrintedReach)
+        → AreSums books.now (all_named books.now blocks) (operator_totals books.now (blocks_of blocks)) (provider_totals books.now (blocks_of blocks)) }
 {
     let _books = books;
 }
@@ -49,8 +53,10 @@ pub fn printed_days_have_text(books: &Books)
     requires dated { IsDated books.now }
     ensures text { (budget first within : ℕ) (text : List ℕ) (is : IsReachDayText books.now budget first within text) → IsBudget budget
         → IsReachText text (publication_of books.now budget is.blocks) }
-    ensures first { (budget first within : ℕ) (text : List ℕ) (is : IsReachDayText books.now budget first within text) → first ≡ first_among (all_named books.now is.blocks) }
-    ensures within { (budget first within : ℕ) (text : List ℕ) (is : IsReachDayText books.now budget first within text) → within ≡ within_among (all_named books.now is.blocks) }
+    ensures first { (budget first within : ℕ) (text : List ℕ) (is : IsReachDayText books.now budget first within text)
+        → first ≡ first_among (all_named books.now is.blocks) }
+    ensures within { (budget first within : ℕ) (text : List ℕ) (is : IsReachDayText books.now budget first within text)
+        → within ≡ within_among (all_named books.now is.blocks) }
 {
     let _books = books;
 }

@@ -28,7 +28,8 @@ end_by : (books : Books) (blocks : List ReachBlock) (first within : ℕ) → fir
 end_by books blocks first within e f = rw (e, f) refl
 
 -- the totals are in range
-totals_fit : (books : Books) → IsAccepted books → IsDated books → (blocks : List Block) (p : Progress) → IsProgress books blocks p → SumsFit (operator_totals books blocks) (provider_totals books blocks)
+totals_fit : (books : Books) → IsAccepted books → IsDated books → (blocks : List Block) (p : Progress) → IsProgress books blocks p
+    → SumsFit (operator_totals books blocks) (provider_totals books blocks)
 totals_fit books ok dated blocks p kept =
     let few : length blocks ≤ 1000 = omega (arith, kept.few, ok.runs.few) in
     let Operators : List MoneyLine → Type 0 = λ ls. Listed 1 64 IsMoneyLine ls in

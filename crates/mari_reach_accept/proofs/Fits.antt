@@ -133,7 +133,7 @@ module _ (books : Books) (ok : IsAccepted books) (dated : IsDated books) (budget
       let many : length (blocks_of before) ≡ k = length-map before block_of ∙ length-take-le k blocks (omega (arith, l)) in
       let run = run_after (blocks_of before) in
       let past = before_of books (blocks_of before) in
-      let gates : length made.market.gates ≡ length r.gated = gated_count books (taken_before books past run) run ∙ ap length (sym is.gated) in
+      let gates : length made.market.gates ≡ length r.gated = gated_count books ok (taken_before books past run) run ∙ ap length (sym is.gated) in
       let Own : List ℕ → Type 0 = λ gated. All (λ i. i < length books.bids.ids) gated in
       let there : Own r.gated = subst Own (sym is.gated) (gated_there books ok (taken_before books past run) run) in
       named_fits books ok dated budget run made (also_after books (blocks_of before)) r is (market_is k l) (omega arith) (omega (arith, many, l, day.part.few)) own gates there

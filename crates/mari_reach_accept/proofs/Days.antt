@@ -1,18 +1,16 @@
 -- A printed day has none of the faults.
-use Rattle.std.proofs.Common.{◌≡◌, ◌∙◌, ◌≤◌, ◌<◌, ℕ, List, Option, Some, None, length, take, refl, sym, ap, subst, arith}
+use Rattle.std.proofs.Common.{◌≡◌, ◌∙◌, ◌≤◌, ℕ, List, Option, Some, None, length, take, refl, sym, ap, subst, arith}
 use Rattle.std.specs.Prelude.{slice_get}
 use Rattle.std.specs.List.{take-map}
 use Rattle.std.specs.Option.{option_map}
 use Rattle.std.proofs.lemmas.List.{length-map, length-take-le}
 use Rattle.std.proofs.lemmas.Option.{none-some, same_Some, slice_get-map, slice_get_within}
-use Rattle.mari_publish.specs.declared.publication.Block.{Block}
 use Rattle.mari_remain.specs.Accepted.{IsAccepted}
 use Rattle.mari_remain.specs.declared.books.Books.{Books}
 use Rattle.mari_progress.specs.After.{run_after}
 use Rattle.mari_progress.specs.Totals.{operator_totals, provider_totals}
-use Rattle.mari_check.specs.declared.fault.Fault.{Fault}
 use Rattle.mari_reach_text.specs.declared.named.NamedBlock.{NamedBlock}
-use Rattle.mari_reach_check.specs.Day.{AreReachFree, AreSums, IsReachFreeIn, all_printed}
+use Rattle.mari_reach_check.specs.Day.{AreReachFree, AreSums, IsReachFreeIn}
 use Rattle.mari_reach_day.specs.declared.block.ReachBlock.{ReachBlock}
 use Rattle.mari_reach_day.specs.Reach.{IsReachPart, block_of, blocks_of}
 use Rattle.mari_reach_accept.specs.Named.{all_named, named_of}

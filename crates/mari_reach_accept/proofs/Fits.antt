@@ -1,5 +1,5 @@
 -- The numbers of a printed day are in range.
-use Rattle.std.proofs.Common.{◌≡◌, ◌∙◌, ◌≤◌, ◌<◌, ◌^◌, ◌+◌, ℕ, pos, List, [], ◌∷◌, ◌++◌, Option, Some, get_or, length, map, take, refl, sym, ap, subst, arith, slice_index_or}
+use Rattle.std.proofs.Common.{◌≡◌, ◌∙◌, ◌≤◌, ◌<◌, ◌^◌, ℕ, List, [], ◌∷◌, ◌++◌, Option, Some, get_or, length, map, take, refl, sym, ap, subst, arith, slice_index_or}
 use Rattle.std.specs.Prelude.{slice_get}
 use Rattle.std.specs.List.{All, take-map}
 use Rattle.std.proofs.lemmas.Int.{ints}
@@ -26,7 +26,7 @@ use Rattle.mari_remain.specs.RunMarket.{taken_before}
 use Rattle.mari_remain.specs.declared.books.Books.{Books}
 use Rattle.mari_remain.specs.declared.market.RunMarket.{RunMarket}
 use Rattle.mari_progress.specs.After.{also_after, before_of, market_after, run_after}
-use Rattle.mari_progress.specs.Reported.{activation_of, areas_of, greatest_reported, heading_of, least_reported, prices_of}
+use Rattle.mari_progress.specs.Reported.{activation_of, areas_of, greatest_reported, least_reported, prices_of}
 use Rattle.mari_progress.specs.Runs.{IsMarketOf}
 use Rattle.mari_progress.specs.Totals.{operator_totals, provider_totals}
 use Rattle.mari_progress.proofs.Keeping as keeping
@@ -40,10 +40,9 @@ use Rattle.mari_reach_check.specs.Faults.{cutoff_of, word_claimed}
 use Rattle.mari_reach_text.specs.Texts.{NamedFits, ReachHasText, named_line}
 use Rattle.mari_reach_text.specs.declared.named.NamedItem.{NamedItem}
 use Rattle.mari_reach_lines.specs.Ranges.{ReachInRange}
-use Rattle.mari_reach_text.specs.Numbers.{gated_of}
 use Rattle.mari_reach_day.specs.declared.block.ReachBlock.{ReachBlock}
 use Rattle.mari_reach_day.specs.Ranges.{ReachFits}
-use Rattle.mari_reach_day.specs.Reach.{IsReachBlock, IsReachDay, IsReachOf, IsReachPart, block_of, blocks_of, found_in}
+use Rattle.mari_reach_day.specs.Reach.{IsReachDay, IsReachOf, block_of, blocks_of, found_in}
 use Rattle.mari_reach_day.proofs.Blocks.{admissible, items}
 use Rattle.mari_reach_day.proofs.Keeping.{each, few}
 use Rattle.mari_reach_accept.specs.Named.{all_named, named_item, named_of, publication_of}

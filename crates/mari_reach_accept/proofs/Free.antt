@@ -1,5 +1,5 @@
 -- A printed block has none of the faults.
-use Rattle.std.proofs.Common.{◌≡◌, ◌≢◌, ◌≤◌, ◌<◌, ◌==◌, ◌+◌, ℕ, pos, List, [], ◌∷◌, Option, length, map, sym, subst, refl, ap, arith}
+use Rattle.std.proofs.Common.{◌≡◌, ◌≤◌, ◌<◌, ◌==◌, ℕ, pos, List, [], ◌∷◌, Option, length, map, sym, subst, refl, ap, arith}
 use Rattle.std.specs.List.{All, AllByRecursion, AllPairs}
 use Rattle.std.proofs.lemmas.List.{length-map}
 use Rattle.std.proofs.lemmas.List.Elements.{All-filter, All-weaker}
@@ -26,7 +26,7 @@ use Rattle.mari_reach.specs.declared.decisions.ReachItem.{ReachItem}
 use Rattle.mari_reach.specs.declared.decisions.ReachLeaf.{ReachLeaf}
 use Rattle.mari_reach.specs.Leaf.{ReachLeafHolds}
 use Rattle.mari_reach.specs.Tree.{ArePartsOf, ReachHolds}
-use Rattle.mari_reached.specs.Answer.{IsAnswer, IsWithinBudget}
+use Rattle.mari_reached.specs.Answer.{IsAnswer}
 use Rattle.mari_reached.specs.declared.answer.Found.{Found}
 use Rattle.mari_reach_lines.specs.declared.line.Claim.{Claim}
 use Rattle.mari_reach_lines.specs.declared.line.Claim.TheVariants.{First, Within}

@@ -1,5 +1,5 @@
 -- The gates and the zones that the names of a printed tree stand for are those that it decides.
-use Rattle.std.proofs.Common.{◌≡◌, ◌≢◌, ◌∙◌, ◌<◌, ℕ, Bool, true, List, [], ◌∷◌, ◌++◌, Option, Some, length, map, refl, ap, arith, nat_lt, slice_index_or}
+use Rattle.std.proofs.Common.{◌≡◌, ◌≢◌, ◌∙◌, ◌<◌, ℕ, Bool, true, List, [], ◌∷◌, ◌++◌, Some, length, map, refl, ap, nat_lt, slice_index_or}
 use Rattle.std.specs.Prelude.{option_map, ⊤}
 use Rattle.std.specs.List.{AllByRecursion, AllPairs, All, position, position_or_len}
 use Rattle.std.specs.Option.{option_and_then}

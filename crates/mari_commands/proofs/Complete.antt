@@ -37,7 +37,8 @@ use Rattle.mari_commands.specs.declared.outcome.Outcome.{Outcome}
 use Rattle.mari_commands.specs.declared.outcome.Outcome.TheVariants.{Day, Feed as Feeds, Values, Text, Invalid, NoPage, Refused, Memory as NoMemory}
 use Rattle.mari_answers.specs.declared.status.Status.{Status}
 use Rattle.mari_answers.specs.declared.status.Status.TheVariants as status
-use Rattle.mari_commands.specs.Commands.{EndsValues, HasBooksToClear, IsFeedable, IsMigratable, IsReadable, LacksPage, RefusesFeed, RefusesFiles, RefusesText, fetch_of, publication_path, text_refusal}
+use Rattle.mari_commands.specs.Commands.{EndsValues, HasBooksToClear, IsFeedable, IsMigratable, IsReadable, LacksPage, RefusesFeed, RefusesFiles, RefusesText, fetch_of, publication_path}
+use Rattle.mari_answers.specs.Texts.{text_refusal}
 use Rattle.mari_commands.specs.Headline.{HasBudget}
 use Rattle.mari_commands.specs.Outcome.{IsDayOf, IsFeedOf, IsReportedValues, Reported, ReportsDay, ReportsFeed, ReportsParts, ReportsText, Says, day_status}
 use Rattle.mari_answers.specs.Reports.{Reports}

@@ -9,8 +9,8 @@ use Rattle.mari_feed.specs.Streams.{FeedStates}
 use Rattle.mari_feed.specs.declared.stream.FeedStop.TheVariants as stop
 use Rattle.mari_feed.proofs.Feeding.{took_none}
 use Rattle.mari_answers.specs.declared.status.Status.{Status}
-use Rattle.mari_commands.specs.Commands.{text_refusal}
-use Rattle.mari_commands.specs.Outcome.{ReportsText, refusal_of}
+use Rattle.mari_answers.specs.Texts.{refusal_of, text_refusal}
+use Rattle.mari_commands.specs.Outcome.{ReportsText}
 use Rattle.mari_answers.specs.Reports.{Reports, ReportsRefusal}
 use Rattle.mari_answers.specs.Reports.Reports.{Printed, CutOff, Starved}
 use Rattle.mari_commands.specs.Program.{OrFault}

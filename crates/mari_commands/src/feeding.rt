@@ -4,8 +4,7 @@ ghost use Rattle.std.specs.Prelude.{◌≡◌, ◌≤◌, ◌+◌};
 ghost use Rattle.mari_io.specs.Outside.{Counts, Rose};
 ghost use Rattle.mari_commands.specs.Outcome.{AsksForOne, ReportsParts, ReportsText};
 
-use crate::checking::text_refusal;
-use mari_answers::{Status, say_no_page, say_refused};
+use mari_answers::{Status, say_no_page, say_refused, text_refusal};
 use mari_day::{PUBLICATION, file_name, path_in};
 use mari_feed::{FeedStop, print_feed};
 use mari_io::{Shelf, Sink};

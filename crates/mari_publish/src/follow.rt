@@ -32,7 +32,7 @@ use tree::{close_tree, grow};
 /// and where there is no memory for it.
 ///
 /// A line that goes on in what is held is taken in place; only one that ends it takes it out.
-pub fn follow(alloc: Global, kept: &mut Kept, line: Line) -> Result<Option<Part>, FollowFault>
+pub fn follow_line(alloc: Global, kept: &mut Kept, line: Line) -> Result<Option<Part>, FollowFault>
     requires counts { kept.old.counts.published + kept.old.counts.unpublished ≤ MOST_RUNS }
     requires room { HasRoom kept.old.held kept.old.counts }
     ensures { Follows (after kept.old kept.old.held line) kept.old kept.new result }

@@ -19,8 +19,8 @@ mod taking;
 mod write;
 
 pub use fault::TextFault;
-pub use follow::{FollowFault, follow};
-pub use held::{Counts, Ending, Growing, Held, Kept, Listing, Pending};
+pub use follow::{FollowFault, follow_line};
+pub use held::{Held, Kept};
 pub use laws::lines_give;
 pub use mari_lines::{AmountLine, BidLine, BorderLine, Heading, MoneyLine, ZoneLine};
 pub use publication::{Block, FullBlock, Part, Publication};

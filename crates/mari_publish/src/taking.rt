@@ -5,7 +5,7 @@ ghost use Rattle.mari_publish.specs.Order.{HasRoom};
 ghost use Rattle.mari_publish.specs.Gathering.{Took};
 
 use crate::fault::TextFault;
-use crate::follow::{FollowFault, follow};
+use crate::follow::{FollowFault, follow_line};
 use crate::held::Kept;
 use crate::publication::Part;
 use mari_lines::{FormFault, read_line};
@@ -51,7 +51,7 @@ pub fn take_line(alloc: Global, kept: &mut Kept, here: &[u8]) -> Result<Option<P
         Err(FormFault::Formless) => return Err(TakeFault::Formless),
         Err(FormFault::Memory) => return Err(TakeFault::Memory),
     };
-    match follow(alloc, kept, line) {
+    match follow_line(alloc, kept, line) {
         Ok(part) => Ok(part),
         Err(FollowFault::OutOfOrder) => Err(TakeFault::OutOfOrder),
         Err(FollowFault::Memory) => Err(TakeFault::Memory),

@@ -10,7 +10,7 @@ use Rattle.mari_publish.specs.declared.publication.Part.{Part}
 use Rattle.mari_publish.specs.declared.held.Kept.{Kept}
 use Rattle.mari_publish.specs.declared.follow.step.FollowFault.{FollowFault}
 use Rattle.mari_publish.specs.Order.{after, after_ending, after_growing, after_listing, after_totals, keeps, kept_with, Follows}
-use Rattle.mari_publish.proofs.follow.follow.Goals as goal
+use Rattle.mari_publish.proofs.follow.follow_line.Goals as goal
 
 -- by what is held
 in_held : (k new : Kept) (h : Held) (l : Line) (r : Result (Option Part) FollowFault) → k.held ≡ h → Follows (after k h l) (kept_with k h) new r → Follows (after k k.held l) k new r

@@ -1,5 +1,5 @@
 -- Every check by which a market file may be refused has a name.
-use Rattle.std.proofs.Common.{◌≡◌, ℕ, [], Some, arith, subst, sym}
+use Rattle.std.proofs.Common.{◌≡◌, ℕ, List, [], Option, Some, arith, subst, sym}
 use Rattle.std.specs.Prelude.{◌≢◌, IsSomeAnd}
 use Rattle.mari_units.specs.declared.faults.Refusal.{Refusal}
 use Rattle.mari_rows.specs.Checks.{row_check_name, row_check_number}
@@ -30,7 +30,9 @@ use Rattle.mari_publish.specs.declared.fault.TextFault.{TextFault}
 use Rattle.mari_publish.specs.declared.fault.TextFault.TheVariants as text_fault
 use Rattle.mari_answers.specs.Checks.{text_check_name}
 use Rattle.mari_answers.specs.Refusals.{HasName, check_name}
+use Rattle.mari_answers.specs.Reports.{ReportsRefusal, ReportsText}
 use Rattle.mari_answers.specs.Texts.{refusal_of, text_refusal}
+use Rattle.mari_answers.specs.declared.status.Status.{Status}
 
 -- a check of a file by their numbers has a name, which isn't empty
 abbrev pub IsNamedCheck : (file number : ℕ) → Type 0
@@ -124,3 +126,12 @@ text-named (text_fault.BadLine n) refusal e = let same : refusal ≡ text_refusa
 text-named (text_fault.BadOrder n) refusal e = let same : refusal ≡ text_refusal (text_fault.BadOrder n) = cc in subst IsSaid (sym same) (order-named n)
 text-named (text_fault.Truncated n) refusal e = let same : refusal ≡ text_refusal (text_fault.Truncated n) = cc in subst IsSaid (sym same) (end-named n)
 text-named text_fault.Memory refusal e = absurd cc
+
+-- the refusal of a fault of a publication's text
+pub same-refusal : (fault : TextFault) (refusal : Refusal) (before after : Option (List ℕ)) (result : Status)
+    → Some refusal ≡ refusal_of fault → ReportsRefusal refusal before after result
+    → ReportsText fault before after result
+same-refusal (text_fault.BadLine n) refusal before after result e r = let same : refusal ≡ text_refusal (text_fault.BadLine n) = cc in subst (λ x. ReportsRefusal x before after result) same r
+same-refusal (text_fault.BadOrder n) refusal before after result e r = let same : refusal ≡ text_refusal (text_fault.BadOrder n) = cc in subst (λ x. ReportsRefusal x before after result) same r
+same-refusal (text_fault.Truncated n) refusal before after result e r = let same : refusal ≡ text_refusal (text_fault.Truncated n) = cc in subst (λ x. ReportsRefusal x before after result) same r
+same-refusal text_fault.Memory refusal before after result e r = absurd cc

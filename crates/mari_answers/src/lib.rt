@@ -17,4 +17,4 @@ pub use checks::{MigrationCheck, TextCheck};
 pub use lines::{invalid_line, page_line, pair_line, refused_line};
 pub use saying::{say, say_after, say_invalid, say_no_books, say_no_page, say_refused};
 pub use status::Status;
-pub use texts::text_refusal;
+pub use texts::{say_text_fault, text_refusal};

@@ -1,5 +1,5 @@
 -- Every refusal that an outcome states has a name.
-use Rattle.std.proofs.Common.{◌≡◌, ℕ, Some, Result, Ok, Err, arith, inl, inr, subst, sym}
+use Rattle.std.proofs.Common.{ℕ, Result, Ok, Err, arith, inl, inr}
 use Rattle.mari_units.specs.declared.faults.Refusal.{Refusal}
 use Rattle.mari_publish.specs.declared.fault.TextFault.{TextFault}
 use Rattle.mari_publish.specs.declared.fault.TextFault.TheVariants as text_fault
@@ -24,10 +24,9 @@ use Rattle.mari_answers.specs.Checks.{migration_check_name}
 use Rattle.mari_commands.specs.Commands.{already_two}
 use Rattle.mari_commands.specs.Outcome.{IsMigrated, IsReportable, IsSayable, no_books, text_outcome}
 use Rattle.mari_answers.specs.Refusals.{HasName, check_name}
-use Rattle.mari_answers.specs.Texts.{refusal_of}
 use Rattle.mari_commands.specs.declared.outcome.Outcome.{Outcome}
 use Rattle.mari_commands.specs.declared.outcome.Outcome.TheVariants as outcome
-use Rattle.mari_answers.proofs.Naming.{IsNamedCheck, by-name, end-named, line-named, named-file, order-named, row-named, text-named}
+use Rattle.mari_answers.proofs.Naming.{IsNamedCheck, by-name, end-named, line-named, named-file, order-named, row-named}
 
 -- and those of blocks.csv, and of what can't be one market
 block-named : (check : BlockCheck) → IsNamedCheck BLOCKS (block_check_number check)
@@ -69,10 +68,6 @@ migrated-reportable books part (outcome.Invalid run fault) is = tt
 migrated-reportable books part (outcome.Refused refusal) is = rw is.1 already-reportable
 migrated-reportable books part outcome.Memory is = tt
 migrated-reportable books part _ is = absurd is
-
--- and so it is by its refusal
-pub refusal-named : (fault : TextFault) (refusal : Refusal) → Some refusal ≡ refusal_of fault → IsReportable (outcome.Refused refusal)
-refusal-named fault refusal e = text-named fault refusal e
 
 -- what clearing quarters gives
 file-named : (file : ℕ) → IsQuartersFile file → IsNamed file

@@ -49,7 +49,7 @@ use Rattle.mari_commands.specs.Splits.{EndsBy, command_by}
 use Rattle.mari_commands.specs.Summary.{IsGenerated}
 use Rattle.mari_commands.specs.Printing.{usage_line, valid_line}
 use Rattle.mari_answers.specs.Lines.{invalid_line}
-use Rattle.mari_answers.specs.Reports.{Reports, ReportsNoPage, ReportsRefusal, WhereReported}
+use Rattle.mari_answers.specs.Reports.{Reports, ReportsNoPage, ReportsRefusal, ReportsText, WhereReported}
 use Rattle.mari_answers.specs.Refusals.{HasName}
 use Rattle.mari_answers.specs.Texts.{refusal_of, text_refusal}
 use Rattle.mari_commands.specs.Values.{value_line, value_status}
@@ -149,11 +149,6 @@ pub record ReportsDay (job : Job) (before after : Option (List ℕ)) (result : S
   pub ended : DayEnd
   pub ends : EndsBy job.way job.books job.nodes before after ended
   pub status : result ≡ day_status ended
-
--- how a publication is reported whose text has a fault
-abbrev pub ReportsText : TextFault → (before after : Option (List ℕ)) → Status → Type 0
-ReportsText text_fault.Memory before after result = (result ≡ status.Memory) × (after ≡ before)
-ReportsText fault before after result = ReportsRefusal (text_refusal fault) before after result
 
 -- how the printing of a feed is reported by how it ended: nothing more is printed; or the line of its status is
 abbrev pub ReportsFeed : {T : Type 0} → Result T FeedStop → (before after : Option (List ℕ)) → Status → Type 0

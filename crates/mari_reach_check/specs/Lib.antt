@@ -2,3 +2,5 @@ pub mod Faults
 pub mod Shown
 pub mod Day
 pub mod Tested
+pub mod Verdict
+pub mod Parts

@@ -9,7 +9,9 @@ mod block;
 mod day;
 mod laws;
 mod tree;
+mod verdict;
 
 pub use block::examine_block;
 pub use day::{Ending, ReachDayCheck};
-pub use laws::free_blocks_show;
+pub use laws::{free_blocks_show, valid_days_pass};
+pub use verdict::ReachVerdict;

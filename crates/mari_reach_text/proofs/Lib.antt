@@ -1,1 +1,4 @@
 pub mod Missing
+pub mod Stepped
+pub mod Mirrors
+pub mod Parts

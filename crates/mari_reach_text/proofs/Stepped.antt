@@ -1,5 +1,5 @@
 -- What a line of the first form does to the tree that has come.
-use Rattle.std.proofs.Common.{◌≡◌, ◌∙◌, ◌×◌, Bool, true, false, cond, ◌&&◌, List, [], ◌∷◌, ◌++◌, Option, Some, None, refl, sym, subst, eqb, ltb}
+use Rattle.std.proofs.Common.{◌≡◌, ◌∙◌, Bool, true, false, cond, ◌&&◌, List, [], ◌∷◌, ◌++◌, Option, Some, None, refl, sym, subst, eqb, ltb}
 use Rattle.std.proofs.lemmas.Bool.{and_parts, eqb-true}
 use Rattle.std.proofs.lemmas.List.{append-nil}
 use Rattle.std.proofs.lemmas.Option.{cond_some}
@@ -15,7 +15,7 @@ use Rattle.mari_publish.specs.declared.held.Held.TheVariants as held
 use Rattle.mari_publish.specs.declared.held.Kept.{Kept}
 use Rattle.mari_publish.specs.declared.held.Listing.{Listing}
 use Rattle.mari_publish.specs.declared.held.Pending.{Pending}
-use Rattle.mari_publish.specs.declared.held.Pending.TheVariants.{Nothing}
+use Rattle.mari_publish.specs.declared.held.Pending.TheVariants.{Nothing, Zones, At, Flows}
 use Rattle.mari_publish.specs.declared.publication.Block.TheVariants as block
 use Rattle.mari_publish.specs.declared.publication.Part.{Part}
 use Rattle.mari_publish.specs.declared.publication.Part.TheVariants as part
@@ -108,6 +108,9 @@ listing_step k b _ new e = absurd cc
 growing_step : (k : Kept) (g : Growing) (pending : Pending) (l : Line) (new : Held) → is_plain l ≡ true → after_growing g pending l ≡ Some new → HeldStep k (held.Growing g) l new
 growing_step k g Nothing line.Branch new plain e = if_held k (held.Growing g) line.Branch _ _ new e (tt, (refl, refl))
 growing_step k g Nothing (line.Operator o) new plain e = if_held k (held.Growing g) (line.Operator o) _ _ new e (tt, (sym (append-nil g.tree), refl))
+growing_step k g (Zones zones) (line.At prices) new plain e = absurd cc
+growing_step k g (At zones prices) (line.Flows flows) new plain e = absurd cc
+growing_step k g (Flows zones prices flows) (line.Mws mws) new plain e = absurd cc
 growing_step k g _ _ new plain e = absurd cc
 
 ending_step : (k : Kept) (n : Ending) (l : Line) (new : Held) → after_ending n l ≡ Some new → HeldStep k (held.Ending n) l new

@@ -13,7 +13,7 @@ use crate::named::{NamedBlock, NamedItem};
 use mari_lines::{FormFault, Line};
 use mari_market::Prices;
 use mari_publish::{Block, FollowFault, FullBlock, Held, Kept, Part, TakeFault, follow_line};
-use mari_reach_lines::{Claim, ReachLine, read_reach_line};
+use mari_reach_lines::{Claim, ReachLine, reach_lines_differ, read_reach_line};
 use mari_stream::TextForm;
 use mari_units::{Items, MOST_RUNS, Memory};
 use std::alloc::Global;
@@ -225,5 +225,7 @@ impl TextForm for ReachKept {
         matches!(self.kept.held, Held::Done)
     }
 
-    fn lines_keep() {}
+    fn lines_keep() {
+        reach_lines_differ()
+    }
 }

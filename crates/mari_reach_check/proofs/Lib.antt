@@ -4,3 +4,4 @@ pub mod Showing
 pub mod Days
 pub mod Verdicts
 pub mod Parts
+pub mod Streaming

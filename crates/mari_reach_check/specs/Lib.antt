@@ -4,3 +4,5 @@ pub mod Day
 pub mod Tested
 pub mod Verdict
 pub mod Parts
+pub mod Streams
+pub mod SoFar

@@ -6,8 +6,6 @@ use Rattle.mari_lines.specs.declared.line.AmountLine.{AmountLine}
 use Rattle.mari_lines.specs.declared.line.MoneyLine.{MoneyLine}
 use Rattle.mari_remain.specs.declared.books.Books.{Books}
 use Rattle.mari_progress.specs.Totals.{HasHead}
-use Rattle.mari_reach_lines.specs.Ranges.{IsClaim}
-use Rattle.mari_reach_text.specs.Order.{ClaimFits}
 use Rattle.mari_reach_text.specs.Texts.{ReachPublication, reach_parts_of}
 use Rattle.mari_reach_text.specs.declared.kept.ReachPart.{ReachPart}
 use Rattle.mari_reach_text.specs.declared.kept.ReachPart.TheVariants as part
@@ -212,8 +210,3 @@ all-found books p parts day (Some v) e f = refl
 all-found books p parts day None e f =
     let o : IsFaultlessSoFar books p.date p.quarters p.budget (map part.Block p.blocks ++ part.Totals p.operators p.providers ∷ []) day = subst (λ (ps : List ReachPart). IsOpen books ps day) e f in
     absurd (no-totals-yet p.blocks o.blocks p.operators p.providers o.are)
-
--- ---- the claim of a block
-
-pub claim-of : (x : ReachPart) (b : NamedBlock) → x ≡ part.Block b → ClaimFits x → IsClaim b.claim
-claim-of x b e fits = subst ClaimFits e fits

@@ -11,7 +11,7 @@ use Rattle.mari_publish.specs.declared.stream.ReadStop.{ReadStop}
 use Rattle.mari_publish.specs.declared.stream.ReadStop.TheVariants as read
 use Rattle.mari_remain.specs.declared.books.Books.{Books}
 use Rattle.mari_check.specs.Streams.{stream_fault}
-use Rattle.mari_stream.specs.Forms.{Follow, IsLineFault, IsTextFault, IsWhole}
+use Rattle.mari_stream.specs.Forms.{Follow, IsLineFault, IsTextFault, IsWhole, text_by}
 use Rattle.mari_stream.specs.Streams.{IsReportedFault, ReadStates}
 use Rattle.mari_stream.specs.Streams.IsReportedFault.{OfPage, OfGiven}
 use Rattle.mari_reach_lines.specs.declared.line.ReachLine.{ReachLine}
@@ -42,6 +42,9 @@ fault-states Took Breaks _ _ h = absurd h
 
 -- ---- a fault of a line stays where more is after it
 
+longer : (before here after more : List ℕ) → (before ++ (here ++ 10 ∷ after)) ++ more ≡ before ++ (here ++ 10 ∷ (after ++ more))
+longer before here after more = append_assoc before (here ++ 10 ∷ after) more ∙ ap (λ (t : List ℕ). before ++ t) (append_assoc here (10 ∷ after) more)
+
 line-stays : (text more : List ℕ) (f : TextFault) → IsLineFault reach_form text f → IsTextFault reach_form (text ++ more) f
 line-stays text more (fault.BadLine n) h = record {
   before = h.before;
@@ -49,7 +52,7 @@ line-stays text more (fault.BadLine n) h = record {
   kept = h.kept;
   here = h.here;
   after = h.after ++ more;
-  is = ap (λ (t : List ℕ). t ++ more) h.is ∙ append_assoc _ (h.here ++ 10 ∷ h.after) more ∙ ap (λ (t : List ℕ). _ ++ t) (append_assoc h.here (10 ∷ h.after) more);
+  is = ap (λ (t : List ℕ). t ++ more) h.is ∙ longer (text_by reach_form h.before) h.here h.after more;
   whole = h.whole;
   follow = h.follow;
   number = h.number;
@@ -61,7 +64,7 @@ line-stays text more (fault.BadOrder n) h = record {
   kept = h.kept;
   here = h.here;
   after = h.after ++ more;
-  is = ap (λ (t : List ℕ). t ++ more) h.is ∙ append_assoc _ (_ ++ 10 ∷ h.after) more ∙ ap (λ (t : List ℕ). _ ++ t) (append_assoc _ (10 ∷ h.after) more);
+  is = ap (λ (t : List ℕ). t ++ more) h.is ∙ longer (text_by reach_form h.before) (reach_form.spelled h.here) h.after more;
   follow = h.follow;
   number = h.number;
   in_range = h.in_range;

@@ -8,7 +8,8 @@ use Rattle.mari_progress.specs.After.{run_after}
 use Rattle.mari_progress.specs.Totals.{HasHead}
 use Rattle.mari_lines.specs.declared.line.AmountLine.{AmountLine}
 use Rattle.mari_lines.specs.declared.line.MoneyLine.{MoneyLine}
-use Rattle.mari_check.specs.Faults.{FindsNumber, IsLeast}
+use Rattle.mari_check.specs.Faults.{Finds, FindsNumber, IsLeast}
+use Rattle.mari_check.specs.declared.fault.Fault.{Fault}
 use Rattle.mari_reach_text.specs.Claims.{first_among, within_among}
 use Rattle.mari_reach_text.specs.Texts.{ReachPublication}
 use Rattle.mari_reach_text.specs.declared.named.NamedBlock.{NamedBlock}
@@ -30,6 +31,13 @@ head-clear books p None e h = h
 head-clear books p (Some v) e h = absurd (cc e)
 
 -- ---- a block
+
+module _ (books : Books) (budget : ℕ) (blocks : List NamedBlock) (b : NamedBlock) (found : Option Fault) where
+  pub found-least : (least : Fault) → found ≡ Some least → Finds (IsReachFreeIn books budget blocks b) found → IsLeast (IsReachFreeIn books budget blocks b) least
+  found-least least e h = subst (Finds (IsReachFreeIn books budget blocks b)) e h
+
+  pub found-none : found ≡ None → Finds (IsReachFreeIn books budget blocks b) found → (any : Fault) → IsReachFreeIn books budget blocks b any
+  found-none e h = subst (Finds (IsReachFreeIn books budget blocks b)) e h
 
 there-at : (before : List NamedBlock) (b : NamedBlock) (others : List NamedBlock) → slice_get (before ++ b ∷ others) (length before) ≡ Some b
 there-at [] b others = refl
@@ -74,6 +82,14 @@ module _ (books : Books) (p : ReachPublication) (head : HasHead books p.date p.q
 
       pub is-valid : AreSums books p.blocks p.operators p.providers → IsReachValid books p
       is-valid totals = record { head = head; blocks = free-of p.blocks checked.free; every = every; totals = totals }
+
+-- the totals that end a day are those of the day
+module _ (books : Books) (blocks : List NamedBlock) (own operators : List MoneyLine) (mine providers : List AmountLine) (first : own ≡ operators) (second : mine ≡ providers) where
+  pub own-sums : AreSums books blocks operators providers → AreSums books blocks own mine
+  own-sums h = record { operators_are = first ∙ h.operators_are; providers_are = second ∙ h.providers_are }
+
+  pub those-sums : AreSums books blocks own mine → AreSums books blocks operators providers
+  those-sums h = record { operators_are = sym first ∙ h.operators_are; providers_are = sym second ∙ h.providers_are }
 
 -- ---- a valid day has no fault
 

@@ -104,14 +104,7 @@ pub fn check_reach_stream<S: Shelf>(
         day,
         found: None,
     };
-    let read = read_text_parts::<(), S, ReachKept, VerdictSoFar>(
-        alloc,
-        shelf,
-        name,
-        &mut so_far,
-        &mut (),
-    );
-    match read {
+    match read_text_parts::<(), S, ReachKept, VerdictSoFar>(alloc, shelf, name, &mut so_far, &mut ()) {
         Ok(()) => Ok(so_far.found.unwrap()),
         Err(stop) => Err(fault_of(stop)),
     }

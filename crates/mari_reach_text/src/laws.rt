@@ -20,8 +20,8 @@ pub fn reach_texts_follow()
     ensures claims { (lines : List AnyLine) (parts : List AnyPart) (kept : AnyKept) → Follow reach_form lines parts kept → AllByRecursion ClaimFits parts }
     ensures whole { (lines : List AnyLine) (parts : List AnyPart) (kept : AnyKept) → Follow reach_form lines parts kept → reach_form.is_done kept ≡ true
         → (p : ReachPublication) × (parts ≡ reach_parts_of p) }
-    ensures text { (lines : List AnyLine) (parts : List AnyPart) (kept : AnyKept) (p : ReachPublication) → Follow reach_form lines parts kept → reach_form.is_done kept ≡ true
-        → parts ≡ reach_parts_of p → (lines ≡ reach_lines_of p) × ReachHasText p }
+    ensures text { (lines : List AnyLine) (parts : List AnyPart) (kept : AnyKept) (p : ReachPublication)
+        → Follow reach_form lines parts kept → reach_form.is_done kept ≡ true → parts ≡ reach_parts_of p → (lines ≡ reach_lines_of p) × ReachHasText p }
     ensures follows { (p : ReachPublication) → ReachHasText p
         → (kept : AnyKept) × Follow reach_form (reach_lines_of p) (reach_parts_of p) kept × (reach_form.is_done kept ≡ true) }
 {}

@@ -1,5 +1,5 @@
 -- Verdicts on a day, by what was found.
-use Rattle.std.proofs.Common.{◌≡◌, ◌∙◌, ◌<◌, ◌+◌, ℕ, List, [], ◌∷◌, ◌++◌, Option, Some, None, length, take, refl, sym, ap, subst, arith, inl, inr}
+use Rattle.std.proofs.Common.{◌≡◌, ◌∙◌, ◌<◌, ℕ, List, [], ◌∷◌, ◌++◌, Option, Some, None, length, take, refl, sym, ap, subst, arith, inl, inr}
 use Rattle.std.specs.Prelude.{slice_get}
 use Rattle.std.proofs.Math.Seq.{take-append_seam}
 use Rattle.std.proofs.lemmas.List.{length-map}
@@ -14,7 +14,7 @@ use Rattle.mari_reach_text.specs.Claims.{first_among, within_among}
 use Rattle.mari_reach_text.specs.Texts.{ReachPublication}
 use Rattle.mari_reach_text.specs.declared.named.NamedBlock.{NamedBlock}
 use Rattle.mari_reach_check.specs.Day.{AreReachFree, AreSums, IsReachChecked, IsReachFreeIn, all_printed, printed}
-use Rattle.mari_reach_check.specs.Verdict.{BlockVerdict, HeadVerdict, IsReachFirstFault, IsReachHeadFault, IsReachValid, IsReachVerdict}
+use Rattle.mari_reach_check.specs.Verdict.{BlockVerdict, HeadVerdict, IsReachFirstFault, IsReachValid, IsReachVerdict}
 use Rattle.mari_reach_check.specs.declared.day.ReachDayCheck.{ReachDayCheck}
 use Rattle.mari_reach_check.specs.declared.verdict.ReachVerdict.{ReachVerdict}
 use Rattle.mari_reach_check.specs.declared.verdict.ReachVerdict.TheVariants.{Invalid, Valid}

@@ -104,7 +104,13 @@ pub fn check_reach_stream<S: Shelf>(
         day,
         found: None,
     };
-    match read_text_parts::<(), S, ReachKept, VerdictSoFar>(alloc, shelf, name, &mut so_far, &mut ()) {
+    match read_text_parts::<(), S, ReachKept, VerdictSoFar>(
+        alloc,
+        shelf,
+        name,
+        &mut so_far,
+        &mut (),
+    ) {
         Ok(()) => Ok(so_far.found.unwrap()),
         Err(stop) => Err(fault_of(stop)),
     }

@@ -141,8 +141,7 @@ impl ReachDayCheck {
                 operators,
                 providers,
             } => {
-                let found =
-                    self.last_verdict(books, operators.as_slice(), providers.as_slice());
+                let found = self.last_verdict(books, operators.as_slice(), providers.as_slice());
                 drop(operators);
                 drop(providers);
                 Ok(Some(found))

@@ -1,4 +1,3 @@
-use Rattle.std.proofs.Common.{refl}
 use Rattle.std.specs.Prelude.{⊤}
 use Rattle.mari_io.specs.Outside.{page_of}
 use Rattle.mari_reach_check.specs.SoFar.{KeepsVerdict}

@@ -1,4 +1,3 @@
-use Rattle.std.proofs.Common.{refl}
 use Rattle.mari_reach_check.proofs.Days.{after_is, few_runs}
 use Rattle.mari_reach_check.proofs.Verdicts.{found-least, found-none}
 use Rattle.mari_reach_check.proofs.day.ReachDayCheck.block_verdict.Goals as goal

@@ -5,6 +5,11 @@
 //! first fault of a text are the same wherever it is cut, and a text has one answer.
 #![tactic(auto)]
 
+mod coming;
 mod form;
+mod laws;
+mod stream;
 
 pub use form::TextForm;
+pub use laws::texts_have_one_answer;
+pub use stream::{TakesParts, read_text_parts};

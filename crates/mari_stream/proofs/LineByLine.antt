@@ -1,5 +1,6 @@
 -- What has come of a text, line by line.
-use Rattle.std.proofs.Common.{◌≡◌, ◌∙◌, ◌+◌, ◌-◌, ◌<◌, ◌^◌, ℕ, true, not, eqb, List, [], ◌∷◌, ◌++◌, length, take, drop, Option, Some, None, Ok, Err, refl, sym, ap, subst, append_assoc, append-nil, length-append, arith}
+use Rattle.std.proofs.Common.{◌≡◌, ◌∙◌, ◌+◌, ◌-◌, ◌<◌, ◌^◌, ℕ, true, not, eqb, List, [], ◌∷◌, ◌++◌}
+use Rattle.std.proofs.Common.{length, take, drop, Option, Some, None, Ok, Err, refl, sym, ap, subst, append_assoc, append-nil, length-append, arith}
 use Rattle.std.specs.List.{list_all}
 use Rattle.std.specs.Prelude.{MatchOption, is_some}
 use Rattle.std.proofs.Math.Seq.{drop-append-add, take-length}
@@ -164,7 +165,8 @@ module _ {K L P : Type 0} (form : Form K L P) where
 
       -- ---- a line was taken
 
-      pub taken : (here following : List ℕ) → s.rest ≡ here ++ 10 ∷ following → (new : K) (x : Option P) → TookLine form come.kept here new (Ok x) → (a : Ahead) (unread : List ℕ) → a ≡ mark.Whole → unread ≡ following
+      pub taken : (here following : List ℕ) → s.rest ≡ here ++ 10 ∷ following → (new : K) (x : Option P) → TookLine form come.kept here new (Ok x)
+          → (a : Ahead) (unread : List ℕ) → a ≡ mark.Whole → unread ≡ following
           → ComesFrom form (record { kept = new; lines = come.lines + 1; ahead = a; unread = unread }) text (with_part parts x)
       taken here following is new x t a unread all left = record {
         lines = s.lines ++ t.0 ∷ [];
@@ -179,8 +181,9 @@ module _ {K L P : Type 0} (form : Form K L P) where
     pub all-of-nothing : (kept : K) (bytes : List ℕ) → kept ≡ form.start → bytes ≡ [] → AllCome form (record { kept = kept; lines = 0; ahead = mark.Whole; unread = bytes }) [] []
     all-of-nothing kept bytes start none =
         let follow = subst (λ (k : K). Follow form [] [] k) (sym start) (follow-nothing form) in
-        let come : ComesFrom form (record { kept = kept; lines = 0; ahead = mark.Whole; unread = bytes }) [] [] = record { lines = []; rest = []; is = refl; follow = follow; number = refl; ahead = sym none } in
-        nothing-next (record { kept = kept; lines = 0; ahead = mark.Whole; unread = bytes }) [] [] come (subst (λ (xs : List ℕ). Lacks 10 xs) (sym none) refl)
+        let come : ComeState K = record { kept = kept; lines = 0; ahead = mark.Whole; unread = bytes } in
+        let stands : ComesFrom form come [] [] = record { lines = []; rest = []; is = refl; follow = follow; number = refl; ahead = sym none } in
+        nothing-next come [] [] stands (subst (λ (xs : List ℕ). Lacks 10 xs) (sym none) refl)
 
     -- ---- the end of the text
 

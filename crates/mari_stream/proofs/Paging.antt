@@ -3,8 +3,8 @@ use Rattle.std.proofs.Common.{◌≡◌, ◌≢◌, ◌∙◌, ◌+◌, ◌-◌,
 use Rattle.std.specs.Option.{option_map}
 use Rattle.std.proofs.Math.Seq.{take-append-add, take-append_seam}
 use Rattle.std.proofs.lemmas.List.{take-append-drop, nil_from_length}
-use Rattle.mari_io.specs.Outside.{IsOverlong, IsPiece, most_given}
-use Rattle.mari_publish.proofs.Paging.{dropped}
+use Rattle.mari_io.specs.Outside.{AppendsExactly, IsOverlong, IsPiece, most_given}
+use Rattle.mari_publish.proofs.Paging.{all-new, dropped, first-of}
 
 -- a text that was given stands at the front of what is given of the page
 pub given-front : (text more : List ℕ) → length text ≤ most_given → (front : List ℕ) × (text ++ front ≡ take most_given (text ++ more))
@@ -20,6 +20,20 @@ pub record Under (Known : List ℕ → Type 0) (page rest : Option (List ℕ)) (
   pub given_is : given ≡ length text
   pub few : given ≤ most_given
   pub reported : (whole : List ℕ) → page ≡ Some whole → (left : List ℕ) × (rest ≡ Some left) × (text ++ left ≡ whole)
+
+-- this piece of `n` bytes was given of what was left
+pub record IsGiven (rest : Option (List ℕ)) (given : ℕ) (piece : List ℕ) (n : ℕ) : Type 0 where
+  pub many : length piece ≡ n
+  pub within : given + n ≤ most_given
+  pub is_piece : (left : List ℕ) → rest ≡ Some left → IsPiece left [] piece n
+
+pub given-piece : (rest : Option (List ℕ)) (given : ℕ) (old items piece : List ℕ) (n : ℕ) → old ≡ [] → piece ≡ items → AppendsExactly n old items → given + n ≤ most_given
+    → ((left : List ℕ) → rest ≡ Some left → IsPiece left old items n) → IsGiven rest given piece n
+given-piece rest given old items piece n none same a within reported = record {
+  many = all-new old items piece n none same a;
+  within = within;
+  is_piece = λ left is. first-of left old items piece n none same (reported left is);
+}
 
 module _ (Known : List ℕ → Type 0) (page rest : Option (List ℕ)) (given : ℕ) (u : Under Known page rest given) where
   -- `most_given` bytes were given: they are what has come
@@ -43,10 +57,10 @@ module _ (Known : List ℕ → Type 0) (page rest : Option (List ℕ)) (given : 
       not-empty [] h = absurd (h refl)
       not-empty (x ∷ xs) h = omega arith
 
-  module _ (piece : List ℕ) (n : ℕ) (many : length piece ≡ n) (within : given + n ≤ most_given) (is_piece : (left : List ℕ) → rest ≡ Some left → IsPiece left [] piece n) where
+  module _ (piece : List ℕ) (n : ℕ) (p : IsGiven rest given piece n) where
     -- the text with the piece is as long as what is given then
     pub with-piece : length (u.text ++ piece) ≤ most_given
-    with-piece = let longer = length-append u.text piece in omega (arith, longer, many, within, u.given_is)
+    with-piece = let longer = length-append u.text piece in omega (arith, longer, p.many, p.within, u.given_is)
 
     module _ (whole : List ℕ) (is : page ≡ Some whole) where
       -- what is left of the page begins with the piece
@@ -54,7 +68,7 @@ module _ (Known : List ℕ → Type 0) (page rest : Option (List ℕ)) (given : 
       left-of = u.reported whole is
 
       pub and-rest : piece ++ drop n left-of.0 ≡ left-of.0
-      and-rest = ap (λ (xs : List ℕ). xs ++ drop n left-of.0) (is_piece left-of.0 left-of.1).bytes ∙ take-append-drop n left-of.0
+      and-rest = ap (λ (xs : List ℕ). xs ++ drop n left-of.0) (p.is_piece left-of.0 left-of.1).bytes ∙ take-append-drop n left-of.0
 
       pub all-of-it : (u.text ++ piece) ++ drop n left-of.0 ≡ whole
       all-of-it = append_assoc u.text piece (drop n left-of.0) ∙ ap (λ (xs : List ℕ). u.text ++ xs) and-rest ∙ left-of.2
@@ -66,8 +80,8 @@ module _ (Known : List ℕ → Type 0) (page rest : Option (List ℕ)) (given : 
         record {
           text = u.text ++ piece;
           known = known;
-          given_is = omega (arith, longer, many, given_is, u.given_is);
-          few = omega (arith, within, given_is);
+          given_is = omega (arith, longer, p.many, given_is, u.given_is);
+          few = omega (arith, p.within, given_is);
           reported = λ whole is. (drop n (left-of whole is).0, dropped rest now (left-of whole is).0 n (left-of whole is).1 left_is, all-of-it whole is);
         }
 
@@ -75,8 +89,8 @@ module _ (Known : List ℕ → Type 0) (page rest : Option (List ℕ)) (given : 
     pub last-piece : n ≡ 0 → (whole : List ℕ) → page ≡ Some whole → (length whole ≤ most_given) × (u.text ++ piece ≡ whole)
     last-piece none whole is =
         let t = left-of whole is in
-        let empty : t.0 ≡ [] = (is_piece t.0 t.1).at_end.0 none in
-        let own : piece ≡ [] = nil_from_length piece (many ∙ none) in
+        let empty : t.0 ≡ [] = (p.is_piece t.0 t.1).at_end.0 none in
+        let own : piece ≡ [] = nil_from_length piece (p.many ∙ none) in
         let all : u.text ++ piece ≡ whole = ap (λ (xs : List ℕ). u.text ++ xs) (own ∙ sym empty) ∙ t.2 in
         let long = ap length all in
         let short = with-piece in

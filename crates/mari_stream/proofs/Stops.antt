@@ -54,7 +54,8 @@ module _ {K L P : Type 0} (form : Form K L P) (law : LinesKeep form) where
       each [] B X Y a b e = inl (B, refl, e)
       each (l ∷ A) [] X Y a b e = inr (l ∷ A, refl, sym e)
       each (l ∷ A) (m ∷ B) X Y a b e =
-          let c = line-cut (form.spelled l) (form.spelled m) (text_by form A ++ X) (text_by form B ++ Y) (law.no_feed l a.0) (law.no_feed m b.0) (sym (first-text form l A X) ∙ e ∙ first-text form m B Y) in
+          let both = sym (first-text form l A X) ∙ e ∙ first-text form m B Y in
+          let c = line-cut (form.spelled l) (form.spelled m) (text_by form A ++ X) (text_by form B ++ Y) (law.no_feed l a.0) (law.no_feed m b.0) both in
           let same : l ≡ m = law.same l m a.0 b.0 c.0 in
           elim (each A B X Y a.1 b.1 c.1) [
             | inl h ↦ inl (h.0, ap (λ z. z ∷ B) (sym same) ∙ ap (λ (ls : List L). l ∷ ls) h.1, h.2)
@@ -252,8 +253,12 @@ module _ {K L P : Type 0} (form : Form K L P) (law : LinesKeep form) where
       })
 
   pub no-more : (text more : List ℕ) (parts : List P) (f : TextFault) → IsLineFault form text f → NoPart form text parts → NoPart form (text ++ more) parts
-  no-more text more parts (fault.BadLine n) a none = none-stays text more parts none a.before a.parts a.kept (a.here ++ 10 ∷ a.after) (a.here ++ 10 ∷ (a.after ++ more)) a.is (line-stop (text ++ more) n (line-stays text more n a))
-  no-more text more parts (fault.BadOrder n) a none = none-stays text more parts none a.before a.parts a.kept (form.spelled a.here ++ 10 ∷ a.after) (form.spelled a.here ++ 10 ∷ (a.after ++ more)) a.is (order-stop (text ++ more) n (order-stays text more n a))
+  no-more text more parts (fault.BadLine n) a none =
+      none-stays text more parts none a.before a.parts a.kept (a.here ++ 10 ∷ a.after) (a.here ++ 10 ∷ (a.after ++ more)) a.is
+      (line-stop (text ++ more) n (line-stays text more n a))
+  no-more text more parts (fault.BadOrder n) a none =
+      none-stays text more parts none a.before a.parts a.kept (form.spelled a.here ++ 10 ∷ a.after) (form.spelled a.here ++ 10 ∷ (a.after ++ more)) a.is
+      (order-stop (text ++ more) n (order-stays text more n a))
   no-more text more parts (fault.Truncated n) a none = absurd a
   no-more text more parts fault.Memory a none = absurd a
 

@@ -2,11 +2,11 @@
 use Rattle.std.proofs.Common.{◌≡◌, ◌∙◌, ◌+◌, ◌≤◌, ℕ, List, [], ◌∷◌, ◌++◌, length, drop, Option, Some, None, Ok, Err, inl, inr, refl, sym, ap, subst, arith}
 use Rattle.std.specs.Option.{option_map}
 use Rattle.std.proofs.lemmas.Bool.{cases_lt}
-use Rattle.mari_io.specs.declared.shelf.TheConstants.{MOST_PIECE}
-use Rattle.mari_publish.proofs.Paging.{dropped}
-use Rattle.mari_io.specs.Outside.{counted, IsOverlong, IsPiece, OpenStates, most_given}
+use Rattle.mari_io.specs.Outside.{IsOverlong, OpenStates, counted, most_given}
 use Rattle.mari_io.specs.declared.shelf.Fetch.{Fetch}
 use Rattle.mari_io.specs.declared.shelf.Fetch.TheVariants as fetch
+use Rattle.mari_io.specs.declared.shelf.TheConstants.{MOST_PIECE}
+use Rattle.mari_publish.proofs.Paging.{dropped}
 use Rattle.mari_publish.specs.Streams.{stop_of_fetch, stop_of_opening, stop_of_text}
 use Rattle.mari_publish.specs.declared.fault.TextFault.{TextFault}
 use Rattle.mari_publish.specs.declared.fault.TextFault.TheVariants as fault
@@ -18,7 +18,7 @@ use Rattle.mari_stream.specs.Streams.{AllTaken, BrokeAt, HasTaken, IsReportedFau
 use Rattle.mari_stream.specs.Streams.IsReportedFault.{OfPage as of-page, OfGiven as of-given}
 use Rattle.mari_stream.proofs.LineByLine.{come-parts}
 use Rattle.mari_stream.proofs.Lines.{follow-nothing, parts-stay}
-use Rattle.mari_stream.proofs.Paging.{Under, all-of-it, and-rest, given-front, last-piece, one-piece, overlong-front, overlong-page, with-piece}
+use Rattle.mari_stream.proofs.Paging.{IsGiven, Under, all-of-it, and-rest, given-front, last-piece, one-piece, overlong-front, overlong-page, with-piece}
 use Rattle.mari_stream.proofs.Stops.{fault-first, fault-stays, no-more}
 
 module _ {K L P : Type 0} (form : Form K L P) where
@@ -55,7 +55,8 @@ module _ {K L P : Type 0} (form : Form K L P) where
     took-all none = record { parts = parts; first = come-parts form come text parts taken.stands; none = none; took = taken.took }
 
     -- the text has a fault
-    pub fault-reported : {X : Type 0} (Breaks : List P → P → X → Type 0) (new : ComeState K) (f : TextFault) → IsFirstFault form text parts f → PartsReport form Took Breaks text new (Err (stop_of_text f))
+    pub fault-reported : {X : Type 0} (Breaks : List P → P → X → Type 0) (new : ComeState K) (f : TextFault) → IsFirstFault form text parts f
+        → PartsReport form Took Breaks text new (Err (stop_of_text f))
     fault-reported Breaks new (fault.BadLine n) h = (h.0, took-all h.1)
     fault-reported Breaks new (fault.BadOrder n) h = (h.0, took-all h.1)
     fault-reported Breaks new (fault.Truncated n) h = absurd h.0
@@ -116,7 +117,8 @@ module _ {K L P : Type 0} (form : Form K L P) where
 
       module _ {X : Type 0} (Breaks : List P → P → X → Type 0) where
         -- the fetch of a piece failed
-        pub piece-fault : (f : Fetch) → (f ≡ fetch.Missing → ⊥) → (f ≡ fetch.TooLong → IsOverlong rest given) → (whole : List ℕ) → page ≡ Some whole → StopStates form Took Breaks whole (stop_of_fetch f)
+        pub piece-fault : (f : Fetch) → (f ≡ fetch.Missing → ⊥) → (f ≡ fetch.TooLong → IsOverlong rest given) → (whole : List ℕ) → page ≡ Some whole
+            → StopStates form Took Breaks whole (stop_of_fetch f)
         piece-fault fetch.Failed not over whole is = of-page-so-far whole is
         piece-fault fetch.Missing not over whole is = absurd (not refl)
         piece-fault fetch.Memory not over whole is = of-page-so-far whole is
@@ -131,13 +133,13 @@ module _ {K L P : Type 0} (form : Form K L P) where
         piece-any fetch.TooLong not = some-so-far
         piece-any fetch.Memory not = some-so-far
 
-      module _ (piece : List ℕ) (n : ℕ) (many : length piece ≡ n) (within : given + n ≤ most_given) (is_piece : (left : List ℕ) → rest ≡ Some left → IsPiece left [] piece n) where
+      module _ (piece : List ℕ) (n : ℕ) (p : IsGiven rest given piece n) where
         -- the taking of what has come stops
         pub parts-stop : (whole : List ℕ) → page ≡ Some whole → {X : Type 0} (Now : List P → Type 0) (Breaks : List P → P → X → Type 0) (come : ComeState K) (stop : ReadStop X)
             → PartsReport form Now Breaks (u.text ++ piece) come (Err stop) → StopStates form Now Breaks whole stop
         parts-stop whole is Now Breaks come stop h =
-            let few = with-piece _ _ _ _ u piece n many within is_piece in
-            let all = all-of-it _ _ _ _ u piece n many within is_piece whole is in
+            let few = with-piece _ _ _ _ u piece n p in
+            let all = all-of-it _ _ _ _ u piece n p whole is in
             subst (λ (xs : List ℕ). StopStates form Now Breaks xs stop) all (stop-stays Now Breaks come (u.text ++ piece) (drop n (u.reported whole is).0) few stop h)
 
         -- and nothing more is read
@@ -147,7 +149,7 @@ module _ {K L P : Type 0} (form : Form K L P) where
           line-stops : (f : TextFault) → IsLineFault form (u.text ++ piece) f → StopsAtFault form rest-of calls whole f after
           line-stops f h =
               let left : (left : List ℕ) × (rest ≡ Some left) × (u.text ++ left ≡ whole) = u.reported whole is in
-              let all : piece ++ drop n left.0 ≡ left.0 = and-rest _ _ _ _ u piece n many within is_piece whole is in
+              let all : piece ++ drop n left.0 ≡ left.0 = and-rest _ _ _ _ u piece n p whole is in
               record {
                 read = u.text;
                 piece = piece;
@@ -155,7 +157,7 @@ module _ {K L P : Type 0} (form : Form K L P) where
                 page_is = sym (ap (λ (xs : List ℕ). u.text ++ xs) all ∙ left.2);
                 no_fault = u.known.all.no_fault;
                 here = h;
-                few = omega (arith, many, few);
+                few = omega (arith, p.many, few);
                 before = before;
                 all_left = begun ∙ left.1 ∙ ap (λ (xs : List ℕ). Some xs) (sym all);
                 last_call = call;
@@ -175,12 +177,12 @@ module _ {K L P : Type 0} (form : Form K L P) where
         module _ (Now : List P → Type 0) (new : ComeState K) (all : AllTaken form Now (u.text ++ piece) new) where
           -- there is more of it
           pub more-taken : (after : Option (List ℕ)) (more : ℕ) → after ≡ option_map (λ l. drop n l) rest → more ≡ given + n → Under (TakesSome Now new) page after more
-          more-taken after more left_is given_is = one-piece _ _ _ _ u piece n many within is_piece (TakesSome Now new) all after more left_is given_is
+          more-taken after more left_is given_is = one-piece _ _ _ _ u piece n p (TakesSome Now new) all after more left_is given_is
 
           -- that was its end
           pub last-taken : n ≡ 0 → (whole : List ℕ) → page ≡ Some whole → (length whole ≤ most_given) × AllTaken form Now whole new
           last-taken none whole is =
-              let l = last-piece _ _ _ _ u piece n many within is_piece none whole is in
+              let l = last-piece _ _ _ _ u piece n p none whole is in
               (l.0, subst (λ (xs : List ℕ). AllTaken form Now xs new) l.1 all)
 
   -- what stopped the taking, on any shelf

@@ -1,10 +1,10 @@
-use Rattle.std.proofs.Common.{◌≡◌, ◌∙◌, ◌+◌, ◌≤◌, ◌++◌, ℕ, List, Some, Err, refl, ap, arith}
+use Rattle.std.proofs.Common.{◌∙◌, ◌+◌, ◌≤◌, ◌++◌, Err, refl, ap, arith}
 use Rattle.mari_io.specs.Outside.{most_given}
 use Rattle.mari_io.specs.declared.shelf.Fetch.TheVariants as fetch
 use Rattle.mari_io.proofs.Counting.{counts_none}
-use Rattle.mari_publish.proofs.Paging.{all-new, first-of}
 use Rattle.mari_publish.proofs.Streaming.{one-call, one-more}
 use Rattle.mari_stream.specs.Coming.{come_of}
+use Rattle.mari_stream.proofs.Paging.{given-piece}
 use Rattle.mari_stream.proofs.Streaming.{fetch-stops, last-taken, more-taken, of-page-so-far, parts-any, parts-stop, piece-any, piece-come, piece-fault, reading-stops, some-so-far}
 use Rattle.mari_stream.proofs.stream.read_pieces.Goals as goal
 
@@ -62,7 +62,8 @@ returns-in-Err-take_parts-clause-any g c =
     let piece = c.as_slice.result.now in
     let taken = piece-come g.F.TextForm.form (took c.pieces.so_far c.pieces.with) (come_of c.pieces.coming) (come_of c.append.new.coming) _ _ _ u piece c.in-Ok-append.ensures.appended in
     let report = c.in-Err-take_parts.ensures.report c.args.so_far.now c.args.with.now (u.text ++ piece) u.known.parts taken in
-    parts-any g.F.TextForm.form (took c.take_parts.new.so_far c.take_parts.new.with) (g.P.TakesParts.Breaks c.args.so_far.now c.args.with.now c.take_parts.new.so_far c.take_parts.new.with) (u.text ++ piece) (come_of c.take_parts.new.coming) c.in-Err-take_parts.stop report
+    parts-any g.F.TextForm.form (took c.take_parts.new.so_far c.take_parts.new.with)
+    (g.P.TakesParts.Breaks c.args.so_far.now c.args.with.now c.take_parts.new.so_far c.take_parts.new.with) (u.text ++ piece) (come_of c.take_parts.new.coming) c.in-Err-take_parts.stop report
 
 pub returns-in-Err-take_parts-clause-reported : goal.returns-in-Err-take_parts-clause-reported
 returns-in-Err-take_parts-clause-reported g c = λ whole is.
@@ -71,12 +72,10 @@ returns-in-Err-take_parts-clause-reported g c = λ whole is.
     let piece = c.as_slice.result.now in
     let taken = piece-come g.F.TextForm.form (took c.pieces.so_far c.pieces.with) (come_of c.pieces.coming) (come_of c.append.new.coming) _ _ _ u piece c.in-Ok-append.ensures.appended in
     let report = c.in-Err-take_parts.ensures.report c.args.so_far.now c.args.with.now (u.text ++ piece) u.known.parts taken in
-    let same = c.as_slice.ensures.value in
-    let many = all-new _ _ _ c.in-Ok.count c.clear.ensures.items same c.in-Ok.ensures.ok in
-    let within : g.S.Shelf.given c.pieces.shelf + c.in-Ok.count ≤ most_given = omega (arith, c.in-Ok.ensures.given, c.in-Ok.ensures.limit) in
-    let first = λ (left : List ℕ) (e : g.S.Shelf.rest c.pieces.shelf ≡ Some left).
-    first-of left _ _ _ c.in-Ok.count c.clear.ensures.items same (c.in-Ok.ensures.reported left e) in
-    parts-stop g.F.TextForm.form c.keep_lines.ensures (took c.pieces.so_far c.pieces.with) (come_of c.pieces.coming) _ _ _ u piece c.in-Ok.count many within first whole is (took c.take_parts.new.so_far c.take_parts.new.with)
+    let few : g.S.Shelf.given c.pieces.shelf + c.in-Ok.count ≤ most_given = omega (arith, c.in-Ok.ensures.given, c.in-Ok.ensures.limit) in
+    let is_given = given-piece _ _ _ _ _ c.in-Ok.count c.clear.ensures.items c.as_slice.ensures.value c.in-Ok.ensures.ok few c.in-Ok.ensures.reported in
+    parts-stop g.F.TextForm.form c.keep_lines.ensures (took c.pieces.so_far c.pieces.with) (come_of c.pieces.coming) _ _ _ u piece c.in-Ok.count is_given
+    whole is (took c.take_parts.new.so_far c.take_parts.new.with)
     (g.P.TakesParts.Breaks c.args.so_far.now c.args.with.now c.take_parts.new.so_far c.take_parts.new.with) (come_of c.take_parts.new.coming) c.in-Err-take_parts.stop report
 
 pub returns-in-Err-take_parts-clause-fetched : goal.returns-in-Err-take_parts-clause-fetched
@@ -100,12 +99,10 @@ returns-in-Err-take_parts-clause-stops g c = λ whole is.
     let piece = c.as_slice.result.now in
     let taken = piece-come g.F.TextForm.form (took c.pieces.so_far c.pieces.with) (come_of c.pieces.coming) (come_of c.append.new.coming) _ _ _ u piece c.in-Ok-append.ensures.appended in
     let report = c.in-Err-take_parts.ensures.report c.args.so_far.now c.args.with.now (u.text ++ piece) u.known.parts taken in
-    let same = c.as_slice.ensures.value in
-    let many = all-new _ _ _ c.in-Ok.count c.clear.ensures.items same c.in-Ok.ensures.ok in
-    let within : g.S.Shelf.given c.pieces.shelf + c.in-Ok.count ≤ most_given = omega (arith, c.in-Ok.ensures.given, c.in-Ok.ensures.limit) in
-    let first = λ (left : List ℕ) (e : g.S.Shelf.rest c.pieces.shelf ≡ Some left).
-    first-of left _ _ _ c.in-Ok.count c.clear.ensures.items same (c.in-Ok.ensures.reported left e) in
-    reading-stops g.F.TextForm.form c.keep_lines.ensures (took c.pieces.so_far c.pieces.with) (come_of c.pieces.coming) _ _ _ u piece c.in-Ok.count many within first whole is (took c.take_parts.new.so_far c.take_parts.new.with)
+    let few : g.S.Shelf.given c.pieces.shelf + c.in-Ok.count ≤ most_given = omega (arith, c.in-Ok.ensures.given, c.in-Ok.ensures.limit) in
+    let is_given = given-piece _ _ _ _ _ c.in-Ok.count c.clear.ensures.items c.as_slice.ensures.value c.in-Ok.ensures.ok few c.in-Ok.ensures.reported in
+    reading-stops g.F.TextForm.form c.keep_lines.ensures (took c.pieces.so_far c.pieces.with) (come_of c.pieces.coming) _ _ _ u piece c.in-Ok.count is_given
+    whole is (took c.take_parts.new.so_far c.take_parts.new.with)
     (g.P.TakesParts.Breaks c.args.so_far.now c.args.with.now c.take_parts.new.so_far c.take_parts.new.with) (come_of c.take_parts.new.coming)
     g.S.Shelf.rest g.S.Shelf.fetches c.pieces.shelf c.next_piece.new.self refl c.in-Ok.ensures.rest c.in-Ok.ensures.fetched c.in-Ok.ensures.few c.in-Err-take_parts.stop report
 
@@ -125,12 +122,10 @@ returns-then-count-eq0-clause-reported g c = λ whole is.
     let piece = c.as_slice.result.now in
     let taken = piece-come g.F.TextForm.form (took c.pieces.so_far c.pieces.with) (come_of c.pieces.coming) (come_of c.append.new.coming) _ _ _ u piece c.in-Ok-append.ensures.appended in
     let report = c.in-Ok-take_parts.ensures.report c.args.so_far.now c.args.with.now (u.text ++ piece) u.known.parts taken in
-    let same = c.as_slice.ensures.value in
-    let many = all-new _ _ _ c.in-Ok.count c.clear.ensures.items same c.in-Ok.ensures.ok in
-    let within : g.S.Shelf.given c.pieces.shelf + c.in-Ok.count ≤ most_given = omega (arith, c.in-Ok.ensures.given, c.in-Ok.ensures.limit) in
-    let first = λ (left : List ℕ) (e : g.S.Shelf.rest c.pieces.shelf ≡ Some left).
-    first-of left _ _ _ c.in-Ok.count c.clear.ensures.items same (c.in-Ok.ensures.reported left e) in
-    last-taken g.F.TextForm.form c.keep_lines.ensures (took c.pieces.so_far c.pieces.with) (come_of c.pieces.coming) _ _ _ u piece c.in-Ok.count many within first (took c.take_parts.new.so_far c.take_parts.new.with) (come_of c.take_parts.new.coming) report
+    let few : g.S.Shelf.given c.pieces.shelf + c.in-Ok.count ≤ most_given = omega (arith, c.in-Ok.ensures.given, c.in-Ok.ensures.limit) in
+    let is_given = given-piece _ _ _ _ _ c.in-Ok.count c.clear.ensures.items c.as_slice.ensures.value c.in-Ok.ensures.ok few c.in-Ok.ensures.reported in
+    last-taken g.F.TextForm.form c.keep_lines.ensures (took c.pieces.so_far c.pieces.with) (come_of c.pieces.coming) _ _ _ u piece c.in-Ok.count is_given
+    (took c.take_parts.new.so_far c.take_parts.new.with) (come_of c.take_parts.new.coming) report
     c.if-count-eq0.true whole is
 
 pub returns-then-count-eq0-clause-fetched : goal.returns-then-count-eq0-clause-fetched
@@ -146,16 +141,14 @@ pieces-preserved g c =
     let piece = c.as_slice.result.now in
     let taken = piece-come g.F.TextForm.form (took c.pieces.so_far c.pieces.with) (come_of c.pieces.coming) (come_of c.append.new.coming) _ _ _ u piece c.in-Ok-append.ensures.appended in
     let report = c.in-Ok-take_parts.ensures.report c.args.so_far.now c.args.with.now (u.text ++ piece) u.known.parts taken in
-    let same = c.as_slice.ensures.value in
-    let many = all-new _ _ _ c.in-Ok.count c.clear.ensures.items same c.in-Ok.ensures.ok in
-    let within : g.S.Shelf.given c.pieces.shelf + c.in-Ok.count ≤ most_given = omega (arith, c.in-Ok.ensures.given, c.in-Ok.ensures.limit) in
-    let first = λ (left : List ℕ) (e : g.S.Shelf.rest c.pieces.shelf ≡ Some left).
-    first-of left _ _ _ c.in-Ok.count c.clear.ensures.items same (c.in-Ok.ensures.reported left e) in
+    let few : g.S.Shelf.given c.pieces.shelf + c.in-Ok.count ≤ most_given = omega (arith, c.in-Ok.ensures.given, c.in-Ok.ensures.limit) in
+    let is_given = given-piece _ _ _ _ _ c.in-Ok.count c.clear.ensures.items c.as_slice.ensures.value c.in-Ok.ensures.ok few c.in-Ok.ensures.reported in
     record {
       same = c.in-Ok.ensures.same ∙ i.same;
       stays = c.in-Ok.ensures.open_stays;
       handled = c.in-Ok-take_parts.ensures.handled;
-      under = more-taken g.F.TextForm.form c.keep_lines.ensures (took c.pieces.so_far c.pieces.with) (come_of c.pieces.coming) _ _ _ u piece c.in-Ok.count many within first (took c.take_parts.new.so_far c.take_parts.new.with) (come_of c.take_parts.new.coming) report
+      under = more-taken g.F.TextForm.form c.keep_lines.ensures (took c.pieces.so_far c.pieces.with) (come_of c.pieces.coming) _ _ _ u piece c.in-Ok.count is_given
+          (took c.take_parts.new.so_far c.take_parts.new.with) (come_of c.take_parts.new.coming) report
           _ _ c.in-Ok.ensures.rest c.in-Ok.ensures.given;
       pieces = i.pieces + 1;
       few = omega (arith, i.few, c.in-Ok.ensures.given, c.if-count-eq0.false);

@@ -37,7 +37,8 @@ returns-in-Err-take-clause-report g c = λ first lent text parts taken.
     let come = come_of c.next_part.new.coming in
     let next = part-there g.F.TextForm.form come text s.0 c.in-Ok-Some.field-0 x c.in-Ok-Some.field-0-is (c.in-Ok-Some.ensures.next text s.0 s.1.stands) in
     let there = come-parts g.F.TextForm.form come text (s.0 ++ x ∷ []) next in
-    part-broke g.F.TextForm.form (g.P.TakesParts.Took first lent c.parts.so_far c.parts.with) text s.0 (come_of c.parts.coming) s.1 (g.P.TakesParts.Breaks first lent c.take.new.self c.take.new.with) x c.in-Err-take.stop there (c.in-Err-take.ensures.breaks first lent text s.0 s.1.took there)
+    part-broke g.F.TextForm.form (g.P.TakesParts.Took first lent c.parts.so_far c.parts.with) text s.0 (come_of c.parts.coming) s.1
+    (g.P.TakesParts.Breaks first lent c.take.new.self c.take.new.with) x c.in-Err-take.stop there (c.in-Err-take.ensures.breaks first lent text s.0 s.1.took there)
 
 pub returns-in-Ok-None-clause-report : goal.returns-in-Ok-None-clause-report
 returns-in-Ok-None-clause-report g c = λ first lent text parts taken.
@@ -49,4 +50,5 @@ pub returns-in-Err-clause-report : goal.returns-in-Err-clause-report
 returns-in-Err-clause-report g c = λ first lent text parts taken.
     let s = c.parts.invariant.taken first lent text parts taken in
     rw c.stop_of_form.ensures
-    (fault-reported g.F.TextForm.form _ text s.0 (come_of c.parts.coming) s.1 (g.P.TakesParts.Breaks first lent c.parts.so_far c.parts.with) (come_of c.next_part.new.coming) c.in-Err.fault (c.in-Err.ensures.next text s.0 s.1.stands))
+    (fault-reported g.F.TextForm.form _ text s.0 (come_of c.parts.coming) s.1 (g.P.TakesParts.Breaks first lent c.parts.so_far c.parts.with)
+    (come_of c.next_part.new.coming) c.in-Err.fault (c.in-Err.ensures.next text s.0 s.1.stands))

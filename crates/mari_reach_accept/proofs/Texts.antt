@@ -13,15 +13,13 @@ use Rattle.mari_reach.specs.declared.decisions.ReachItem.{ReachItem}
 use Rattle.mari_reach.specs.declared.decisions.ReachItem.TheVariants.{Branch, Leaf}
 use Rattle.mari_reach.specs.declared.decisions.ReachLeaf.TheVariants as leaf
 use Rattle.mari_reach_lines.specs.Spelling.{reach_line_text, text_of_reach_lines}
-use Rattle.mari_reach_lines.specs.declared.line.Claim.{Claim}
-use Rattle.mari_reach_lines.specs.declared.line.Claim.TheVariants.{First, Within}
 use Rattle.mari_reach_lines.specs.declared.line.ReachLine.{ReachLine}
 use Rattle.mari_reach_lines.specs.declared.line.ReachLine.TheVariants as reach
-use Rattle.mari_reach_text.specs.Claims as said
+use Rattle.mari_reach_text.specs.Claims.{first_among, within_among}
 use Rattle.mari_reach_text.specs.Texts.{named_block_lines, named_line, named_tree_lines, reach_closing_lines, reach_lines_of}
 use Rattle.mari_reach_day.specs.declared.block.ReachBlock.{ReachBlock}
 use Rattle.mari_reach_day.specs.Lines.{item_line, reach_block_lines, reach_block_text, reach_end, reach_head, reach_text, reach_tree_lines}
-use Rattle.mari_reach_day.specs.Reach.{blocks_of, first_in, one_if_first, one_if_within, within_in}
+use Rattle.mari_reach_day.specs.Reach.{blocks_of, first_in, within_in}
 use Rattle.mari_reach_day.proofs.Texts.{shared_text}
 use Rattle.mari_reach_accept.specs.Named.{all_named, named_item, named_of, publication_of}
 
@@ -56,29 +54,21 @@ blocks_same books (r ∷ rs) =
     ∙ ap (λ (t : List ℕ). reach_block_text books r ++ t) (blocks_same books rs)
 
 -- as many of the blocks by names state the first activation, or one within a gap
-one_first : (claim : Claim) → said.one_if_first claim ≡ one_if_first claim
-one_first First = refl
-one_first (Within gap) = refl
-
-one_within : (claim : Claim) → said.one_if_within claim ≡ one_if_within claim
-one_within First = refl
-one_within (Within gap) = refl
-
-pub first_same : (books : Books) (blocks : List ReachBlock) → said.first_among (all_named books blocks) ≡ first_in blocks
+pub first_same : (books : Books) (blocks : List ReachBlock) → first_among (all_named books blocks) ≡ first_in blocks
 first_same books [] = refl
-first_same books (r ∷ rs) = rw (one_first r.claim, first_same books rs) refl
+first_same books (r ∷ rs) = rw (first_same books rs) refl
 
-pub within_same : (books : Books) (blocks : List ReachBlock) → said.within_among (all_named books blocks) ≡ within_in blocks
+pub within_same : (books : Books) (blocks : List ReachBlock) → within_among (all_named books blocks) ≡ within_in blocks
 within_same books [] = refl
-within_same books (r ∷ rs) = rw (one_within r.claim, within_same books rs) refl
+within_same books (r ∷ rs) = rw (within_same books rs) refl
 
 module _ (books : Books) (budget : ℕ) (blocks : List ReachBlock) where
   closing_same : text_of_reach_lines (reach_closing_lines (publication_of books budget blocks)) ≡ reach_end books blocks
   closing_same =
       let operators = operator_totals books (blocks_of blocks) in
       let providers = provider_totals books (blocks_of blocks) in
-      shared_text (closing_lines_by operators providers (said.first_among (all_named books blocks)) (said.within_among (all_named books blocks)))
-      ∙ ap (λ (n : ℕ). text_of_lines (closing_lines_by operators providers n (said.within_among (all_named books blocks)))) (first_same books blocks)
+      shared_text (closing_lines_by operators providers (first_among (all_named books blocks)) (within_among (all_named books blocks)))
+      ∙ ap (λ (n : ℕ). text_of_lines (closing_lines_by operators providers n (within_among (all_named books blocks)))) (first_same books blocks)
       ∙ ap (λ (n : ℕ). text_of_lines (closing_lines_by operators providers (first_in blocks) n)) (within_same books blocks)
 
   -- the text is that of the lines

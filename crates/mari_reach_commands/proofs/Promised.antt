@@ -9,7 +9,7 @@ use Rattle.mari_progress.specs.Totals.{operator_totals}
 use Rattle.mari_day.specs.Keeps.{BlockSumsToZero}
 use Rattle.mari_day.specs.Reading.{HasBooks}
 use Rattle.mari_day.specs.declared.reading.BooksFault.{BooksFault}
-use Rattle.mari_reach_day.specs.Days.{EndsReach, WroteReachDay}
+use Rattle.mari_reach_day.specs.Days.{EndsReach, IsReachDayText, WroteReachDay}
 use Rattle.mari_reach_day.specs.Reach.{IsReachPart, blocks_of}
 use Rattle.mari_reach_day.specs.declared.block.ReachBlock.{ReachBlock}
 use Rattle.mari_reach_day.specs.declared.writing.ReachEnd.{ReachEnd}
@@ -18,7 +18,7 @@ use Rattle.mari_answers.specs.Reports.{ReportsNoBooks}
 use Rattle.mari_answers.specs.declared.status.Status.{Status}
 use Rattle.mari_answers.specs.declared.status.Status.TheVariants as status
 use Rattle.mari_reach_commands.specs.Answers.{status_of}
-use Rattle.mari_reach_commands.specs.Promise.{KeepsPromise, WroteReach}
+use Rattle.mari_reach_commands.specs.Promise.{AcceptsText, KeepsPromise, WroteReach}
 use Rattle.mari_reach_commands.specs.Words.{Job}
 use Rattle.mari_reach_commands.proofs.Causes.{no-done, no-unpublished}
 
@@ -41,7 +41,8 @@ of-no-books job pages before after result fault reports = others job pages befor
 module _ (job : Job) (pages : Pages) (books : Books) (gives : HasBooks pages job.folder books) (before after : Option (List ℕ))
     (offers : (budget : ℕ) (blocks : List ReachBlock) → IsReachPart books budget blocks → KeepsOffers books (blocks_of blocks))
     (sums : (budget : ℕ) (blocks : List ReachBlock) → IsReachPart books budget blocks → (k : ℕ) (b : Block) → slice_get (blocks_of blocks) k ≡ Some b → BlockSumsToZero b)
-    (totals : (budget : ℕ) (blocks : List ReachBlock) → IsReachPart books budget blocks → net_sum (operator_totals books (blocks_of blocks)) ≡ pos 0) where
+    (totals : (budget : ℕ) (blocks : List ReachBlock) → IsReachPart books budget blocks → net_sum (operator_totals books (blocks_of blocks)) ≡ pos 0)
+    (accepted : (first within : ℕ) (text : List ℕ) → IsReachDayText books job.nodes first within text → AcceptsText books text first within) where
   wrote : (first within : ℕ) (whole : Bool) → (within == 0) ≡ whole → WroteReachDay books job.nodes first within before after → WroteReach job pages whole before after
   wrote first within whole all day = record {
     text = day.text;
@@ -54,6 +55,7 @@ module _ (job : Job) (pages : Pages) (books : Books) (gives : HasBooks pages job
       offers = offers job.nodes day.is_text.blocks day.is_text.day.part;
       sums = sums job.nodes day.is_text.blocks day.is_text.day.part;
       totals = totals job.nodes day.is_text.blocks day.is_text.day.part;
+      accepted = accepted first within day.text day.is_text;
       all = all;
     };
     taken = day.taken;

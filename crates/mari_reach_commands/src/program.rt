@@ -14,6 +14,7 @@ use crate::words::{Task, read_task};
 use mari_answers::{Status, say, say_no_books};
 use mari_day::read_books;
 use mari_io::{Shelf, Sink};
+use mari_reach_accept::{printed_days_are_valid, printed_texts_are_accepted};
 use mari_reach_day::{ReachEnd, reach_day, reach_days_keep};
 use mari_words::WordsFault;
 use std::alloc::Global;
@@ -52,6 +53,8 @@ fn clear<S: Shelf, K: Sink>(
     match read_books(alloc, shelf, folder) {
         Ok(books) => {
             reach_days_keep(&books);
+            printed_days_are_valid(&books);
+            printed_texts_are_accepted(&books);
             status_of(reach_day(alloc, &books, nodes, sink))
         }
         Err(fault) => say_no_books(alloc, sink, fault),

@@ -2,8 +2,9 @@
 use Rattle.std.proofs.Common.{◌≡◌, ◌+◌, ◌≤◌, List, [], ◌∷◌, ◌++◌, length, refl, arith}
 use Rattle.mari_reach_lines.specs.declared.line.Claim.{Claim}
 use Rattle.mari_reach_lines.specs.declared.line.Claim.TheVariants.{First, Within}
+use Rattle.mari_reach_text.specs.Claims.{one_if_first, one_if_within}
 use Rattle.mari_reach_day.specs.declared.block.ReachBlock.{ReachBlock}
-use Rattle.mari_reach_day.specs.Reach.{first_in, one_if_first, one_if_within, within_in}
+use Rattle.mari_reach_day.specs.Reach.{first_in, within_in}
 
 either : (c : Claim) → one_if_first c + one_if_within c ≡ 1
 either First = refl

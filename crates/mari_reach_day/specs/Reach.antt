@@ -16,6 +16,7 @@ use Rattle.mari_reached.specs.declared.answer.Answer.TheVariants as answer
 use Rattle.mari_reached.specs.declared.answer.Found.{Found}
 use Rattle.mari_reach_lines.specs.declared.line.Claim.{Claim}
 use Rattle.mari_reach_lines.specs.declared.line.Claim.TheVariants.{First, Within}
+use Rattle.mari_reach_text.specs.Claims.{one_if_first, one_if_within}
 use Rattle.mari_reach_text.specs.Numbers.{gated_of}
 use Rattle.mari_reach_day.specs.declared.block.ReachBlock.{ReachBlock}
 
@@ -59,15 +60,6 @@ IsReachPart books budget blocks = IsPartBy (length books.runs.runs) (IsReachBloc
 pub record IsReachDay (books : Books) (budget : ℕ) (blocks : List ReachBlock) : Type 0 where
   pub part : IsReachPart books budget blocks
   pub every : length blocks ≡ length books.runs.runs
-
--- a block states the first activation of its market, or one within a gap: 1 for the one, and for the other
-abbrev pub one_if_first : Claim → ℕ
-one_if_first First = 1
-one_if_first (Within gap) = 0
-
-abbrev pub one_if_within : Claim → ℕ
-one_if_within First = 0
-one_if_within (Within gap) = 1
 
 -- how many of the blocks state the first activation of their market
 abbrev pub first_in : List ReachBlock → ℕ

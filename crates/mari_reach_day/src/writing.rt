@@ -5,8 +5,8 @@ ghost use Rattle.mari_io.specs.Outside.{Counts};
 ghost use Rattle.mari_market.specs.Clearing.{IsBudget};
 ghost use Rattle.mari_remain.specs.Accepted.{IsAccepted};
 ghost use Rattle.mari_day.specs.Dated.{IsDated};
+ghost use Rattle.mari_reach_text.specs.Claims.{one_if_first as one_for};
 ghost use Rattle.mari_reach_day.specs.Days.{EndsReach};
-ghost use Rattle.mari_reach_day.specs.Reach.{one_if_first as one_for};
 
 use crate::block::ReachBlock;
 use crate::run::{ReachDone, run_reached};

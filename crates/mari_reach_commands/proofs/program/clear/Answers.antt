@@ -1,6 +1,7 @@
 use Rattle.std.proofs.Common.{◌∙◌, ap, sym}
 use Rattle.mari_io.specs.declared.shelf.Fetch.TheVariants as fetch
 use Rattle.mari_remain.specs.declared.books.Books.{Books}
+use Rattle.mari_reach_accept.specs.Named.{publication_of}
 use Rattle.mari_answers.proofs.Causes.{books-fault, fault_of}
 use Rattle.mari_reach_commands.specs.Answers.ReportsFolder.{OfDay, OfNoBooks}
 use Rattle.mari_reach_commands.proofs.Causes.{no-long, no-missing, no-read, write-end}
@@ -44,6 +45,13 @@ returns-in-Err-clause-too_long g c = record { later = c.in-Err.ensures.too_long.
 pub returns-in-Ok-clause-promise : goal.returns-in-Ok-clause-promise
 returns-in-Ok-clause-promise g c = λ reported e.
     of-day _ reported c.in-Ok.books (c.in-Ok.ensures.reported reported e) _ _ c.reach_days_keep.ensures.offers c.reach_days_keep.ensures.blocks c.reach_days_keep.ensures.totals
+    (λ first within text is. record {
+      publication = publication_of c.in-Ok.books _ is.blocks;
+      spelled = c.printed_texts_are_accepted.ensures.text _ first within text is c.requires;
+      whole = c.printed_texts_are_accepted.ensures.whole _ first within text is c.requires;
+      valid = c.printed_days_are_valid.ensures _ is.blocks is.day;
+      verdict = c.printed_texts_are_accepted.ensures.verdict _ first within text is;
+    })
     c.reach_day.result _ c.reach_day.ensures.day c.status_of.ensures
 
 pub returns-in-Err-clause-promise : goal.returns-in-Err-clause-promise

@@ -274,7 +274,7 @@ closing_gives os qs first within ps claim r f =
     let s2 = state u.before claim [] first in
     let new = state last claim [] first in
     let end : after_reach s2 e ≡ Some (new, Some (parts.Totals os qs))
-    = follows_by s2 e (last, u.part) (same first) u.may ∙ ap (λ (o : Option Part). given (kept_beside s2 last) o) whole in
+    = ◌∙◌ {b = given (kept_beside s2 last) u.part} (follows_by s2 e (last, u.part) (same first) u.may) (ap (λ (o : Option Part). given (kept_beside s2 last) o) whole) in
     let come : after_lines reach_form ps s0 (map reach.Shared totals ++ e ∷ []) ≡ after_lines reach_form ps s2 (e ∷ [])
     = u.come ∙ ap (λ (is : List NamedItem). after_lines reach_form ps (state u.before claim is first) (e ∷ [])) none in
     let closes = on_line ps s2 e [] (new, Some (parts.Totals os qs)) end in

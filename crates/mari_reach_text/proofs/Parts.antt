@@ -84,22 +84,21 @@ pub record Front (given : List ReachPart) (p : Publication) (tail : List Part) :
   pub stand : map first_part others ≡ tail
   pub shown_are : p.blocks ≡ map shown blocks
 
+with_head : (g : ReachPart) (gs : List ReachPart) (p : Publication) (tail : List Part) → g ≡ parts.Head p.date p.quarters p.budget → Split gs p.blocks tail → Front (g ∷ gs) p tail
+with_head g gs p tail e s = record {
+  blocks = s.blocks;
+  others = s.others;
+  are = ap (λ x. x ∷ gs) e ∙ ap (λ (xs : List ReachPart). parts.Head p.date p.quarters p.budget ∷ xs) s.are;
+  stand = s.stand;
+  shown_are = s.shown_are;
+}
+
 pub front : (given : List ReachPart) (p : Publication) (tail : List Part) → map first_part given ≡ front_parts p ++ tail → Front given p tail
 front [] p tail e = absurd cc
 front (g ∷ gs) p tail e =
     let first : first_part g ≡ part.Head p.date p.quarters p.budget = cc in
     let rest : map first_part gs ≡ map part.Block p.blocks ++ tail = cc in
-    let s = split gs p.blocks tail rest in
-    let head = parts.Head p.date p.quarters p.budget in
-    let one : g ∷ gs ≡ head ∷ gs = ap (λ x. x ∷ gs) (a_head g p first) in
-    let more : head ∷ gs ≡ (head ∷ map parts.Block s.blocks) ++ s.others = ap (λ (xs : List ReachPart). head ∷ xs) s.are in
-    record {
-      blocks = s.blocks;
-      others = s.others;
-      are = one ∙ more;
-      stand = s.stand;
-      shown_are = s.shown_are;
-    }
+    with_head g gs p tail (a_head g p first) (split gs p.blocks tail rest)
 
 -- all parts of a publication
 pub record All (given : List ReachPart) (p : Publication) : Type 0 where

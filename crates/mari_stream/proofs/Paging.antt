@@ -53,10 +53,11 @@ module _ (Known : List ℕ → Type 0) (page rest : Option (List ℕ)) (given : 
       abbrev pub left-of : (left : List ℕ) × (rest ≡ Some left) × (u.text ++ left ≡ whole)
       left-of = u.reported whole is
 
+      pub and-rest : piece ++ drop n left-of.0 ≡ left-of.0
+      and-rest = ap (λ (xs : List ℕ). xs ++ drop n left-of.0) (is_piece left-of.0 left-of.1).bytes ∙ take-append-drop n left-of.0
+
       pub all-of-it : (u.text ++ piece) ++ drop n left-of.0 ≡ whole
-      all-of-it =
-          let own : piece ++ drop n left-of.0 ≡ left-of.0 = ap (λ (xs : List ℕ). xs ++ drop n left-of.0) (is_piece left-of.0 left-of.1).bytes ∙ take-append-drop n left-of.0 in
-          append_assoc u.text piece (drop n left-of.0) ∙ ap (λ (xs : List ℕ). u.text ++ xs) own ∙ left-of.2
+      all-of-it = append_assoc u.text piece (drop n left-of.0) ∙ ap (λ (xs : List ℕ). u.text ++ xs) and-rest ∙ left-of.2
 
     -- there is more of it
     pub one-piece : (Now : List ℕ → Type 0) → Now (u.text ++ piece) → (now : Option (List ℕ)) (more : ℕ) → now ≡ option_map (λ l. drop n l) rest → more ≡ given + n → Under Now page now more

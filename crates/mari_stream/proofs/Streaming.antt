@@ -1,22 +1,24 @@
 -- A page whose parts are taken piece by piece.
-use Rattle.std.proofs.Common.{◌≡◌, ◌+◌, ◌≤◌, ℕ, List, [], ◌∷◌, ◌++◌, length, drop, Option, Some, None, Ok, Err, inl, inr, refl, subst, arith}
+use Rattle.std.proofs.Common.{◌≡◌, ◌∙◌, ◌+◌, ◌≤◌, ℕ, List, [], ◌∷◌, ◌++◌, length, drop, Option, Some, None, Ok, Err, inl, inr, refl, sym, ap, subst, arith}
 use Rattle.std.specs.Option.{option_map}
 use Rattle.std.proofs.lemmas.Bool.{cases_lt}
-use Rattle.mari_io.specs.Outside.{IsOverlong, IsPiece, OpenStates, most_given}
+use Rattle.mari_io.specs.declared.shelf.TheConstants.{MOST_PIECE}
+use Rattle.mari_publish.proofs.Paging.{dropped}
+use Rattle.mari_io.specs.Outside.{counted, IsOverlong, IsPiece, OpenStates, most_given}
 use Rattle.mari_io.specs.declared.shelf.Fetch.{Fetch}
 use Rattle.mari_io.specs.declared.shelf.Fetch.TheVariants as fetch
-use Rattle.mari_publish.specs.Streams.{IsReadFetch, IsUnopened, IsWrapped, stop_of_fetch, stop_of_opening, stop_of_text}
+use Rattle.mari_publish.specs.Streams.{stop_of_fetch, stop_of_opening, stop_of_text}
 use Rattle.mari_publish.specs.declared.fault.TextFault.{TextFault}
 use Rattle.mari_publish.specs.declared.fault.TextFault.TheVariants as fault
 use Rattle.mari_publish.specs.declared.stream.ReadStop.{ReadStop}
 use Rattle.mari_publish.specs.declared.stream.ReadStop.TheVariants.{Unopened, Fetch as OfFetch, Text as OfText, Part as OfPart, Memory as NoMemory}
 use Rattle.mari_stream.specs.Coming.{AllCome, ComeState, ComesFrom, GivesNext, IsEnd, IsFirstFault, LinesKeep}
 use Rattle.mari_stream.specs.Forms.{Form, HasPart, HoldsParts, IsLineFault, NoFault, NoPart}
-use Rattle.mari_stream.specs.Streams.{AllTaken, BrokeAt, HasTaken, IsReportedFault, IsTooLong, PartsReport, ReadStates, SomeStates, StopStates, TookAll, TookFirst, TookWhole}
+use Rattle.mari_stream.specs.Streams.{AllTaken, BrokeAt, HasTaken, IsReportedFault, IsTooLong, PartsReport, ReadStates, ReadStops, SomeStates, StopStates, StopsAtFault, TookAll, TookFirst, TookWhole}
 use Rattle.mari_stream.specs.Streams.IsReportedFault.{OfPage as of-page, OfGiven as of-given}
 use Rattle.mari_stream.proofs.LineByLine.{come-parts}
 use Rattle.mari_stream.proofs.Lines.{follow-nothing, parts-stay}
-use Rattle.mari_stream.proofs.Paging.{Under, all-of-it, given-front, last-piece, one-piece, overlong-front, overlong-page, with-piece}
+use Rattle.mari_stream.proofs.Paging.{Under, all-of-it, and-rest, given-front, last-piece, one-piece, overlong-front, overlong-page, with-piece}
 use Rattle.mari_stream.proofs.Stops.{fault-first, fault-stays, no-more}
 
 module _ {K L P : Type 0} (form : Form K L P) where
@@ -138,6 +140,38 @@ module _ {K L P : Type 0} (form : Form K L P) where
             let all = all-of-it _ _ _ _ u piece n many within is_piece whole is in
             subst (λ (xs : List ℕ). StopStates form Now Breaks xs stop) all (stop-stays Now Breaks come (u.text ++ piece) (drop n (u.reported whole is).0) few stop h)
 
+        -- and nothing more is read
+        module _ (whole : List ℕ) (is : page ≡ Some whole) {X : Type 0} (Now : List P → Type 0) (Breaks : List P → P → X → Type 0) (come : ComeState K)
+            {S : Type 0} (rest-of : S → Option (List ℕ)) (calls : S → ℕ) (before after : S) (begun : rest-of before ≡ rest)
+            (left_is : rest-of after ≡ option_map (λ l. drop n l) rest) (call : calls after ≡ counted (calls before)) (few : n ≤ MOST_PIECE) where
+          line-stops : (f : TextFault) → IsLineFault form (u.text ++ piece) f → StopsAtFault form rest-of calls whole f after
+          line-stops f h =
+              let left : (left : List ℕ) × (rest ≡ Some left) × (u.text ++ left ≡ whole) = u.reported whole is in
+              let all : piece ++ drop n left.0 ≡ left.0 = and-rest _ _ _ _ u piece n many within is_piece whole is in
+              record {
+                read = u.text;
+                piece = piece;
+                left = drop n left.0;
+                page_is = sym (ap (λ (xs : List ℕ). u.text ++ xs) all ∙ left.2);
+                no_fault = u.known.all.no_fault;
+                here = h;
+                few = omega (arith, many, few);
+                before = before;
+                all_left = begun ∙ left.1 ∙ ap (λ (xs : List ℕ). Some xs) (sym all);
+                last_call = call;
+                left_is = dropped rest (rest-of after) left.0 n left.1 left_is;
+              }
+
+          pub reading-stops : (stop : ReadStop X) → PartsReport form Now Breaks (u.text ++ piece) come (Err stop) → ReadStops form rest-of calls whole after stop
+          reading-stops (OfText (fault.BadLine n)) h = line-stops (fault.BadLine n) h.0
+          reading-stops (OfText (fault.BadOrder n)) h = line-stops (fault.BadOrder n) h.0
+          reading-stops (OfText (fault.Truncated n)) h = tt
+          reading-stops (OfText fault.Memory) h = tt
+          reading-stops (Unopened f) h = tt
+          reading-stops (OfFetch f) h = tt
+          reading-stops (OfPart stop) h = tt
+          reading-stops NoMemory h = tt
+
         module _ (Now : List P → Type 0) (new : ComeState K) (all : AllTaken form Now (u.text ++ piece) new) where
           -- there is more of it
           pub more-taken : (after : Option (List ℕ)) (more : ℕ) → after ≡ option_map (λ l. drop n l) rest → more ≡ given + n → Under (TakesSome Now new) page after more
@@ -149,8 +183,7 @@ module _ {K L P : Type 0} (form : Form K L P) where
               let l = last-piece _ _ _ _ u piece n many within is_piece none whole is in
               (l.0, subst (λ (xs : List ℕ). AllTaken form Now xs new) l.1 all)
 
-  -- ---- what is no fault of the shelf, and doesn't say that memory ran out
-
+  -- what stopped the taking, on any shelf
   module _ {X : Type 0} (Took : List P → Type 0) (Breaks : List P → P → X → Type 0) (text : List ℕ) (come : ComeState K) where
     pub parts-any : (stop : ReadStop X) → PartsReport form Took Breaks text come (Err stop) → SomeStates form Took Breaks (Err stop)
     parts-any (Unopened f) h = absurd h
@@ -158,30 +191,6 @@ module _ {K L P : Type 0} (form : Form K L P) where
     parts-any (OfText f) h = (text, record { parts = h.1.parts; first = h.1.first; took = h.1.took })
     parts-any (OfPart stop) h = (text, h)
     parts-any NoMemory h = (text, h)
-
-    pub parts-opened : (stop : ReadStop X) → PartsReport form Took Breaks text come (Err stop) → IsUnopened {T = Unit {0}} (Err stop) → ⊥
-    parts-opened (Unopened f) h w = h
-    parts-opened (OfFetch f) h w = w
-    parts-opened (OfText f) h w = w
-    parts-opened (OfPart stop) h w = w
-    parts-opened NoMemory h w = w
-
-    pub parts-never : (stop : ReadStop X) → PartsReport form Took Breaks text come (Err stop) → IsWrapped {T = Unit {0}} (Err stop) → ⊥
-    parts-never (Unopened f) h w = h
-    parts-never (OfFetch f) h w = h
-    parts-never (OfText fault.Memory) h w = h.0
-    parts-never (OfText (fault.BadLine n)) h w = absurd cc
-    parts-never (OfText (fault.BadOrder n)) h w = absurd cc
-    parts-never (OfText (fault.Truncated n)) h w = h.0
-    parts-never (OfPart stop) h w = w
-    parts-never NoMemory h w = w
-
-    pub parts-no-fetch : (stop : ReadStop X) (f : Fetch) → PartsReport form Took Breaks text come (Err stop) → IsReadFetch {T = Unit {0}} f (Err stop) → ⊥
-    parts-no-fetch (Unopened g) f h w = h
-    parts-no-fetch (OfFetch g) f h w = h
-    parts-no-fetch (OfText g) f h w = w
-    parts-no-fetch (OfPart stop) f h w = w
-    parts-no-fetch NoMemory f h w = w
 
   -- ---- the page as a whole
 
@@ -225,3 +234,24 @@ module _ {K L P : Type 0} (form : Form K L P) where
       end-cut T (fault.BadOrder n) h = absurd h
       end-cut T (fault.Truncated n) h = (page, all-first Took come page all)
       end-cut T fault.Memory h = absurd h
+
+  -- ---- no fault of the shelf is one of a line, nor is one at the end of the text
+
+  module _ {S : Type 0} (X : Type 0) (rest-of : S → Option (List ℕ)) (calls : S → ℕ) (page : List ℕ) (shelf : S) where
+    pub fetch-stops : (f : Fetch) → ReadStops {X = X} form rest-of calls page shelf (stop_of_fetch f)
+    fetch-stops fetch.Failed = tt
+    fetch-stops fetch.Missing = tt
+    fetch-stops fetch.TooLong = tt
+    fetch-stops fetch.Memory = tt
+
+    pub opening-stops : (f : Fetch) → ReadStops {X = X} form rest-of calls page shelf (stop_of_opening f)
+    opening-stops fetch.Failed = tt
+    opening-stops fetch.Missing = tt
+    opening-stops fetch.TooLong = tt
+    opening-stops fetch.Memory = tt
+
+    pub end-stops : (T : Type 0) (text : List ℕ) (parts : List P) (f : TextFault) → IsEnd {T = T} form text parts (Err f) → ReadStops {X = X} form rest-of calls page shelf (stop_of_text f)
+    end-stops T text parts (fault.BadLine n) h = absurd h
+    end-stops T text parts (fault.BadOrder n) h = absurd h
+    end-stops T text parts (fault.Truncated n) h = tt
+    end-stops T text parts fault.Memory h = tt

@@ -1,9 +1,11 @@
 -- A page of a form's text that is read in pieces, by whatever takes its parts: what is said of it, by how the reading ends.
 -- Below, `Took` says that these parts were taken, and `Breaks` that this part wasn't, after those, for this reason.
-use Rattle.std.specs.Prelude.{◌≤◌, ◌<◌, ℕ, List, [], length, take, Option, Some, None, Result, Ok, Err}
-use Rattle.mari_io.specs.Outside.{most_given}
+use Rattle.std.specs.Prelude.{◌≡◌, ◌≤◌, ◌<◌, ℕ, List, [], ◌++◌, length, take, Option, Some, None, Result, Ok, Err, ⊤}
+use Rattle.mari_io.specs.Outside.{counted, most_given}
 use Rattle.mari_io.specs.declared.shelf.Fetch.TheVariants as fetch
+use Rattle.mari_io.specs.declared.shelf.TheConstants.{MOST_PIECE}
 use Rattle.mari_publish.specs.declared.fault.TextFault.{TextFault}
+use Rattle.mari_publish.specs.declared.fault.TextFault.TheVariants as fault
 use Rattle.mari_publish.specs.declared.stream.ReadStop.{ReadStop}
 use Rattle.mari_publish.specs.declared.stream.ReadStop.TheVariants.{Unopened, Fetch as OfFetch, Text as OfText, Part as OfPart, Memory as NoMemory}
 use Rattle.mari_stream.specs.Coming.{AllCome, ComeState, ComesFrom}
@@ -79,14 +81,16 @@ StopStates form Took Breaks page (OfPart stop) = BrokeAt form Breaks (take most_
 StopStates form Took Breaks page NoMemory = TookFirst form Took page
 
 -- what is said of the page of a name, where pages are reported
-abbrev pub ReadStates : {K L P X : Type 0} → Form K L P → (Took : List P → Type 0) → (Breaks : List P → P → X → Type 0) → Option (List ℕ) → Result (Unit {0}) (ReadStop X) → Type 0
+abbrev pub ReadStates : {K L P X : Type 0} → Form K L P → (Took : List P → Type 0) → (Breaks : List P → P → X → Type 0)
+    → Option (List ℕ) → Result (Unit {0}) (ReadStop X) → Type 0
 ReadStates form Took Breaks None (Ok done) = ⊥
 ReadStates form Took Breaks None (Err why) = MissStates Took why
 ReadStates form Took Breaks (Some page) (Ok done) = (length page ≤ most_given) × TookWhole form Took page
 ReadStates form Took Breaks (Some page) (Err why) = StopStates form Took Breaks page why
 
 -- and on any shelf, of some text
-abbrev pub SomeStates : {K L P X : Type 0} → Form K L P → (Took : List P → Type 0) → (Breaks : List P → P → X → Type 0) → Result (Unit {0}) (ReadStop X) → Type 0
+abbrev pub SomeStates : {K L P X : Type 0} → Form K L P → (Took : List P → Type 0) → (Breaks : List P → P → X → Type 0)
+    → Result (Unit {0}) (ReadStop X) → Type 0
 SomeStates form Took Breaks (Ok done) = (text : List ℕ) × TookWhole form Took text
 SomeStates form Took Breaks (Err (Unopened fetch.TooLong)) = ⊥
 SomeStates form Took Breaks (Err (Unopened f)) = Took []
@@ -95,6 +99,34 @@ SomeStates form Took Breaks (Err (OfFetch f)) = (text : List ℕ) × TookFirst f
 SomeStates form Took Breaks (Err (OfText f)) = (text : List ℕ) × TookFirst form Took text
 SomeStates form Took Breaks (Err (OfPart stop)) = (text : List ℕ) × BrokeAt form Breaks text stop
 SomeStates form Took Breaks (Err NoMemory) = (text : List ℕ) × TookFirst form Took text
+
+-- a fault of a line was answered as soon as it had come: one call on the shelf, the last, gave the piece that brought
+-- it. No whole line of what was read before has a fault, the fault is that of what was read and the piece, and all that
+-- stands after these on the page is left. What is left and how many calls were made, the shelf states
+pub record StopsAtFault {K L P S : Type 0} (form : Form K L P) (rest : S → Option (List ℕ)) (calls : S → ℕ) (page : List ℕ) (fault : TextFault)
+    (shelf : S) : Type 0 where
+  pub read : List ℕ
+  pub piece : List ℕ
+  pub left : List ℕ
+  pub page_is : page ≡ read ++ (piece ++ left)
+  pub no_fault : NoFault form read
+  pub here : IsLineFault form (read ++ piece) fault
+  pub few : length piece ≤ MOST_PIECE
+  pub before : S
+  pub all_left : rest before ≡ Some (piece ++ left)
+  pub last_call : calls shelf ≡ counted (calls before)
+  pub left_is : rest shelf ≡ Some left
+
+-- nothing is read after a fault of a line; the end of the text is no fault of a line
+abbrev pub ReadStops : {K L P S X : Type 0} → Form K L P → (rest : S → Option (List ℕ)) → (calls : S → ℕ) → (page : List ℕ) → S → ReadStop X → Type 0
+ReadStops form rest calls page shelf (OfText (fault.BadLine n)) = StopsAtFault form rest calls page (fault.BadLine n) shelf
+ReadStops form rest calls page shelf (OfText (fault.BadOrder n)) = StopsAtFault form rest calls page (fault.BadOrder n) shelf
+ReadStops form rest calls page shelf (OfText (fault.Truncated n)) = ⊤
+ReadStops form rest calls page shelf (OfText fault.Memory) = ⊤
+ReadStops form rest calls page shelf (Unopened f) = ⊤
+ReadStops form rest calls page shelf (OfFetch f) = ⊤
+ReadStops form rest calls page shelf (OfPart stop) = ⊤
+ReadStops form rest calls page shelf NoMemory = ⊤
 
 -- ---- what has come
 
@@ -110,7 +142,8 @@ pub record AllTaken {K L P : Type 0} (form : Form K L P) (Took : List P → Type
   pub took : Took parts
 
 -- how far the text that has come is taken
-abbrev pub PartsReport : {K L P X : Type 0} → Form K L P → (Took : List P → Type 0) → (Breaks : List P → P → X → Type 0) → List ℕ → ComeState K → Result (Unit {0}) (ReadStop X) → Type 0
+abbrev pub PartsReport : {K L P X : Type 0} → Form K L P → (Took : List P → Type 0) → (Breaks : List P → P → X → Type 0)
+    → List ℕ → ComeState K → Result (Unit {0}) (ReadStop X) → Type 0
 PartsReport form Took Breaks text come (Ok done) = AllTaken form Took text come
 PartsReport form Took Breaks text come (Err (Unopened f)) = ⊥
 PartsReport form Took Breaks text come (Err (OfFetch f)) = ⊥
@@ -119,10 +152,12 @@ PartsReport form Took Breaks text come (Err (OfPart stop)) = BrokeAt form Breaks
 PartsReport form Took Breaks text come (Err NoMemory) = TookFirst form Took text
 
 -- how far a page is taken that is read to its end, or as far as could be; and on any shelf
-abbrev pub PiecesReport : {K L P X : Type 0} → Form K L P → (Took : List P → Type 0) → (Breaks : List P → P → X → Type 0) → List ℕ → ComeState K → Result (Unit {0}) (ReadStop X) → Type 0
+abbrev pub PiecesReport : {K L P X : Type 0} → Form K L P → (Took : List P → Type 0) → (Breaks : List P → P → X → Type 0)
+    → List ℕ → ComeState K → Result (Unit {0}) (ReadStop X) → Type 0
 PiecesReport form Took Breaks page come (Ok done) = (length page ≤ most_given) × AllTaken form Took page come
 PiecesReport form Took Breaks page come (Err why) = StopStates form Took Breaks page why
 
-abbrev pub SomePieces : {K L P X : Type 0} → Form K L P → (Took : List P → Type 0) → (Breaks : List P → P → X → Type 0) → ComeState K → Result (Unit {0}) (ReadStop X) → Type 0
+abbrev pub SomePieces : {K L P X : Type 0} → Form K L P → (Took : List P → Type 0) → (Breaks : List P → P → X → Type 0)
+    → ComeState K → Result (Unit {0}) (ReadStop X) → Type 0
 SomePieces form Took Breaks come (Ok done) = (text : List ℕ) × AllTaken form Took text come
 SomePieces form Took Breaks come (Err why) = SomeStates form Took Breaks (Err why)

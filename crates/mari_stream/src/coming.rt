@@ -128,7 +128,8 @@ fn forget<F: TextForm>(coming: &mut Coming<F>)
     requires handled { coming.old.handled ≤ vec_len coming.old.bytes }
     requires no_line { HasNoLine (come_of coming.old) }
     ensures handled { coming.new.handled ≤ vec_len coming.new.bytes }
-    ensures stands { (text : List ℕ) (parts : List F.Part) → ComesFrom F.form (come_of coming.old) text parts → ComesFrom F.form (come_of coming.new) text parts }
+    ensures stands { (text : List ℕ) (parts : List F.Part) → ComesFrom F.form (come_of coming.old) text parts
+        → ComesFrom F.form (come_of coming.new) text parts }
     ensures no_line { HasNoLine (come_of coming.new) }
     ensures held { vec_len coming.new.bytes ≤ 2 * MOST_LINE }
 {

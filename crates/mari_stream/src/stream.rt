@@ -3,10 +3,12 @@
 ghost use Rattle.std.specs.Prelude.{◌≡◌, ◌≤◌, ◌++◌, ◌∷◌, [], ℕ, List, Option, Some, true, vec_len, IfErr, IsErrAnd, OnOk};
 ghost use Rattle.mari_io.specs.Outside.{Counts, Pages, counted, page_of};
 ghost use Rattle.mari_io.specs.declared.shelf.Fetch.TheVariants as fetch;
-ghost use Rattle.mari_publish.specs.Streams.{AsksForPage, AsksForPieces, IsPartFault, IsReadFetch, IsUnopened, IsWrapped, stop_of_fetch, stop_of_opening, stop_of_text};
+ghost use Rattle.mari_io.specs.declared.shelf.Fetch.{Fetch as AnyFetch};
+ghost use Rattle.mari_publish.specs.Streams.{AsksForPage, AsksForPieces, IsPartFault, IsReadFetch, IsUnopened, IsWrapped};
+ghost use Rattle.mari_publish.specs.Streams.{stop_of_fetch, stop_of_opening, stop_of_text};
 ghost use Rattle.mari_stream.specs.Coming.{AllCome, come_of};
 ghost use Rattle.mari_stream.specs.Forms.{HasPart};
-ghost use Rattle.mari_stream.specs.Streams.{HasTaken, PartsReport, PiecesReport, ReadStates, SomePieces, SomeStates};
+ghost use Rattle.mari_stream.specs.Streams.{HasTaken, PartsReport, PiecesReport, ReadStates, ReadStops, SomePieces, SomeStates};
 
 use crate::coming::{Coming, append, end, keep_lines, next_part, nothing_come};
 use crate::form::TextForm;
@@ -34,10 +36,13 @@ pub trait TakesParts<F: TextForm, W> {
 
     /// Takes one part more. After an error it is used no more.
     fn take(&mut self, alloc: Global, part: F::Part, with: &mut W) -> Result<(), Self::Stop>
-        requires { (first : Self) × (lent : W) × (text : List ℕ) × (parts : List F.Part) × Took first lent self.old with.old parts × HasPart F.form text parts part }
-        ensures took { (first : Self) (lent : W) (text : List ℕ) (parts : List F.Part) → Took first lent self.old with.old parts → HasPart F.form text parts part
+        requires { (first : Self) × (lent : W) × (text : List ℕ) × (parts : List F.Part)
+            × Took first lent self.old with.old parts × HasPart F.form text parts part }
+        ensures took { (first : Self) (lent : W) (text : List ℕ) (parts : List F.Part)
+            → Took first lent self.old with.old parts → HasPart F.form text parts part
             → OnOk result (Took first lent self.new with.new (parts ++ part ∷ [])) }
-        ensures breaks { (first : Self) (lent : W) (text : List ℕ) (parts : List F.Part) → Took first lent self.old with.old parts → HasPart F.form text parts part
+        ensures breaks { (first : Self) (lent : W) (text : List ℕ) (parts : List F.Part)
+            → Took first lent self.old with.old parts → HasPart F.form text parts part
             → IfErr result (Breaks first lent self.new with.new parts part) }
         ensures cause { Counts (IsErrAnd result IsFault) (faults with.old) (faults with.new) };
 }
@@ -86,6 +91,11 @@ fn take_parts<W, F: TextForm, P: TakesParts<F, W>>(
     ensures report { (first : P) (lent : W) (text : List ℕ) (parts : List F.Part)
         → HasTaken F.form (P.Took first lent so_far.old with.old) text parts (come_of coming.old)
         → PartsReport F.form (P.Took first lent so_far.new with.new) (P.Breaks first lent so_far.new with.new) text (come_of coming.new) result }
+
+    // It is no fault of the shelf, and out of memory is reported as such.
+    ensures opened { IsUnopened result → ⊥ }
+    ensures fetch { (fault : AnyFetch) → IsReadFetch fault result → ⊥ }
+    ensures memory { IsWrapped result → ⊥ }
     ensures written { Counts (IsPartFault P.IsFault result) (P.faults with.old) (P.faults with.new) }
 {
     'parts: loop {
@@ -118,9 +128,12 @@ fn read_pieces<W, S: Shelf, F: TextForm, P: TakesParts<F, W>>(
     // What was read: on any shelf, and where what was left of the page is reported.
     ensures same { S.pages shelf.new ≡ S.pages shelf.old }
     ensures handled { coming.new.handled ≤ vec_len coming.new.bytes }
-    ensures any { SomePieces F.form (P.Took so_far.old with.old so_far.new with.new) (P.Breaks so_far.old with.old so_far.new with.new) (come_of coming.new) result }
+    ensures any { SomePieces F.form (P.Took so_far.old with.old so_far.new with.new) (P.Breaks so_far.old with.old so_far.new with.new)
+        (come_of coming.new) result }
     ensures reported { (page : List ℕ) → S.rest shelf.old ≡ Some page
-        → PiecesReport F.form (P.Took so_far.old with.old so_far.new with.new) (P.Breaks so_far.old with.old so_far.new with.new) page (come_of coming.new) result }
+        → PiecesReport F.form (P.Took so_far.old with.old so_far.new with.new) (P.Breaks so_far.old with.old so_far.new with.new)
+        page (come_of coming.new) result }
+    ensures stops { (page : List ℕ) → S.rest shelf.old ≡ Some page → IfErr result (ReadStops F.form S.rest S.fetches page shelf.new) }
     ensures fetched { AsksForPieces (S.fetches shelf.old) (S.fetches shelf.new) (S.given shelf.new) }
     ensures named { S.named shelf.new ≡ S.named shelf.old }
 
@@ -170,7 +183,12 @@ pub fn read_text_parts<W, S: Shelf, F: TextForm, P: TakesParts<F, W>>(
     ensures same { S.pages shelf.new ≡ S.pages shelf.old }
     ensures any { SomeStates F.form (P.Took so_far.old with.old so_far.new with.new) (P.Breaks so_far.old with.old so_far.new with.new) result }
     ensures reported { (reported : Pages) → S.pages shelf.old ≡ Some reported
-        → ReadStates F.form (P.Took so_far.old with.old so_far.new with.new) (P.Breaks so_far.old with.old so_far.new with.new) (page_of reported name.now) result }
+        → ReadStates F.form (P.Took so_far.old with.old so_far.new with.new) (P.Breaks so_far.old with.old so_far.new with.new)
+        (page_of reported name.now) result }
+
+    // After a fault of a line nothing more is read.
+    ensures stops { (reported : Pages) (page : List ℕ) → S.pages shelf.old ≡ Some reported → page_of reported name.now ≡ Some page
+        → IfErr result (ReadStops F.form S.rest S.fetches page shelf.new) }
 
     // The shelf is asked for no other page: one call names a page, and each further one is for a piece, at most one for
     // each byte that was given, and one.

@@ -4,7 +4,7 @@ use Rattle.mari_publish.proofs.Paging.{opened-page}
 use Rattle.mari_publish.specs.Streams.{stop_of_text}
 use Rattle.mari_stream.specs.Coming.{come_of}
 use Rattle.mari_stream.specs.Streams.{ReadStates}
-use Rattle.mari_stream.proofs.Streaming.{end-reported, end-whole, open-any, open-fault}
+use Rattle.mari_stream.proofs.Streaming.{end-reported, end-stops, end-whole, open-any, open-fault, opening-stops}
 use Rattle.mari_stream.proofs.stream.read_text_parts.Goals as goal
 
 pub returns-in-Err-clause-any : goal.returns-in-Err-clause-any
@@ -30,3 +30,14 @@ returns-in-Ok-read_pieces-clause-reported g c = λ reported e.
     let all = c.in-Ok-read_pieces.ensures.reported open_is.0 open_is.2 in
     let cut = end-reported g.F.TextForm.form (g.P.TakesParts.Took c.args.so_far.now c.args.with.now c.read_pieces.new.so_far c.read_pieces.new.with) (g.P.TakesParts.Breaks c.args.so_far.now c.args.with.now c.read_pieces.new.so_far c.read_pieces.new.with) open_is.0 (come_of c.read_pieces.new.coming) all.1 (Unit {0}) c.in-Err-end.fault all.0 (c.in-Err-end.ensures open_is.0 all.1.parts all.1.all) in
     rw c.stop_of_form.ensures (subst (λ (p : Option (List ℕ)). ReadStates g.F.TextForm.form (g.P.TakesParts.Took c.args.so_far.now c.args.with.now c.read_pieces.new.so_far c.read_pieces.new.with) (g.P.TakesParts.Breaks c.args.so_far.now c.args.with.now c.read_pieces.new.so_far c.read_pieces.new.with) p (Err (stop_of_text c.in-Err-end.fault))) (sym open_is.1) cut)
+
+pub returns-in-Ok-read_pieces-clause-stops : goal.returns-in-Ok-read_pieces-clause-stops
+returns-in-Ok-read_pieces-clause-stops g c = λ reported page e is.
+    let open_is = opened-page (tt {0}) (page_of reported c.args.name.now) _ (c.in-Ok.ensures.reported reported e) in
+    let all = c.in-Ok-read_pieces.ensures.reported open_is.0 open_is.2 in
+    rw c.stop_of_form.ensures
+    (end-stops g.F.TextForm.form g.row.P-Stop.Denot g.S.Shelf.rest g.S.Shelf.fetches page c.read_pieces.new.shelf (Unit {0}) open_is.0 all.1.parts c.in-Err-end.fault (c.in-Err-end.ensures open_is.0 all.1.parts all.1.all))
+
+pub returns-in-Err-clause-stops : goal.returns-in-Err-clause-stops
+returns-in-Err-clause-stops g c = λ reported page e is.
+    rw c.stop_unopened.ensures (opening-stops g.F.TextForm.form g.row.P-Stop.Denot g.S.Shelf.rest g.S.Shelf.fetches page c.open_page.new.self c.in-Err.fault)

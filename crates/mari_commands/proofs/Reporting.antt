@@ -1,5 +1,5 @@
 -- Reports of a text, and of a feed of which nothing is printed.
-use Rattle.std.proofs.Common.{List, Option, Some, None, inl, inr, refl, subst, sym}
+use Rattle.std.proofs.Common.{ℕ, List, Option, Some, None, inl, inr, refl, subst, sym}
 use Rattle.std.specs.Prelude.{Err}
 use Rattle.mari_io.proofs.Taken.{took_nothing}
 use Rattle.mari_feed.specs.Streams.{FeedStates}

@@ -71,10 +71,12 @@ publication_of pages folder = page_of pages (publication_path folder)
 
 -- how a publication is reported that is checked by these books: what is answered is so of its page, of the
 -- text of a day it is the verdict on that day, and it is reported
-pub record ReportsPage (pages : Option Pages) (failed : Type 0) (books : Books) (folder : List ℕ) (before after : Option (List ℕ)) (result : Status) : Type 0 where
+pub record ReportsPage (pages : Option Pages) (failed : Type 0) (books : Books) (folder : List ℕ)
+    (before after : Option (List ℕ)) (result : Status) : Type 0 where
   pub answer : Result ReachVerdict StreamFault
   pub states : WhereReported pages (λ reported. StreamStates books (publication_of reported folder) answer)
-  pub whole : WhereReported pages (λ reported. (page : List ℕ) (p : ReachPublication) → publication_of reported folder ≡ Some page → IsReachText page p → SaysOf books p answer)
+  pub whole : WhereReported pages (λ reported. (page : List ℕ) (p : ReachPublication)
+      → publication_of reported folder ≡ Some page → IsReachText page p → SaysOf books p answer)
   pub cause : IsStreamFetch fetch.Failed answer → failed
   pub said : ReportsAnswer answer before after result
 

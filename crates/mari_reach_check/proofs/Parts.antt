@@ -25,7 +25,8 @@ After own os ps blocks (part.Head date quarters budget) = ⊥
 After own os ps blocks (part.Block b) = (others : List NamedBlock) × (own ≡ blocks ++ b ∷ others)
 After own os ps blocks (part.Totals o p) = (own ≡ blocks) × (os ≡ o) × (ps ≡ p)
 
-one-more : (own : List NamedBlock) (os : List MoneyLine) (ps : List AmountLine) (bs : List NamedBlock) (a b : NamedBlock) (x : ReachPart) → a ≡ b → After own os ps bs x → After (a ∷ own) os ps (b ∷ bs) x
+one-more : (own : List NamedBlock) (os : List MoneyLine) (ps : List AmountLine) (bs : List NamedBlock) (a b : NamedBlock) (x : ReachPart)
+    → a ≡ b → After own os ps bs x → After (a ∷ own) os ps (b ∷ bs) x
 one-more own os ps bs a b (part.Head date quarters budget) e h = h
 one-more own os ps bs a b (part.Block c) e h = (h.0, ap (λ z. z ∷ own) e ∙ ap (λ (zs : List NamedBlock). b ∷ zs) h.1)
 one-more own os ps bs a b (part.Totals o p) e h = (ap (λ z. z ∷ own) e ∙ ap (λ (zs : List NamedBlock). b ∷ zs) h.0, h.1, h.2)
@@ -49,7 +50,8 @@ comes parts x p more e = record { whole = p; more = more; are = e ∙ append_ass
 
 -- ---- what is settled stays so
 
-pub settled-stays : (books : Books) (parts : List ReachPart) (x : ReachPart) (day : ReachDayCheck) (found : Option ReachVerdict) → is_some found ≡ true → IsVerdictSoFar books parts day found → IsVerdictSoFar books (parts ++ x ∷ []) day found
+pub settled-stays : (books : Books) (parts : List ReachPart) (x : ReachPart) (day : ReachDayCheck) (found : Option ReachVerdict)
+    → is_some found ≡ true → IsVerdictSoFar books parts day found → IsVerdictSoFar books (parts ++ x ∷ []) day found
 settled-stays books parts x day None e h = absurd cc
 settled-stays books parts x day (Some v) e h = λ p more same. h p (x ∷ more) (same ∙ append_assoc parts (x ∷ []) more)
 
@@ -85,8 +87,8 @@ pub first-checked : (books : Books) (parts : List ReachPart) (day : ReachDayChec
     → x ≡ part.Head date quarters budget → IsOpen books parts day → Comes parts x → IsReachChecked books [] day
 first-checked books parts day x date quarters budget is o c = subst (λ (ps : List ReachPart). IsOpen books ps day) (first books parts day date quarters budget o (subst (Comes parts) is c)) o
 
-module _ (books : Books) (parts : List ReachPart) (old : ReachDayCheck) (fine : IsOpen books parts old) (x : ReachPart) (c : Comes parts x) (date : List ℕ) (quarters budget : ℕ) (is : x ≡ part.Head date quarters budget)
-    (found : Option ReachVerdict) (states : (p : ReachPublication) → p.date ≡ date → p.quarters ≡ quarters → HeadVerdict books p found) where
+module _ (books : Books) (parts : List ReachPart) (old : ReachDayCheck) (fine : IsOpen books parts old) (x : ReachPart) (c : Comes parts x) (date : List ℕ) (quarters budget : ℕ)
+    (is : x ≡ part.Head date quarters budget) (found : Option ReachVerdict) (states : (p : ReachPublication) → p.date ≡ date → p.quarters ≡ quarters → HeadVerdict books p found) where
   alone : parts ++ x ∷ [] ≡ part.Head date quarters budget ∷ []
   alone = ap (λ (ps : List ReachPart). ps ++ x ∷ []) (first books parts old date quarters budget fine (subst (Comes parts) is c)) ∙ ap (λ (y : ReachPart). y ∷ []) is
 
@@ -100,7 +102,13 @@ module _ (books : Books) (parts : List ReachPart) (old : ReachDayCheck) (fine : 
       let p = c.whole in
       let s = starts p date quarters budget c.more (c.are ∙ sym (append_assoc parts (x ∷ []) c.more) ∙ ap (λ (ps : List ReachPart). ps ++ c.more) alone) in
       let right = head-clear books p found e (states p s.date_is s.quarters_is) in
-      let now : IsFaultlessSoFar books date quarters budget [] new = record { head = record { date_is = sym s.date_is ∙ right.date_is; quarters_is = sym s.quarters_is ∙ right.quarters_is }; budget_is = sym b; blocks = []; are = refl; checked = checked } in
+      let now : IsFaultlessSoFar books date quarters budget [] new = record {
+        head = record { date_is = sym s.date_is ∙ right.date_is; quarters_is = sym s.quarters_is ∙ right.quarters_is };
+        budget_is = sym b;
+        blocks = [];
+        are = refl;
+        checked = checked;
+      } in
       subst (λ (ps : List ReachPart). IsOpen books ps new) (sym alone) now
 
   pub head-found : (new : ReachDayCheck) → IsReachChecked books [] new → new.budget ≡ budget → IsVerdictSoFar books (parts ++ x ∷ []) new found
@@ -205,7 +213,8 @@ no-totals-yet [] (b ∷ bs) os ps e = absurd cc
 no-totals-yet (a ∷ own) [] os ps e = absurd cc
 no-totals-yet (a ∷ own) (b ∷ bs) os ps e = let rest : map part.Block own ++ part.Totals os ps ∷ [] ≡ map part.Block bs = cc in no-totals-yet own bs os ps rest
 
-pub all-found : (books : Books) (p : ReachPublication) (parts : List ReachPart) (day : ReachDayCheck) (found : Option ReachVerdict) → parts ≡ reach_parts_of p → IsVerdictSoFar books parts day found → is_some found ≡ true
+pub all-found : (books : Books) (p : ReachPublication) (parts : List ReachPart) (day : ReachDayCheck) (found : Option ReachVerdict)
+    → parts ≡ reach_parts_of p → IsVerdictSoFar books parts day found → is_some found ≡ true
 all-found books p parts day (Some v) e f = refl
 all-found books p parts day None e f =
     let o : IsFaultlessSoFar books p.date p.quarters p.budget (map part.Block p.blocks ++ part.Totals p.operators p.providers ∷ []) day = subst (λ (ps : List ReachPart). IsOpen books ps day) e f in

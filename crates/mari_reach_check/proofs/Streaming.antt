@@ -12,16 +12,16 @@ use Rattle.mari_publish.specs.declared.stream.ReadStop.TheVariants as read
 use Rattle.mari_remain.specs.declared.books.Books.{Books}
 use Rattle.mari_check.specs.Streams.{stream_fault}
 use Rattle.mari_stream.specs.Forms.{Follow, IsLineFault, IsTextFault, IsWhole, text_by}
-use Rattle.mari_stream.specs.Streams.{IsReportedFault, ReadStates}
+use Rattle.mari_stream.specs.Streams.{IsReportedFault, ReadStates, ReadStops}
 use Rattle.mari_stream.specs.Streams.IsReportedFault.{OfPage, OfGiven}
 use Rattle.mari_reach_lines.specs.declared.line.ReachLine.{ReachLine}
 use Rattle.mari_reach_text.specs.Order.{ClaimFits, reach_form}
-use Rattle.mari_reach_text.specs.Texts.{ReachPublication, reach_parts_of}
+use Rattle.mari_reach_text.specs.Texts.{IsReachText, ReachPublication, reach_parts_of}
 use Rattle.mari_reach_text.specs.declared.kept.ReachKept.{ReachKept}
 use Rattle.mari_reach_text.specs.declared.kept.ReachPart.{ReachPart}
 use Rattle.mari_reach_check.specs.Parts.{IsVerdictSoFar}
 use Rattle.mari_reach_check.specs.SoFar.{KeepsVerdict}
-use Rattle.mari_reach_check.specs.Streams.{FaultStates, IsPageOf, SaysOf, VerdictStates}
+use Rattle.mari_reach_check.specs.Streams.{FaultStates, FaultStops, SaysOf, VerdictStates}
 use Rattle.mari_reach_check.specs.declared.stream.VerdictSoFar.{VerdictSoFar}
 use Rattle.mari_reach_check.specs.declared.verdict.ReachVerdict.{ReachVerdict}
 
@@ -39,6 +39,17 @@ fault-states Took Breaks (Some page) (read.Text f) h = h.0
 fault-states Took Breaks (Some page) (read.Part none) h = tt
 fault-states Took Breaks (Some page) read.Memory h = tt
 fault-states Took Breaks _ _ h = absurd h
+
+pub fault-stops : {S : Type 0} (rest_of : S → Option (List ℕ)) (calls : S → ℕ) (page : List ℕ) (shelf : S) (stop : ReadStop NoRoom) → ReadStops reach_form rest_of calls page shelf stop
+    → FaultStops rest_of calls page shelf (stream_fault stop)
+fault-stops rest_of calls page shelf (read.Unopened f) h = tt
+fault-stops rest_of calls page shelf (read.Fetch f) h = tt
+fault-stops rest_of calls page shelf (read.Text (fault.BadLine n)) h = h
+fault-stops rest_of calls page shelf (read.Text (fault.BadOrder n)) h = h
+fault-stops rest_of calls page shelf (read.Text (fault.Truncated n)) h = tt
+fault-stops rest_of calls page shelf (read.Text fault.Memory) h = tt
+fault-stops rest_of calls page shelf (read.Part none) h = tt
+fault-stops rest_of calls page shelf read.Memory h = tt
 
 -- ---- a fault of a line stays where more is after it
 
@@ -77,19 +88,17 @@ line-stays text more fault.Memory h = absurd h
 
 -- the laws of texts that are used below
 pub record Laws : Type 0 where
-  pub day : (lines : List ReachLine) (parts : List ReachPart) (kept : ReachKept) → Follow reach_form lines parts kept → reach_form.is_done kept ≡ true → (p : ReachPublication) × (parts ≡ reach_parts_of p)
+  pub day : (text : List ℕ) (parts : List ReachPart) → IsWhole reach_form text parts → (p : ReachPublication) × IsReachText text p × (parts ≡ reach_parts_of p)
+  pub whole : (text : List ℕ) (p : ReachPublication) → IsReachText text p → IsWhole reach_form text (reach_parts_of p)
   pub same : (text : List ℕ) (parts others : List ReachPart) → IsWhole reach_form text parts → IsWhole reach_form text others → parts ≡ others
   pub no_fault : (text : List ℕ) (parts : List ReachPart) (f : TextFault) → IsWhole reach_form text parts → IsTextFault reach_form text f → ⊥
 
 module _ (laws : Laws) where
-  pub whole-day : (text : List ℕ) (parts : List ReachPart) → IsWhole reach_form text parts → (p : ReachPublication) × (parts ≡ reach_parts_of p)
-  whole-day text parts w = laws.day w.lines parts w.kept w.follow w.done
-
-  pub no-reported : (page : List ℕ) (p : ReachPublication) (f : TextFault) → IsPageOf page p → IsReportedFault reach_form page f → ⊥
-  no-reported page p f is (OfPage short h) = laws.no_fault page (reach_parts_of p) f is h
+  no-reported : (page : List ℕ) (p : ReachPublication) (f : TextFault) → IsReachText page p → IsReportedFault reach_form page f → ⊥
+  no-reported page p f is (OfPage short h) = laws.no_fault page (reach_parts_of p) f (laws.whole page p is) h
   no-reported page p f is (OfGiven long h) =
       let page_is : take most_given page ++ drop most_given page ≡ page = take-append-drop most_given page in
-      laws.no_fault page (reach_parts_of p) f is (subst (λ (t : List ℕ). IsTextFault reach_form t f) page_is (line-stays (take most_given page) (drop most_given page) f h))
+      laws.no_fault page (reach_parts_of p) f (laws.whole page p is) (subst (λ (t : List ℕ). IsTextFault reach_form t f) page_is (line-stays (take most_given page) (drop most_given page) f h))
 
   module _ (books : Books) (now : VerdictSoFar) (Breaks : List ReachPart → ReachPart → NoRoom → Type 0) (page : Option (List ℕ)) where
     pub verdict-states : (done : Unit {0}) (v : ReachVerdict) → now.found ≡ Some v → ReadStates reach_form (λ parts. KeepsVerdict books parts now) Breaks page (Ok done) → VerdictStates books page v
@@ -99,20 +108,20 @@ module _ (laws : Laws) where
         by None h = absurd h
         by (Some text) h =
             let t = h.1 in
-            let day = whole-day text t.parts t.whole in
+            let day = laws.day text t.parts t.whole in
             let settles = subst (IsVerdictSoFar books t.parts now.day) e t.took.found in
-            (h.0, (day.0, subst (IsWhole reach_form text) day.1 t.whole, settles day.0 [] (sym day.1 ∙ sym (append-nil t.parts))))
+            (h.0, (day.0, day.1, settles day.0 [] (sym day.2 ∙ sym (append-nil t.parts))))
 
     pub says-verdict : (done : Unit {0}) (v : ReachVerdict) → now.found ≡ Some v → ReadStates reach_form (λ parts. KeepsVerdict books parts now) Breaks page (Ok done)
-        → (text : List ℕ) (p : ReachPublication) → page ≡ Some text → IsPageOf text p → SaysOf books p (Ok v)
+        → (text : List ℕ) (p : ReachPublication) → page ≡ Some text → IsReachText text p → SaysOf books p (Ok v)
     says-verdict done v e h text p is page_of_p =
         let own = subst (λ (o : Option (List ℕ)). ReadStates reach_form (λ parts. KeepsVerdict books parts now) Breaks o (Ok done)) is h in
         let t = own.1 in
         let settles = subst (IsVerdictSoFar books t.parts now.day) e t.took.found in
-        settles p [] (laws.same text (reach_parts_of p) t.parts page_of_p t.whole ∙ sym (append-nil t.parts))
+        settles p [] (laws.same text (reach_parts_of p) t.parts (laws.whole text p page_of_p) t.whole ∙ sym (append-nil t.parts))
 
     pub says-fault : (stop : ReadStop NoRoom) → ReadStates reach_form (λ parts. KeepsVerdict books parts now) Breaks page (Err stop)
-        → (text : List ℕ) (p : ReachPublication) → page ≡ Some text → IsPageOf text p → SaysOf books p (Err (stream_fault stop))
+        → (text : List ℕ) (p : ReachPublication) → page ≡ Some text → IsReachText text p → SaysOf books p (Err (stream_fault stop))
     says-fault (read.Unopened f) h text p is page_of_p = tt
     says-fault (read.Fetch f) h text p is page_of_p = tt
     says-fault (read.Text f) h text p is page_of_p =

@@ -2,19 +2,15 @@
 use Rattle.std.specs.Prelude.{◌≤◌, ℕ, List, length, Option, Some, None, Result, Ok, Err, ⊤}
 use Rattle.mari_io.specs.declared.shelf.Fetch.TheVariants as fetch
 use Rattle.mari_io.specs.Outside.{most_given}
+use Rattle.mari_publish.specs.declared.fault.TextFault.TheVariants as fault
 use Rattle.mari_remain.specs.declared.books.Books.{Books}
 use Rattle.mari_check.specs.declared.stream.StreamFault.{StreamFault}
 use Rattle.mari_check.specs.declared.stream.StreamFault.TheVariants.{Fetch as OfFetch, Text as OfText, Memory as NoMemory}
-use Rattle.mari_stream.specs.Forms.{IsWhole}
-use Rattle.mari_stream.specs.Streams.{IsReportedFault, IsTooLong}
+use Rattle.mari_stream.specs.Streams.{IsReportedFault, IsTooLong, StopsAtFault}
 use Rattle.mari_reach_text.specs.Order.{reach_form}
-use Rattle.mari_reach_text.specs.Texts.{ReachPublication, reach_parts_of}
+use Rattle.mari_reach_text.specs.Texts.{IsReachText, ReachPublication}
 use Rattle.mari_reach_check.specs.Verdict.{IsReachVerdict}
 use Rattle.mari_reach_check.specs.declared.verdict.ReachVerdict.{ReachVerdict}
-
--- the page is the text of this day
-abbrev pub IsPageOf : (page : List ℕ) → ReachPublication → Type 0
-IsPageOf page p = IsWhole reach_form page (reach_parts_of p)
 
 -- why there is no verdict on a page, or where it isn't held
 abbrev pub FaultStates : Option (List ℕ) → StreamFault → Type 0
@@ -34,7 +30,7 @@ FaultStates (Some page) NoMemory = ⊤
 -- the page, which may be given whole, is the text of a day, and this is the verdict on it
 abbrev pub VerdictStates : Books → Option (List ℕ) → ReachVerdict → Type 0
 VerdictStates books None verdict = ⊥
-VerdictStates books (Some page) verdict = (length page ≤ most_given) × ((p : ReachPublication) × IsPageOf page p × IsReachVerdict books p verdict)
+VerdictStates books (Some page) verdict = (length page ≤ most_given) × ((p : ReachPublication) × IsReachText page p × IsReachVerdict books p verdict)
 
 -- what the check says of the page of a name, where pages are reported
 abbrev pub StreamStates : Books → Option (List ℕ) → Result ReachVerdict StreamFault → Type 0
@@ -47,3 +43,12 @@ SaysOf books p (Ok verdict) = IsReachVerdict books p verdict
 SaysOf books p (Err (OfText f)) = ⊥
 SaysOf books p (Err (OfFetch f)) = ⊤
 SaysOf books p (Err NoMemory) = ⊤
+
+-- nothing is read after a fault of a line; the end of the text is no fault of a line
+abbrev pub FaultStops : {S : Type 0} → (rest : S → Option (List ℕ)) → (calls : S → ℕ) → (page : List ℕ) → S → StreamFault → Type 0
+FaultStops rest calls page shelf (OfText (fault.BadLine n)) = StopsAtFault reach_form rest calls page (fault.BadLine n) shelf
+FaultStops rest calls page shelf (OfText (fault.BadOrder n)) = StopsAtFault reach_form rest calls page (fault.BadOrder n) shelf
+FaultStops rest calls page shelf (OfText (fault.Truncated n)) = ⊤
+FaultStops rest calls page shelf (OfText fault.Memory) = ⊤
+FaultStops rest calls page shelf (OfFetch f) = ⊤
+FaultStops rest calls page shelf NoMemory = ⊤

@@ -35,5 +35,6 @@ pub fn free_blocks_show(books: &Books)
 ///
 /// The call does nothing: its contract is the law.
 pub fn valid_days_pass()
-    ensures { (books : TheBooks) (p : ThePublication) (v : TheVerdict) → IsReachValid books p → IsReachVerdict books p v → v ≡ Valid (first_among p.blocks) (within_among p.blocks) }
+    ensures { (books : TheBooks) (p : ThePublication) (v : TheVerdict) → IsReachValid books p → IsReachVerdict books p v
+        → v ≡ Valid (first_among p.blocks) (within_among p.blocks) }
 {}

@@ -1,20 +1,20 @@
 //! The check of a day of the second form that is read in pieces.
 
-ghost use Rattle.std.specs.Prelude.{◌≡◌, ◌≤◌, ◌+◌, ◌⊎◌, ℕ, List, Some};
+ghost use Rattle.std.specs.Prelude.{◌≡◌, ◌≤◌, ◌+◌, ◌⊎◌, ℕ, List, Some, IfErr};
 ghost use Rattle.mari_io.specs.Outside.{Counts, Pages, page_of};
 ghost use Rattle.mari_io.specs.declared.shelf.Fetch.TheVariants as fetch;
 ghost use Rattle.mari_remain.specs.Accepted.{IsAccepted};
 ghost use Rattle.mari_publish.specs.Streams.{AsksForPage};
 ghost use Rattle.mari_check.specs.Streams.{IsStreamFetch, IsWrapped, stream_fault};
-ghost use Rattle.mari_reach_text.specs.Texts.{ReachPublication as ThePublication};
-ghost use Rattle.mari_reach_check.specs.Streams.{IsPageOf, SaysOf, StreamStates};
+ghost use Rattle.mari_reach_text.specs.Texts.{IsReachText, ReachPublication as ThePublication};
+ghost use Rattle.mari_reach_check.specs.Streams.{FaultStops, SaysOf, StreamStates};
 
 use crate::day::ReachDayCheck;
 use crate::verdict::ReachVerdict;
 use mari_check::StreamFault;
 use mari_io::Shelf;
 use mari_publish::ReadStop;
-use mari_reach_text::{ReachKept, ReachPart, reach_texts_follow};
+use mari_reach_text::{ReachKept, ReachPart, reach_texts_are_whole, reach_texts_follow};
 use mari_remain::Books;
 use mari_stream::{TakesParts, read_text_parts, texts_have_one_answer};
 use mari_units::Memory;
@@ -80,11 +80,17 @@ pub fn check_reach_stream<S: Shelf>(
 
     // What it says of the page, where pages are reported; and of the text of a day nothing else.
     ensures reported { (reported : Pages) → S.pages shelf.old ≡ Some reported → StreamStates books.now (page_of reported name.now) result }
-    ensures whole { (reported : Pages) (page : List ℕ) (p : ThePublication) → S.pages shelf.old ≡ Some reported → page_of reported name.now ≡ Some page → IsPageOf page p → SaysOf books.now p result }
+    ensures whole { (reported : Pages) (page : List ℕ) (p : ThePublication) → S.pages shelf.old ≡ Some reported
+        → page_of reported name.now ≡ Some page → IsReachText page p → SaysOf books.now p result }
+
+    // After a fault of a line nothing more is read.
+    ensures stops { (reported : Pages) (page : List ℕ) → S.pages shelf.old ≡ Some reported
+        → page_of reported name.now ≡ Some page → IfErr result (FaultStops S.rest S.fetches page shelf.new) }
 
     // The shelf is asked for no other page: one call names a page, and each further one is for a piece, at most one for
     // each byte that was given, and one. Where there is no memory for the check, it isn't asked.
-    ensures fetched { (S.fetches shelf.new ≡ S.fetches shelf.old) ⊎ AsksForPage (IsStreamFetch fetch.Missing result) (S.fetches shelf.old) (S.fetches shelf.new) (S.given shelf.new) }
+    ensures fetched { (S.fetches shelf.new ≡ S.fetches shelf.old)
+        ⊎ AsksForPage (IsStreamFetch fetch.Missing result) (S.fetches shelf.old) (S.fetches shelf.new) (S.given shelf.new) }
     ensures named { S.named shelf.new ≤ S.named shelf.old + 1 }
 
     // Why there is no verdict. Out of memory is reported as such.
@@ -93,7 +99,7 @@ pub fn check_reach_stream<S: Shelf>(
     ensures missing { Counts (IsStreamFetch fetch.Missing result) (S.misses shelf.old) (S.misses shelf.new) }
     ensures too_long { Counts (IsStreamFetch fetch.TooLong result) (S.overs shelf.old) (S.overs shelf.new) }
 {
-    reach_texts_follow();
+    reach_texts_are_whole();
     texts_have_one_answer::<ReachKept>();
     let day = match ReachDayCheck::start(alloc, books) {
         Ok(day) => day,

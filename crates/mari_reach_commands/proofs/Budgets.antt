@@ -11,7 +11,10 @@ use Rattle.mari_reach_commands.specs.Words.{Job, names_workers, task_at, task_of
 use Rattle.mari_reach_commands.specs.Words.Task.{Clears}
 
 of-asked : (asked : Asked) (job : Job) → IsWithin asked → task_of asked ≡ Some (Clears job) → IsBudget job.nodes
-of-asked (Clear folder nodes workers) job limits e = let task : Clears (record { folder = folder; nodes = nodes }) ≡ Clears job = cc in let same : record { folder = folder; nodes = nodes } ≡ job = cc in subst (λ (j : Job). IsBudget j.nodes) same limits.0
+of-asked (Clear folder nodes workers) job limits e =
+    let task : Clears (record { folder = folder; nodes = nodes }) ≡ Clears job = cc in
+    let same : record { folder = folder; nodes = nodes } ≡ job = cc in
+    subst (λ (j : Job). IsBudget j.nodes) same limits.0
 of-asked (Check folder) job limits e = absurd cc
 of-asked (Generate number) job limits e = absurd cc
 of-asked (Migrate folder part) job limits e = absurd cc

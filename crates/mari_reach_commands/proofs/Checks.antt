@@ -2,6 +2,7 @@
 use Rattle.std.proofs.Common.{◌≡◌, ◌∙◌, ◌≤◌, ℕ, List, Option, Some, None, Result, Ok, Err, arith, refl}
 use Rattle.mari_io.specs.Outside.{Pages, Rose, counted}
 use Rattle.mari_io.specs.declared.shelf.Fetch.{Fetch}
+use Rattle.mari_units.specs.declared.faults.Refusal.{Refusal}
 use Rattle.mari_publish.specs.declared.fault.TextFault.TheVariants as text
 use Rattle.mari_remain.specs.declared.books.Books.{Books}
 use Rattle.mari_day.specs.declared.files.TheConstants.{PUBLICATION}
@@ -12,6 +13,7 @@ use Rattle.mari_reach_check.specs.Streams.{StreamStates}
 use Rattle.mari_reach_check.specs.declared.verdict.ReachVerdict.{ReachVerdict}
 use Rattle.mari_reach_check.specs.declared.verdict.ReachVerdict.TheVariants as verdict
 use Rattle.mari_answers.specs.Lines.{invalid_line, refused_line}
+use Rattle.mari_answers.specs.Reports.{ReportsRefusal}
 use Rattle.mari_answers.specs.Texts.{text_refusal}
 use Rattle.mari_answers.specs.declared.status.Status.{Status}
 use Rattle.mari_answers.specs.declared.status.Status.TheVariants as status
@@ -20,13 +22,16 @@ use Rattle.mari_reach_commands.specs.Answers.{ReportsAnswer, ReportsPage, valid_
 
 -- a status that reports a fault of a fetch is that of the answer
 module _ (cause : Fetch) (result : Status) (is : fault_of result ≡ Some cause) (before after : Option (List ℕ)) where
+  refused : {Any : Type 0} (refusal : Refusal) → ReportsRefusal refusal before after result → Any
+  refused refusal r = absurd (text-other cause result is before after (refused_line refusal) (status.Refused refusal) refl r)
+
   pub answer-fault : (answer : Result ReachVerdict StreamFault) → ReportsAnswer answer before after result → IsStreamFetch cause answer
   answer-fault (Ok (verdict.Valid first within)) r = absurd (text-other cause result is before after (valid_line first within) status.Done refl r)
   answer-fault (Ok (verdict.Invalid run fault)) r = absurd (text-other cause result is before after (invalid_line run fault) (status.Invalid run fault) refl r)
   answer-fault (Err (stream.Fetch why)) r = page-fault cause result is before after PUBLICATION why r
-  answer-fault (Err (stream.Text (text.BadLine n))) r = absurd (text-other cause result is before after (refused_line (text_refusal (text.BadLine n))) (status.Refused (text_refusal (text.BadLine n))) refl r)
-  answer-fault (Err (stream.Text (text.BadOrder n))) r = absurd (text-other cause result is before after (refused_line (text_refusal (text.BadOrder n))) (status.Refused (text_refusal (text.BadOrder n))) refl r)
-  answer-fault (Err (stream.Text (text.Truncated n))) r = absurd (text-other cause result is before after (refused_line (text_refusal (text.Truncated n))) (status.Refused (text_refusal (text.Truncated n))) refl r)
+  answer-fault (Err (stream.Text (text.BadLine n))) r = refused (text_refusal (text.BadLine n)) r
+  answer-fault (Err (stream.Text (text.BadOrder n))) r = refused (text_refusal (text.BadOrder n)) r
+  answer-fault (Err (stream.Text (text.Truncated n))) r = refused (text_refusal (text.Truncated n)) r
   answer-fault (Err (stream.Text text.Memory)) r = absurd (no-fault cause result is status.Memory refl r.0)
   answer-fault (Err stream.Memory) r = absurd (no-fault cause result is status.Memory refl r.0)
 

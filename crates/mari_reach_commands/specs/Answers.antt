@@ -15,8 +15,8 @@ use Rattle.mari_reach_day.specs.declared.writing.ReachEnd.TheVariants as end
 use Rattle.mari_check.specs.Streams.{IsStreamFetch}
 use Rattle.mari_check.specs.declared.stream.StreamFault.{StreamFault}
 use Rattle.mari_check.specs.declared.stream.StreamFault.TheVariants as stream
-use Rattle.mari_reach_text.specs.Texts.{ReachPublication}
-use Rattle.mari_reach_check.specs.Streams.{IsPageOf, SaysOf, StreamStates}
+use Rattle.mari_reach_text.specs.Texts.{IsReachText, ReachPublication}
+use Rattle.mari_reach_check.specs.Streams.{SaysOf, StreamStates}
 use Rattle.mari_reach_check.specs.declared.verdict.ReachVerdict.{ReachVerdict}
 use Rattle.mari_reach_check.specs.declared.verdict.ReachVerdict.TheVariants as verdict
 use Rattle.mari_answers.specs.Lines.{invalid_line, pair_line}
@@ -71,10 +71,12 @@ publication_of pages folder = page_of pages (publication_path folder)
 
 -- how a publication is reported that is checked by these books: what is answered is so of its page, of the
 -- text of a day it is the verdict on that day, and it is reported
-pub record ReportsPage (pages : Option Pages) (failed : Type 0) (books : Books) (folder : List ℕ) (before after : Option (List ℕ)) (result : Status) : Type 0 where
+pub record ReportsPage (pages : Option Pages) (failed : Type 0) (books : Books) (folder : List ℕ)
+    (before after : Option (List ℕ)) (result : Status) : Type 0 where
   pub answer : Result ReachVerdict StreamFault
   pub states : WhereReported pages (λ reported. StreamStates books (publication_of reported folder) answer)
-  pub whole : WhereReported pages (λ reported. (page : List ℕ) (p : ReachPublication) → publication_of reported folder ≡ Some page → IsPageOf page p → SaysOf books p answer)
+  pub whole : WhereReported pages (λ reported. (page : List ℕ) (p : ReachPublication)
+      → publication_of reported folder ≡ Some page → IsReachText page p → SaysOf books p answer)
   pub cause : IsStreamFetch fetch.Failed answer → failed
   pub said : ReportsAnswer answer before after result
 

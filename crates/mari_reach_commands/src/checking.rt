@@ -56,7 +56,8 @@ fn check_page<S: Shelf, K: Sink>(
 ) -> Status
     requires { IsAccepted books.now }
     ensures same { S.pages shelf.new ≡ S.pages shelf.old }
-    ensures reports { ReportsPage (S.pages shelf.old) (Rose (S.faults shelf.old) (S.faults shelf.new)) books.now folder.now (K.taken sink.old) (K.taken sink.new) result }
+    ensures reports { ReportsPage (S.pages shelf.old) (Rose (S.faults shelf.old) (S.faults shelf.new))
+        books.now folder.now (K.taken sink.old) (K.taken sink.new) result }
 
     // Why the page wasn't had, or a text not written.
     ensures read_fault { Counts (result ≡ Status.ReadFault) (S.faults shelf.old) (S.faults shelf.new) }
@@ -74,7 +75,8 @@ fn check_page<S: Shelf, K: Sink>(
 /// Checks the publication of a folder against its market files, or says why it has no books.
 pub fn check<S: Shelf, K: Sink>(alloc: Global, shelf: &mut S, sink: &mut K, folder: &str) -> Status
     ensures same { S.pages shelf.new ≡ S.pages shelf.old }
-    ensures reports { ReportsCheck (S.pages shelf.old) (Rose (S.faults shelf.old) (S.faults shelf.new)) folder.now (K.taken sink.old) (K.taken sink.new) result }
+    ensures reports { ReportsCheck (S.pages shelf.old) (Rose (S.faults shelf.old) (S.faults shelf.new))
+        folder.now (K.taken sink.old) (K.taken sink.new) result }
 
     // Why a page wasn't had, or a text not written.
     ensures read_fault { Counts (result ≡ Status.ReadFault) (S.faults shelf.old) (S.faults shelf.new) }

@@ -41,8 +41,10 @@ fn clear<S: Shelf, K: Sink>(
 ) -> Status
     requires { IsBudget nodes }
     ensures same { S.pages shelf.new ≡ S.pages shelf.old }
-    ensures reports { ReportsFolder (S.pages shelf.old) (Rose (S.faults shelf.old) (S.faults shelf.new)) folder.now nodes (K.taken sink.old) (K.taken sink.new) result }
-    ensures promise { (reported : Pages) → S.pages shelf.old ≡ Some reported → KeepsPromise (record { folder = folder.now; nodes = nodes }) reported (K.taken sink.old) (K.taken sink.new) result }
+    ensures reports { ReportsFolder (S.pages shelf.old) (Rose (S.faults shelf.old) (S.faults shelf.new))
+        folder.now nodes (K.taken sink.old) (K.taken sink.new) result }
+    ensures promise { (reported : Pages) → S.pages shelf.old ≡ Some reported
+        → KeepsPromise (record { folder = folder.now; nodes = nodes }) reported (K.taken sink.old) (K.taken sink.new) result }
 
     // Why a page wasn't had, or a text not written.
     ensures read_fault { Counts (result ≡ Status.ReadFault) (S.faults shelf.old) (S.faults shelf.new) }
@@ -75,8 +77,10 @@ pub fn run_reach<S: Shelf, K: Sink>(
     sink: &mut K,
 ) -> Status
     // What each answer says of the words, of the pages and of what is printed; and the promise of a day that is printed whole.
-    ensures answers { Answers (task_at (map string_bytes words.now)) (S.pages shelf.old) (Rose (S.faults shelf.old) (S.faults shelf.new)) (K.taken sink.old) (K.taken sink.new) result }
-    ensures promise { (job : JobAsked) (reported : Pages) → task_at (map string_bytes words.now) ≡ Some (Clears job) → S.pages shelf.old ≡ Some reported → KeepsPromise job reported (K.taken sink.old) (K.taken sink.new) result }
+    ensures answers { Answers (task_at (map string_bytes words.now)) (S.pages shelf.old) (Rose (S.faults shelf.old) (S.faults shelf.new))
+        (K.taken sink.old) (K.taken sink.new) result }
+    ensures promise { (job : JobAsked) (reported : Pages) → task_at (map string_bytes words.now) ≡ Some (Clears job)
+        → S.pages shelf.old ≡ Some reported → KeepsPromise job reported (K.taken sink.old) (K.taken sink.new) result }
     ensures same { S.pages shelf.new ≡ S.pages shelf.old }
 
     // Where the words are no command, nothing is fetched.

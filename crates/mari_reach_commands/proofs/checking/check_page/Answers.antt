@@ -10,7 +10,13 @@ use Rattle.mari_reach_commands.proofs.Checks.{answer-fault, memory-states}
 use Rattle.mari_reach_commands.proofs.checking.check_page.Goals as goal
 
 pub returns-in_default-clause-reports : goal.returns-in_default-clause-reports
-returns-in_default-clause-reports g c = record { answer = Err stream.Memory; states = λ reported e. memory-states c.args.books.now _; whole = λ reported e page p is whole. tt; cause = λ h. absurd h; said = (refl, refl) }
+returns-in_default-clause-reports g c = record {
+  answer = Err stream.Memory;
+  states = λ reported e. memory-states c.args.books.now _;
+  whole = λ reported e page p is whole. tt;
+  cause = λ h. absurd h;
+  said = (refl, refl);
+}
 
 pub returns-clause-reports : goal.returns-clause-reports
 returns-clause-reports g c =

@@ -34,13 +34,22 @@ returns-in-Err-clause-reports g c = OfNoBooks (record {
 })
 
 pub returns-in-Err-clause-read_fault : goal.returns-in-Err-clause-read_fault
-returns-in-Err-clause-read_fault g c = record { later = c.in-Err.ensures.failed.later; rose = λ e. c.in-Err.ensures.failed.rose (books-fault fetch.Failed _ (ap fault_of e) _ _ Books c.in-Err.fault c.say_no_books.ensures.reports) }
+returns-in-Err-clause-read_fault g c = record {
+  later = c.in-Err.ensures.failed.later;
+  rose = λ e. c.in-Err.ensures.failed.rose (books-fault fetch.Failed _ (ap fault_of e) _ _ Books c.in-Err.fault c.say_no_books.ensures.reports);
+}
 
 pub returns-in-Err-clause-missing : goal.returns-in-Err-clause-missing
-returns-in-Err-clause-missing g c = record { later = c.in-Err.ensures.missing.later; rose = λ e. c.in-Err.ensures.missing.rose (books-fault fetch.Missing _ (ap fault_of e) _ _ Books c.in-Err.fault c.say_no_books.ensures.reports) }
+returns-in-Err-clause-missing g c = record {
+  later = c.in-Err.ensures.missing.later;
+  rose = λ e. c.in-Err.ensures.missing.rose (books-fault fetch.Missing _ (ap fault_of e) _ _ Books c.in-Err.fault c.say_no_books.ensures.reports);
+}
 
 pub returns-in-Err-clause-too_long : goal.returns-in-Err-clause-too_long
-returns-in-Err-clause-too_long g c = record { later = c.in-Err.ensures.too_long.later; rose = λ e. c.in-Err.ensures.too_long.rose (books-fault fetch.TooLong _ (ap fault_of e) _ _ Books c.in-Err.fault c.say_no_books.ensures.reports) }
+returns-in-Err-clause-too_long g c = record {
+  later = c.in-Err.ensures.too_long.later;
+  rose = λ e. c.in-Err.ensures.too_long.rose (books-fault fetch.TooLong _ (ap fault_of e) _ _ Books c.in-Err.fault c.say_no_books.ensures.reports);
+}
 
 pub returns-in-Ok-clause-promise : goal.returns-in-Ok-clause-promise
 returns-in-Ok-clause-promise g c = λ reported e.

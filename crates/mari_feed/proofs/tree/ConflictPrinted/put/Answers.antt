@@ -2,7 +2,7 @@ use Rattle.std.proofs.Common.{◌∙◌, [], ◌∷◌, ◌++◌, ap, codes}
 use Rattle.mari_feed.specs.Texts.{first_text, next_text}
 use Rattle.mari_feed.specs.Values.{list_of, natural, price_value, whole, zone_number}
 use Rattle.mari_feed.proofs.Opened.{closed, further, opened}
-use Rattle.mari_feed.proofs.tree.ConflictForm.put.Goals as goal
+use Rattle.mari_feed.proofs.tree.ConflictPrinted.put.Goals as goal
 
 pub returns : goal.returns
 returns c =

@@ -2,7 +2,7 @@ use Rattle.std.proofs.Common.{[], ◌∷◌, codes}
 use Rattle.serde_json.specs.Data.{string}
 use Rattle.mari_feed.specs.Values.{money_value}
 use Rattle.mari_feed.proofs.Opened.{closed, further, opened}
-use Rattle.mari_feed.proofs.lines.MoneyLineForm.put.Goals as goal
+use Rattle.mari_feed.proofs.lines.MoneyLinePrinted.put.Goals as goal
 
 pub returns : goal.returns
 returns c =

@@ -3,7 +3,7 @@ use Rattle.mari_lines.proofs.Gathered.{rising_zones}
 use Rattle.mari_feed.specs.Texts.{first_text}
 use Rattle.mari_feed.specs.Values.{list_of, side_value, zone_number}
 use Rattle.mari_feed.proofs.Opened.{closed, further, opened}
-use Rattle.mari_feed.proofs.tree.CutForm.put.Goals as goal
+use Rattle.mari_feed.proofs.tree.CutPrinted.put.Goals as goal
 
 pub put_first_list-requires-clause-items : goal.put_first_list-requires-clause-items
 put_first_list-requires-clause-items c = rw c.as_slice.ensures (rising_zones 0 c.args.cut.now.zones c.requires.1)

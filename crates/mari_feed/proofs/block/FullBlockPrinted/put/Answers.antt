@@ -1,7 +1,11 @@
 use Rattle.std.proofs.Common.{[], ◌∷◌, codes}
 use Rattle.mari_feed.specs.Values.{bid_value, border_value, item_value, kind_value, list_of, natural, operator_value, provider_value, zone_value}
 use Rattle.mari_feed.proofs.Opened.{in_pieces}
-use Rattle.mari_feed.proofs.block.FullBlockForm.put.Goals as goal
+use Rattle.mari_feed.proofs.Plainly.{but_tree}
+use Rattle.mari_feed.proofs.block.FullBlockPrinted.put.Goals as goal
+
+pub put_ledger-requires : goal.put_ledger-requires
+put_ledger-requires c = but_tree c.args.block.now c.requires
 
 pub returns : goal.returns
 returns c =

@@ -1,5 +1,5 @@
 -- What has come of a text, line by line.
-use Rattle.std.proofs.Common.{◌≡◌, ◌∙◌, ◌+◌, ◌-◌, ◌<◌, ◌^◌, ℕ, true, not, eqb, List, [], ◌∷◌, ◌++◌, length, take, drop, Option, Some, None, Result, Ok, Err, refl, sym, ap, subst, append_assoc, append-nil, length-append, arith}
+use Rattle.std.proofs.Common.{◌≡◌, ◌∙◌, ◌+◌, ◌-◌, ◌<◌, ◌^◌, ℕ, true, not, eqb, List, [], ◌∷◌, ◌++◌, length, take, drop, Option, Some, None, Ok, Err, refl, sym, ap, subst, append_assoc, append-nil, length-append, arith}
 use Rattle.std.specs.List.{list_all}
 use Rattle.std.specs.Prelude.{MatchOption, is_some}
 use Rattle.std.proofs.Math.Seq.{drop-append-add, take-length}
@@ -8,16 +8,15 @@ use Rattle.std.proofs.lemmas.List.{drop-drop, length-drop}
 use Rattle.mari_lines.specs.Reading.{Lacks}
 use Rattle.mari_lines.specs.declared.line.TheConstants.{MOST_LINE}
 use Rattle.mari_publish.specs.Gathering.{text_fault}
-use Rattle.mari_publish.specs.declared.fault.TextFault.{TextFault}
 use Rattle.mari_publish.specs.declared.taking.TakeFault.{TakeFault}
 use Rattle.mari_publish.specs.declared.taking.TakeFault.TheVariants as take_fault
 use Rattle.mari_stream.specs.Coming.{AllCome, ComeState, ComesFrom, Handles, HasNoLine, IsAhead, IsCome, IsFirstFault, LinesKeep, NoLineIn}
-use Rattle.mari_stream.specs.Forms.{BadLineAt, BadOrderAt, Follow, Form, HasPart, HoldsParts, IsFormless, IsWhole, NoFault, NoPart, TookLine, TruncatedAt, text_by, with_part}
+use Rattle.mari_stream.specs.Forms.{BadLineAt, BadOrderAt, Follow, Form, HoldsParts, IsFormless, IsWhole, NoPart, TookLine, TruncatedAt, text_by, with_part}
 use Rattle.mari_stream.specs.declared.coming.Ahead.{Ahead}
 use Rattle.mari_stream.specs.declared.coming.Ahead.TheVariants as mark
 use Rattle.mari_stream.specs.declared.coming.Handled.{Handled}
 use Rattle.mari_stream.specs.declared.coming.Handled.TheVariants as step
-use Rattle.mari_stream.proofs.Lines.{follow-push, more-text}
+use Rattle.mari_stream.proofs.Lines.{follow-nothing, follow-push, more-text}
 use Rattle.mari_stream.proofs.Stops.{end-stop, line-stop, no-cut, no-part, one-stop, order-stop}
 
 -- ---- bytes
@@ -175,6 +174,13 @@ module _ {K L P : Type 0} (form : Form K L P) where
         number = ap (λ n. n + 1) s.number ∙ sym (length-append s.lines (t.0 ∷ []));
         ahead = subst (λ b. IsAhead b unread following) (sym all) (sym left);
       }
+
+    -- nothing has come
+    pub all-of-nothing : (kept : K) (bytes : List ℕ) → kept ≡ form.start → bytes ≡ [] → AllCome form (record { kept = kept; lines = 0; ahead = mark.Whole; unread = bytes }) [] []
+    all-of-nothing kept bytes start none =
+        let follow = subst (λ (k : K). Follow form [] [] k) (sym start) (follow-nothing form) in
+        let come : ComesFrom form (record { kept = kept; lines = 0; ahead = mark.Whole; unread = bytes }) [] [] = record { lines = []; rest = []; is = refl; follow = follow; number = refl; ahead = sym none } in
+        nothing-next (record { kept = kept; lines = 0; ahead = mark.Whole; unread = bytes }) [] [] come (subst (λ (xs : List ℕ). Lacks 10 xs) (sym none) refl)
 
     -- ---- the end of the text
 

@@ -1,10 +1,10 @@
 -- What lines give, one after the other, and their text.
-use Rattle.std.proofs.Common.{◌≡◌, ◌∙◌, ◌+◌, ℕ, List, [], ◌∷◌, ◌++◌, length, Option, Some, None, refl, sym, ap, subst, append_assoc, length-append, arith}
+use Rattle.std.proofs.Common.{◌≡◌, ◌∙◌, ℕ, List, [], ◌∷◌, ◌++◌, length, Option, Some, None, refl, sym, ap, append_assoc, length-append, arith}
 use Rattle.std.specs.Prelude.{option_and_then}
 use Rattle.std.specs.List.{AllByRecursion}
 use Rattle.std.proofs.lemmas.List.{append-nil}
 use Rattle.std.proofs.lemmas.Grind.{flat_map-append}
-use Rattle.mari_stream.specs.Forms.{Follow, Form, after_lines, text_by, with_part}
+use Rattle.mari_stream.specs.Forms.{Follow, Form, HoldsParts, after_lines, text_by, with_part}
 
 some-is : {T : Type 0} (x y : T) → Some x ≡ Some y → x ≡ y
 some-is x y e = cc
@@ -123,3 +123,13 @@ module _ {K L P : Type 0} (form : Form K L P) where
   -- one line more
   pub more-text : (lines : List L) (l : L) (here rest : List ℕ) → form.spelled l ≡ here → text_by form lines ++ (here ++ 10 ∷ rest) ≡ text_by form (lines ++ l ∷ []) ++ rest
   more-text lines l here rest e = sym (text-both lines (l ∷ []) rest ∙ ap (λ (xs : List ℕ). text_by form lines ++ xs) (first-text l [] rest ∙ ap (λ (xs : List ℕ). xs ++ 10 ∷ rest) e))
+
+  -- where the text goes on its parts stay
+  pub parts-stay : (text more : List ℕ) (parts : List P) → HoldsParts form text parts → HoldsParts form (text ++ more) parts
+  parts-stay text more parts h = record {
+    lines = h.lines;
+    rest = h.rest ++ more;
+    kept = h.kept;
+    is = ap (λ (xs : List ℕ). xs ++ more) h.is ∙ append_assoc (text_by form h.lines) h.rest more;
+    follow = h.follow;
+  }

@@ -7,7 +7,7 @@ use Rattle.mari_lines.specs.Reading.{Lacks}
 use Rattle.mari_publish.specs.declared.fault.TextFault.{TextFault}
 use Rattle.mari_publish.specs.declared.fault.TextFault.TheVariants as fault
 use Rattle.mari_stream.specs.Coming.{LinesKeep}
-use Rattle.mari_stream.specs.Forms.{BadLineAt, BadOrderAt, Follow, Form, HasPart, HoldsParts, IsFormless, IsLineFault, IsTextFault, IsWhole, NoPart, TruncatedAt, text_by}
+use Rattle.mari_stream.specs.Forms.{BadLineAt, BadOrderAt, Follow, Form, HoldsParts, IsLineFault, IsTextFault, IsWhole, NoPart, TruncatedAt, text_by}
 use Rattle.mari_stream.proofs.Lines.{all-back, first-text, follow-front, follow-next, not-longer, one-kept, one-parts, text-both}
 
 not-feed : (b : ℕ) → not (eqb b 10) ≡ true → b ≡ 10 → ⊥
@@ -198,16 +198,7 @@ module _ {K L P : Type 0} (form : Form K L P) (law : LinesKeep form) where
   one-fault text f fault.Memory a b = absurd b
   one-fault text fault.Memory g a b = absurd a
 
-  -- ---- where the text goes on, a part and a fault stay what they are
-
-  pub parts-stay : (text more : List ℕ) (parts : List P) → HoldsParts form text parts → HoldsParts form (text ++ more) parts
-  parts-stay text more parts h = record {
-    lines = h.lines;
-    rest = h.rest ++ more;
-    kept = h.kept;
-    is = ap (λ (xs : List ℕ). xs ++ more) h.is ∙ append_assoc (text_by form h.lines) h.rest more;
-    follow = h.follow;
-  }
+  -- ---- where the text goes on, a fault stays what it is
 
   further : (A : List L) (here after text more : List ℕ) → text ≡ text_by form A ++ (here ++ 10 ∷ after) → text ++ more ≡ text_by form A ++ (here ++ 10 ∷ (after ++ more))
   further A here after text more is =

@@ -1,5 +1,5 @@
 -- What is kept of a text that comes in pieces, and what comes of its next lines.
-use Rattle.std.specs.Prelude.{◌≡◌, ◌≤◌, ◌<◌, ◌+◌, ◌^◌, ℕ, List, [], ◌∷◌, ◌++◌, length, drop, Option, Some, None, Result, Ok, Err, ⊤}
+use Rattle.std.specs.Prelude.{◌≡◌, ◌≤◌, ◌<◌, ◌^◌, ℕ, List, [], ◌∷◌, ◌++◌, length, drop, Option, Some, None, Result, Ok, Err, ⊤}
 use Rattle.mari_lines.specs.Reading.{Lacks}
 use Rattle.mari_lines.specs.declared.line.TheConstants.{MOST_LINE}
 use Rattle.mari_publish.specs.declared.fault.TextFault.{TextFault}

@@ -1,6 +1,6 @@
 -- A page of a form's text that is read in pieces, by whatever takes its parts: what is said of it, by how the reading ends.
 -- Below, `Took` says that these parts were taken, and `Breaks` that this part wasn't, after those, for this reason.
-use Rattle.std.specs.Prelude.{◌≡◌, ◌≤◌, ◌<◌, ℕ, List, [], length, take, Option, Some, None, Result, Ok, Err, ⊤}
+use Rattle.std.specs.Prelude.{◌≤◌, ◌<◌, ℕ, List, [], length, take, Option, Some, None, Result, Ok, Err}
 use Rattle.mari_io.specs.Outside.{most_given}
 use Rattle.mari_io.specs.declared.shelf.Fetch.TheVariants as fetch
 use Rattle.mari_publish.specs.declared.fault.TextFault.{TextFault}

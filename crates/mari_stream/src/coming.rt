@@ -56,8 +56,9 @@ pub fn keep_lines<F: TextForm>()
 /// A text of which nothing has come. It takes no memory.
 pub fn nothing_come<F: TextForm>(alloc: Global) -> Coming<F>
     ensures handled { result.handled ≤ vec_len result.bytes }
-    ensures stands { ComesFrom F.form (come_of result) [] [] }
+    ensures all { AllCome F.form (come_of result) [] [] }
 {
+    keep_lines::<F>();
     Coming {
         kept: F::start(alloc),
         lines: 0,

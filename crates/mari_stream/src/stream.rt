@@ -4,11 +4,11 @@ ghost use Rattle.std.specs.Prelude.{◌≡◌, ◌≤◌, ◌++◌, ◌∷◌, [
 ghost use Rattle.mari_io.specs.Outside.{Counts, Pages, counted, page_of};
 ghost use Rattle.mari_io.specs.declared.shelf.Fetch.TheVariants as fetch;
 ghost use Rattle.mari_publish.specs.Streams.{AsksForPage, AsksForPieces, IsPartFault, IsReadFetch, IsUnopened, IsWrapped, stop_of_fetch, stop_of_opening, stop_of_text};
-ghost use Rattle.mari_stream.specs.Coming.{ComesFrom, come_of};
+ghost use Rattle.mari_stream.specs.Coming.{AllCome, come_of};
 ghost use Rattle.mari_stream.specs.Forms.{HasPart};
 ghost use Rattle.mari_stream.specs.Streams.{HasTaken, PartsReport, PiecesReport, ReadStates, SomePieces, SomeStates};
 
-use crate::coming::{Coming, append, end, next_part, nothing_come};
+use crate::coming::{Coming, append, end, keep_lines, next_part, nothing_come};
 use crate::form::TextForm;
 use mari_io::{Fetch, Shelf};
 use mari_publish::{ReadStop, TextFault};
@@ -112,7 +112,7 @@ fn read_pieces<W, S: Shelf, F: TextForm, P: TakesParts<F, W>>(
     requires open { S.is_open shelf.old ≡ true }
     requires given { S.given shelf.old ≡ 0 }
     requires handled { coming.old.handled ≤ vec_len coming.old.bytes }
-    requires stands { ComesFrom F.form (come_of coming.old) [] [] }
+    requires nothing { AllCome F.form (come_of coming.old) [] [] }
     requires none { P.Took so_far.old with.old so_far.old with.old [] }
 
     // What was read: on any shelf, and where what was left of the page is reported.
@@ -132,6 +132,7 @@ fn read_pieces<W, S: Shelf, F: TextForm, P: TakesParts<F, W>>(
     ensures too_long { Counts (IsReadFetch fetch.TooLong result) (S.overs shelf.old) (S.overs shelf.new) }
     ensures written { Counts (IsPartFault P.IsFault result) (P.faults with.old) (P.faults with.new) }
 {
+    keep_lines::<F>();
     let mut piece = Vec::new(alloc);
     'pieces: loop {
         piece.clear();

@@ -9,7 +9,7 @@ use Rattle.mari_lines.specs.Ranges.{Between, InRange}
 use Rattle.mari_lines.specs.declared.line.Line.{Line}
 use Rattle.mari_lines.specs.declared.line.Line.TheVariants as line
 use Rattle.mari_lines.proofs.Gathered.{cons_all, head_of, tail_of}
-use Rattle.mari_publish.specs.Lines.{block_lines, closing_lines, closing_lines_by, full_lines, lines_of, published_in, unpublished_in}
+use Rattle.mari_publish.specs.Lines.{block_lines, closing_lines, full_lines, lines_of, published_in, unpublished_in}
 use Rattle.mari_publish.specs.Order.{kept_at}
 use Rattle.mari_publish.specs.Ranges.{BlockFits, FullFits, HasText, ItemFits}
 use Rattle.mari_publish.specs.declared.held.Held.TheVariants as held
@@ -113,7 +113,8 @@ blocks_give (b ∷ bs) rest ps m n c r a few =
     ap (λ (ls : List ReachLine). after_lines reach_form ps (state (kept_at held.Between m 0) c [] n) ls) (append_assoc (named_block_lines b) (flat_map named_block_lines bs) rest)
     ∙ block_gives b (flat_map named_block_lines bs ++ rest) ps m n c here (head_of NamedFits b bs a) (omega (arith, few))
     ∙ blocks_give bs rest (ps ++ parts.Block b ∷ []) (m + 1) (n + one) b.claim there (tail_of NamedFits b bs a) (omega (arith, few))
-    ∙ ap (λ (xs : List ReachPart). after_lines reach_form xs (state (kept_at held.Between ((m + 1) + length bs) 0) last [] ((n + one) + first_among bs)) rest) (append_assoc ps (parts.Block b ∷ []) (map parts.Block bs))
+    ∙ ap (λ (xs : List ReachPart). after_lines reach_form xs (state (kept_at held.Between ((m + 1) + length bs) 0) last [] ((n + one) + first_among bs)) rest)
+    (append_assoc ps (parts.Block b ∷ []) (map parts.Block bs))
     ∙ ap (λ (x : ℕ). after_lines reach_form qs (state (kept_at held.Between x 0) last [] ((n + one) + first_among bs)) rest) (omega arith)
     ∙ ap (λ (x : ℕ). after_lines reach_form qs (state (kept_at held.Between (m + length (b ∷ bs)) 0) last [] x) rest) (omega arith)
 

@@ -1,5 +1,5 @@
 -- The lines of a publication may follow one another, and give its parts.
-use Rattle.std.proofs.Common.{◌≡◌, ◌∙◌, ◌≤◌, ◌<◌, ◌+◌, ℕ, true, List, [], ◌∷◌, ◌++◌, Option, Some, None, length, map, option_and_then, refl, sym, ap, subst, append_assoc, arith}
+use Rattle.std.proofs.Common.{◌≡◌, ◌∙◌, ◌≤◌, ◌<◌, ◌+◌, ℕ, List, [], ◌∷◌, ◌++◌, Option, Some, None, length, map, option_and_then, refl, sym, ap, subst, append_assoc, arith}
 use Rattle.std.specs.List.{All, AllByRecursion, flat_map}
 use Rattle.std.proofs.lemmas.Bool.{lt-ltb}
 use Rattle.std.proofs.lemmas.List.{append-nil, length-map, map-append}
@@ -28,8 +28,8 @@ use Rattle.mari_reach_lines.specs.declared.line.Claim.{Claim}
 use Rattle.mari_reach_lines.specs.declared.line.ReachLine.{ReachLine}
 use Rattle.mari_reach_lines.specs.declared.line.ReachLine.TheVariants as reach
 use Rattle.mari_stream.specs.Forms.{after_lines, with_part}
-use Rattle.mari_reach_text.specs.Claims.{first_among, one_if_first}
-use Rattle.mari_reach_text.specs.Order.{after_reach, given, kept_beside, line_of, reach_form, said, without_tree}
+use Rattle.mari_reach_text.specs.Claims.{one_if_first}
+use Rattle.mari_reach_text.specs.Order.{after_reach, given, kept_beside, line_of, reach_form, without_tree}
 use Rattle.mari_reach_text.specs.Texts.{NamedFits, named_block_lines, named_line, named_tree_lines}
 use Rattle.mari_reach_text.specs.declared.kept.ReachKept.{ReachKept}
 use Rattle.mari_reach_text.specs.declared.kept.ReachPart.{ReachPart}
@@ -37,9 +37,9 @@ use Rattle.mari_reach_text.specs.declared.kept.ReachPart.TheVariants as parts
 use Rattle.mari_reach_text.specs.declared.named.NamedBlock.{NamedBlock}
 use Rattle.mari_reach_text.specs.declared.named.NamedItem.{NamedItem}
 use Rattle.mari_reach_text.specs.declared.named.NamedItem.TheVariants as named
-use Rattle.mari_reach_text.proofs.Mirrors.{branches, first_block}
+use Rattle.mari_reach_text.proofs.Mirrors.{branches, first_block, with_tree}
 use Rattle.mari_reach_text.proofs.Own.{all_join, market_own, own_items, own_lines, own_quiet, own_range, parties_own, totals_own}
-use Rattle.mari_reach_text.proofs.Quiet.{IsQuiet, UpTo, follows_by, item_in, items_in, items_join, more_kept, up_to}
+use Rattle.mari_reach_text.proofs.Quiet.{IsQuiet, follows_by, items_in, items_join, more_kept, up_to}
 
 abbrev pub state : Kept → Claim → List NamedItem → ℕ → ReachKept
 state k claim tree first = record { kept = k; claim = claim; tree = tree; first = first }
@@ -152,7 +152,8 @@ middle_range b r f =
     let ending = parties_range b.block (last_range b r) in (
       (r.1.0, refl),
       all_join ReachInRange (map reach.Shared (market_lines b.block)) _ (own_range (market_lines b.block) (market_own b.block) market)
-          (all_join ReachInRange (named_tree_lines b.tree) (map reach.Shared (parties b.block)) ((count, refl), item_range b.tree f.tree.1) (own_range (parties b.block) (parties_own b.block) ending.0)),
+          (all_join ReachInRange (named_tree_lines b.tree) (map reach.Shared (parties b.block)) ((count, refl), item_range b.tree f.tree.1)
+          (own_range (parties b.block) (parties_own b.block) ending.0)),
     )
 
 middle_quiet : (b : NamedBlock) → AllByRecursion IsQuiet (middle b)
@@ -197,21 +198,7 @@ block_in (Some (part.Block c)) b e = let same : c ≡ b = cc in ap (λ x. Some (
 block_is : (b : NamedBlock) (is : List NamedItem) → is ≡ b.tree → b.block.tree ≡ [] → parts.Block (record { block = without_tree (first_block b); claim = b.claim; tree = is }) ≡ parts.Block b
 block_is b is same none =
     ap (λ (xs : List NamedItem). parts.Block (record { block = without_tree (first_block b); claim = b.claim; tree = xs })) same
-    ∙ ap (λ (ts : List TreeItem). parts.Block (record {
-      block = record {
-        heading = b.block.heading;
-        welfare = b.block.welfare;
-        zones = b.block.zones;
-        borders = b.block.borders;
-        bids = b.block.bids;
-        demands = b.block.demands;
-        tree = ts;
-        operators = b.block.operators;
-        providers = b.block.providers;
-      };
-      claim = b.claim;
-      tree = b.tree;
-    })) (sym none)
+    ∙ ap (λ (ts : List TreeItem). parts.Block (record { block = with_tree b.block ts; claim = b.claim; tree = b.tree })) (sym none)
 
 pub block_gives : (b : NamedBlock) (rest : List ReachLine) (ps : List ReachPart) (m n : ℕ) (claim : Claim) → RangeOf b → NamedFits b → m < 1000
     → after_lines reach_form ps (state (kept_at held.Between m 0) claim [] n) (named_block_lines b ++ rest)
@@ -240,7 +227,8 @@ block_gives b rest ps m n claim r f room =
     let new = state last b.claim [] first in
     let whole : u.part ≡ Some (part.Block B) = block_in u.part B (ap (λ (p : Publication). p.blocks) u.gives) in
     let end : after_reach s1 e ≡ Some (new, Some (parts.Block b))
-    = follows_by s1 e (last, u.part) refl u.may ∙ ap (λ (o : Option Part). given (kept_beside s1 last) o) whole ∙ ap (λ (x : ReachPart). Some (new, Some x)) (block_is b is (middle_items b) f.no_tree) in
+    = follows_by s1 e (last, u.part) refl u.may ∙ ap (λ (o : Option Part). given (kept_beside s1 last) o) whole
+    ∙ ap (λ (x : ReachPart). Some (new, Some x)) (block_is b is (middle_items b) f.no_tree) in
     ap (λ (ls : List ReachLine). after_lines reach_form ps s0 ls) (block_apart b rest)
     ∙ on_line ps s0 (reach.Run h b.claim) (middle b ++ e ∷ rest) (sr, None) (follows_by s0 (reach.Run h b.claim) (kr, None) refl run)
     ∙ u.come
@@ -253,7 +241,8 @@ totals_in None (x ∷ os) ps some e = let no : [] ≡ x ∷ os = ap (λ (p : Pub
 totals_in (Some (part.Head date quarters budget)) (x ∷ os) ps some e = let no : [] ≡ x ∷ os = ap (λ (p : Publication). p.operators) e in absurd cc
 totals_in (Some (part.Block b)) (x ∷ os) ps some e = let no : b ∷ [] ≡ [] = ap (λ (p : Publication). p.blocks) e in absurd cc
 totals_in (Some (part.Totals os2 ps2)) (x ∷ os) ps some e =
-    ap (λ (v : List MoneyLine). Some (part.Totals v ps2)) (ap (λ (p : Publication). p.operators) e) ∙ ap (λ (v : List AmountLine). Some (part.Totals (x ∷ os) v)) (ap (λ (p : Publication). p.providers) e)
+    ap (λ (v : List MoneyLine). Some (part.Totals v ps2)) (ap (λ (p : Publication). p.operators) e)
+    ∙ ap (λ (v : List AmountLine). Some (part.Totals (x ∷ os) v)) (ap (λ (p : Publication). p.providers) e)
 
 pub closing_apart : (os : List MoneyLine) (qs : List AmountLine) (first within : ℕ)
     → map reach.Shared (closing_lines_by os qs first within) ≡ map reach.Shared (map line.TotalOperator os ++ map line.TotalProvider qs) ++ reach.Shared (line.Done first within) ∷ []
@@ -261,7 +250,8 @@ closing_apart os qs first within =
     ap (map reach.Shared) (sym (append_assoc (map line.TotalOperator os) (map line.TotalProvider qs) (line.Done first within ∷ [])))
     ∙ map-append reach.Shared (map line.TotalOperator os ++ map line.TotalProvider qs) (line.Done first within ∷ [])
 
-pub closing_gives : (os : List MoneyLine) (qs : List AmountLine) (first within : ℕ) (ps : List ReachPart) (claim : Claim) → AllByRecursion InRange (map line.TotalOperator os ++ map line.TotalProvider qs) → SumsFit os qs
+pub closing_gives : (os : List MoneyLine) (qs : List AmountLine) (first within : ℕ) (ps : List ReachPart) (claim : Claim)
+    → AllByRecursion InRange (map line.TotalOperator os ++ map line.TotalProvider qs) → SumsFit os qs
     → after_lines reach_form ps (state (kept_at held.Between (first + within) 0) claim [] first) (map reach.Shared (closing_lines_by os qs first within))
     ≡ Some (ps ++ parts.Totals os qs ∷ [], state (kept_at held.Done (first + within) 0) claim [] first)
 closing_gives os qs first within ps claim r f =
@@ -273,7 +263,8 @@ closing_gives os qs first within ps claim r f =
     let own = totals_own os qs in
     let e = reach.Shared (line.Done first within) in
     let law : after_all nothing_read k0 (totals ++ line.Done n 0 ∷ []) ≡ Some (grown nothing_read (Some (part.Totals os qs)), last)
-    = ap (λ (ls : List Line). after_all nothing_read k0 ls) (append_assoc (map line.TotalOperator os) (map line.TotalProvider qs) (line.Done n 0 ∷ [])) ∙ last_follows nothing_read n 0 os qs f.0.0 f.1.0.1 in
+    = ap (λ (ls : List Line). after_all nothing_read k0 ls) (append_assoc (map line.TotalOperator os) (map line.TotalProvider qs) (line.Done n 0 ∷ []))
+    ∙ last_follows nothing_read n 0 os qs f.0.0 f.1.0.1 in
     let apart : after_all nothing_read k0 (map line_of (map reach.Shared totals) ++ line.Done n 0 ∷ []) ≡ Some (grown nothing_read (Some (part.Totals os qs)), last)
     = ap (λ (ls : List Line). after_all nothing_read k0 (ls ++ line.Done n 0 ∷ [])) (own_lines totals own) ∙ law in
     let u = up_to (map reach.Shared totals) e [] ps s0 nothing_read (grown nothing_read (Some (part.Totals os qs))) last (own_range totals own r) (own_quiet totals own) apart in
@@ -284,7 +275,7 @@ closing_gives os qs first within ps claim r f =
     let new = state last claim [] first in
     let end : after_reach s2 e ≡ Some (new, Some (parts.Totals os qs))
     = follows_by s2 e (last, u.part) (same first) u.may ∙ ap (λ (o : Option Part). given (kept_beside s2 last) o) whole in
-    ap (λ (ls : List ReachLine). after_lines reach_form ps s0 ls) (closing_apart os qs first within)
-    ∙ u.come
-    ∙ ap (λ (is : List NamedItem). after_lines reach_form ps (state u.before claim is first) (e ∷ [])) none
-    ∙ on_line ps s2 e [] (new, Some (parts.Totals os qs)) end
+    let come : after_lines reach_form ps s0 (map reach.Shared totals ++ e ∷ []) ≡ after_lines reach_form ps s2 (e ∷ [])
+    = u.come ∙ ap (λ (is : List NamedItem). after_lines reach_form ps (state u.before claim is first) (e ∷ [])) none in
+    let closes = on_line ps s2 e [] (new, Some (parts.Totals os qs)) end in
+    ap (λ (ls : List ReachLine). after_lines reach_form ps s0 ls) (closing_apart os qs first within) ∙ come ∙ closes

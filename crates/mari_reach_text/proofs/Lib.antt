@@ -6,3 +6,5 @@ pub mod Quiet
 pub mod Own
 pub mod Gives
 pub mod Accepted
+pub mod Told
+pub mod Same

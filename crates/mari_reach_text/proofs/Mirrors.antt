@@ -1,5 +1,5 @@
 -- Lines that may follow one another stand for lines of the first form that may, and their parts for the parts of these.
-use Rattle.std.proofs.Common.{◌≡◌, ◌∙◌, ◌≤◌, ◌<◌, ◌+◌, ◌^◌, ℕ, Bool, true, false, cond, List, [], ◌∷◌, ◌++◌, Option, Some, None, length, map, option_map, option_and_then, refl, sym, ap, subst, append_assoc, arith}
+use Rattle.std.proofs.Common.{◌≡◌, ◌∙◌, ◌≤◌, ◌<◌, ◌+◌, ◌^◌, Bool, true, false, cond, List, [], ◌∷◌, ◌++◌, Option, Some, None, length, map, option_map, refl, sym, ap, subst, append_assoc, arith}
 use Rattle.std.specs.List.{AllByRecursion}
 use Rattle.std.proofs.lemmas.List.{append-nil, length-map, length_push, map_push}
 use Rattle.std.proofs.lemmas.Option.{option_and_then_some}
@@ -22,13 +22,11 @@ use Rattle.mari_publish.proofs.Progress.{counts_kept, number_fits, room_kept}
 use Rattle.mari_publish.proofs.Steps.{some_is}
 use Rattle.mari_publish.proofs.Whole.{all_push}
 use Rattle.mari_reach_lines.specs.Ranges.{IsClaim, ReachInRange}
-use Rattle.mari_reach_lines.specs.declared.line.Claim.{Claim}
 use Rattle.mari_reach_lines.specs.declared.line.Claim.TheVariants as claims
 use Rattle.mari_reach_lines.specs.declared.line.ReachLine.{ReachLine}
 use Rattle.mari_reach_lines.specs.declared.line.ReachLine.TheVariants as reach
 use Rattle.mari_stream.specs.Forms.{Follow, after_lines, with_part}
-use Rattle.mari_reach_text.specs.Claims.{one_if_first}
-use Rattle.mari_reach_text.specs.Order.{ClaimFits, after_both, after_reach, counts_right, given, kept_beside, line_of, noted, nothing_reached, reach_form, said, without_tree}
+use Rattle.mari_reach_text.specs.Order.{ClaimFits, after_reach, counts_right, given, kept_beside, line_of, noted, nothing_reached, reach_form, said, without_tree}
 use Rattle.mari_reach_text.specs.declared.kept.ReachKept.{ReachKept}
 use Rattle.mari_reach_text.specs.declared.kept.ReachPart.{ReachPart}
 use Rattle.mari_reach_text.specs.declared.kept.ReachPart.TheVariants as parts
@@ -37,28 +35,28 @@ use Rattle.mari_reach_text.specs.declared.kept.Said.TheVariants as says
 use Rattle.mari_reach_text.specs.declared.named.NamedBlock.{NamedBlock}
 use Rattle.mari_reach_text.specs.declared.named.NamedItem.{NamedItem}
 use Rattle.mari_reach_text.specs.declared.named.NamedItem.TheVariants as named
-use Rattle.mari_reach_text.proofs.Stepped.{Counted, Ended, Opens, Stepped, branch_in, is_plain, is_quiet, stepped, tree_of}
+use Rattle.mari_reach_text.proofs.Stepped.{Counted, branch_in, is_plain, is_quiet, stepped, tree_of}
 
 -- a branch stands in place of each item
 abbrev pub branches : List NamedItem → List TreeItem
 branches tree = map (λ item. items.Branch) tree
 
 -- the block of the first form for which a block stands, and the part
-abbrev pub with_branches : FullBlock → List NamedItem → FullBlock
-with_branches b tree = record {
+abbrev pub with_tree : FullBlock → List TreeItem → FullBlock
+with_tree b tree = record {
   heading = b.heading;
   welfare = b.welfare;
   zones = b.zones;
   borders = b.borders;
   bids = b.bids;
   demands = b.demands;
-  tree = branches tree;
+  tree = tree;
   operators = b.operators;
   providers = b.providers;
 }
 
 abbrev pub first_block : NamedBlock → FullBlock
-first_block n = with_branches n.block n.tree
+first_block n = with_tree n.block (branches n.tree)
 
 abbrev pub first_part : ReachPart → Part
 first_part (parts.Head date quarters budget) = part.Head date quarters budget
@@ -170,7 +168,8 @@ more done ps s new l k o q m r a is same tree claim fits first =
     let by_parts : map first_part (with_part ps q) ≡ with_first (map first_part ps) o = push_part ps q ∙ ap (λ (z : Option Part). with_first (map first_part ps) z) is in
     record {
       gives = subst (λ (ls : List Line). Gives ls (map first_part (with_part ps q)) new.kept) push
-          (subst (λ (z : List Part). Gives (map line_of done ++ line_of l ∷ []) z new.kept) (sym by_parts) (subst (λ (z : Kept). Gives (map line_of done ++ line_of l ∷ []) (with_first (map first_part ps) o) z) (sym same) g));
+          (subst (λ (z : List Part). Gives (map line_of done ++ line_of l ∷ []) z new.kept) (sym by_parts)
+          (subst (λ (z : Kept). Gives (map line_of done ++ line_of l ∷ []) (with_first (map first_part ps) o) z) (sym same) g));
       in_range = subst (λ (ls : List Line). AllByRecursion InRange ls) push (all_push InRange (map line_of done) (line_of l) m.in_range (range_of s.kept l r st.0 counts));
       tree = ap (λ (z : Kept). tree_of z.held) same ∙ tree;
       claim = claim;
@@ -215,13 +214,10 @@ by_part done ps s l k (Some (part.Block (block.Published b))) y m r a g =
     let n : NamedBlock = record { block = without_tree b; claim = noted_now.claim; tree = noted_now.tree } in
     let q = parts.Block n in
     let same_tree : branches noted_now.tree ≡ b.tree = quiet_tree old l r st.1.2 ∙ sym m.tree ∙ sym st.1.0 in
-    let is : option_map first_part (Some q) ≡ Some (part.Block (block.Published b)) = ap (λ (ts : List TreeItem). Some (part.Block (block.Published (tree_put b ts)))) same_tree in
+    let is : option_map first_part (Some q) ≡ Some (part.Block (block.Published b)) = ap (λ (ts : List TreeItem). Some (part.Block (block.Published (with_tree b ts)))) same_tree in
     let claim = noted_claim old l m.claim r in
     subst (Next done ps l) (some_is (new, Some q) y g)
     (more done ps s new l k _ (Some q) m r a is (noted_kept old (said l)) st.1.1 claim (λ x e. subst ClaimFits (some_is q x e) claim) (noted_first old (said l)))
-  where
-    tree_put : FullBlock → List TreeItem → FullBlock
-    tree_put b ts = record { heading = b.heading; welfare = b.welfare; zones = b.zones; borders = b.borders; bids = b.bids; demands = b.demands; tree = ts; operators = b.operators; providers = b.providers }
 by_part done ps s l k (Some (part.Block (block.Unpublished heading count))) y m r a g = absurd cc
 
 -- a choice that gives something
@@ -236,24 +232,33 @@ next done ps s l y m r e =
     option_and_then_some (λ (z : Kept × Option Part). given (noted (kept_beside s z.0) (said l)) z.1) (after s.kept s.kept.held (line_of l)) y t.1
     (λ z a g. by_part done ps s l z.0 z.1 y m r a g)
 
-on_next : (done : List ReachLine) (ps qs : List ReachPart) (s r : ReachKept) (l : ReachLine) (ls : List ReachLine) → Mirrors done ps s → ReachInRange l
-    → ((y : ReachKept × Option ReachPart) → Mirrors (done ++ l ∷ []) (with_part ps y.1) y.0 → after_lines reach_form (with_part ps y.1) y.0 ls ≡ Some (qs, r) → Mirrors ((done ++ l ∷ []) ++ ls) qs r)
-    → after_lines reach_form ps s (l ∷ ls) ≡ Some (qs, r) → Mirrors (done ++ l ∷ ls) qs r
-on_next done ps qs s r l ls m range f e =
+-- what goes on with each line, and holds before the first, holds after all
+abbrev pub GoesOn : (List ReachLine → List ReachPart → ReachKept → Type 0) → Type 0
+GoesOn I =
+    (done : List ReachLine) (ps : List ReachPart) (s : ReachKept) (l : ReachLine) (y : ReachKept × Option ReachPart) → I done ps s → ReachInRange l → after_reach s l ≡ Some y
+    → I (done ++ l ∷ []) (with_part ps y.1) y.0
+
+on_next : (I : List ReachLine → List ReachPart → ReachKept → Type 0)
+    → GoesOn I → (done : List ReachLine) (ps qs : List ReachPart) (s r : ReachKept) (l : ReachLine) (ls : List ReachLine) → I done ps s → ReachInRange l
+    → ((y : ReachKept × Option ReachPart) → I (done ++ l ∷ []) (with_part ps y.1) y.0 → after_lines reach_form (with_part ps y.1) y.0 ls ≡ Some (qs, r) → I ((done ++ l ∷ []) ++ ls) qs r)
+    → after_lines reach_form ps s (l ∷ ls) ≡ Some (qs, r) → I (done ++ l ∷ ls) qs r
+on_next I step done ps qs s r l ls i range f e =
     option_and_then_some (λ (y : ReachKept × Option ReachPart). after_lines reach_form (with_part ps y.1) y.0 ls) (after_reach s l) (qs, r) e
-    (λ y a g. subst (λ (z : List ReachLine). Mirrors z qs r) (append_assoc done (l ∷ []) ls) (f y (next done ps s l y m range a) g))
+    (λ y a g. subst (λ (z : List ReachLine). I z qs r) (append_assoc done (l ∷ []) ls) (f y (step done ps s l y i range a) g))
 
-all_mirror : (done ls : List ReachLine) (ps qs : List ReachPart) (s r : ReachKept) → Mirrors done ps s → AllByRecursion ReachInRange ls → after_lines reach_form ps s ls ≡ Some (qs, r) → Mirrors (done ++ ls) qs r
-all_mirror done [] ps qs s r m a e =
+pub along : (I : List ReachLine → List ReachPart → ReachKept → Type 0)
+    → GoesOn I → (done ls : List ReachLine) (ps qs : List ReachPart) (s r : ReachKept) → I done ps s → AllByRecursion ReachInRange ls
+    → after_lines reach_form ps s ls ≡ Some (qs, r) → I (done ++ ls) qs r
+along I step done [] ps qs s r i a e =
     let pair = some_is (ps, s) (qs, r) e in
-    subst (λ (z : List ReachLine). Mirrors z qs r) (sym (append-nil done)) (subst (λ (x : List ReachPart × ReachKept). Mirrors done x.0 x.1) pair m)
-all_mirror done (l ∷ ls) ps qs s r m a e = on_next done ps qs s r l ls m a.0 (λ y n f. all_mirror (done ++ l ∷ []) ls (with_part ps y.1) qs y.0 r n a.1 f) e
+    subst (λ (z : List ReachLine). I z qs r) (sym (append-nil done)) (subst (λ (x : List ReachPart × ReachKept). I done x.0 x.1) pair i)
+along I step done (l ∷ ls) ps qs s r i a e = on_next I step done ps qs s r l ls i a.0 (λ y n f. along I step (done ++ l ∷ []) ls (with_part ps y.1) qs y.0 r n a.1 f) e
 
-first_mirror : Mirrors [] [] nothing_reached
+pub first_mirror : Mirrors [] [] nothing_reached
 first_mirror = record { gives = gives_nothing; in_range = tt; tree = refl; claim = tt; claims = tt; few = omega arith }
 
 pub mirrors : (lines : List ReachLine) (ps : List ReachPart) (s : ReachKept) → Follow reach_form lines ps s → Mirrors lines ps s
-mirrors lines ps s f = all_mirror [] lines [] ps nothing_reached s first_mirror f.in_range f.gives
+mirrors lines ps s f = along Mirrors next [] lines [] ps nothing_reached s first_mirror f.in_range f.gives
 
 -- so there is room for what is kept, and the lines are few
 pub few_lines : (lines : List ReachLine) (ps : List ReachPart) (s : ReachKept) → Follow reach_form lines ps s → length lines < 2 ^ 31

@@ -1,5 +1,5 @@
 -- Lines that both forms have.
-use Rattle.std.proofs.Common.{◌≡◌, ◌∙◌, ◌≤◌, ◌+◌, ℕ, true, List, [], ◌∷◌, ◌++◌, map, refl, ap}
+use Rattle.std.proofs.Common.{◌≡◌, ◌∙◌, ◌+◌, ℕ, true, List, [], ◌∷◌, ◌++◌, map, refl, ap}
 use Rattle.std.specs.List.{AllByRecursion}
 use Rattle.mari_lines.specs.Ranges.{InRange}
 use Rattle.mari_lines.specs.declared.line.Line.{Line}
@@ -7,11 +7,9 @@ use Rattle.mari_lines.specs.declared.line.Line.TheVariants as line
 use Rattle.mari_publish.specs.Lines.{demand_lines, market_lines}
 use Rattle.mari_publish.specs.declared.publication.FullBlock.{FullBlock}
 use Rattle.mari_reach_lines.specs.Ranges.{ReachInRange, is_shared}
-use Rattle.mari_reach_lines.specs.declared.line.ReachLine.{ReachLine}
 use Rattle.mari_reach_lines.specs.declared.line.ReachLine.TheVariants as reach
 use Rattle.mari_reach_text.specs.Order.{line_of, said}
 use Rattle.mari_reach_text.specs.declared.kept.Said.TheVariants as says
-use Rattle.mari_reach_text.specs.declared.named.NamedItem.{NamedItem}
 use Rattle.mari_reach_text.proofs.Quiet.{IsQuiet, item_in, items_in}
 use Rattle.mari_reach_text.proofs.Stepped.{is_quiet}
 
@@ -44,10 +42,14 @@ market_own b =
     (all_join IsOwn (map line.Bid b.bids) (demand_lines 1 b.demands) (each_own (λ x. line.Bid x) (λ x. own refl refl refl refl) b.bids) (demands_own 1 b.demands)))
 
 pub parties_own : (b : FullBlock) → AllByRecursion IsOwn (map line.Operator b.operators ++ map line.Provider b.providers)
-parties_own b = all_join IsOwn (map line.Operator b.operators) _ (each_own (λ x. line.Operator x) (λ x. own refl refl refl refl) b.operators) (each_own (λ x. line.Provider x) (λ x. own refl refl refl refl) b.providers)
+parties_own b =
+    all_join IsOwn (map line.Operator b.operators) _ (each_own (λ x. line.Operator x) (λ x. own refl refl refl refl) b.operators)
+    (each_own (λ x. line.Provider x) (λ x. own refl refl refl refl) b.providers)
 
 pub totals_own : (os : List _) (ps : List _) → AllByRecursion IsOwn (map line.TotalOperator os ++ map line.TotalProvider ps)
-totals_own os ps = all_join IsOwn (map line.TotalOperator os) _ (each_own (λ x. line.TotalOperator x) (λ x. own refl refl refl refl) os) (each_own (λ x. line.TotalProvider x) (λ x. own refl refl refl refl) ps)
+totals_own os ps =
+    all_join IsOwn (map line.TotalOperator os) _ (each_own (λ x. line.TotalOperator x) (λ x. own refl refl refl refl) os)
+    (each_own (λ x. line.TotalProvider x) (λ x. own refl refl refl refl) ps)
 
 -- they stand for themselves, are in range where these are, and say no item
 pub own_lines : (ls : List Line) → AllByRecursion IsOwn ls → map line_of (map reach.Shared ls) ≡ ls

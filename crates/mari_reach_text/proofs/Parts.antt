@@ -90,10 +90,13 @@ front (g ∷ gs) p tail e =
     let first : first_part g ≡ part.Head p.date p.quarters p.budget = cc in
     let rest : map first_part gs ≡ map part.Block p.blocks ++ tail = cc in
     let s = split gs p.blocks tail rest in
+    let head = parts.Head p.date p.quarters p.budget in
+    let one : g ∷ gs ≡ head ∷ gs = ap (λ x. x ∷ gs) (a_head g p first) in
+    let more : head ∷ gs ≡ (head ∷ map parts.Block s.blocks) ++ s.others = ap (λ (xs : List ReachPart). head ∷ xs) s.are in
     record {
       blocks = s.blocks;
       others = s.others;
-      are = ap (λ x. x ∷ gs) (a_head g p first) ∙ ap (λ (xs : List ReachPart). parts.Head p.date p.quarters p.budget ∷ xs) s.are;
+      are = one ∙ more;
       stand = s.stand;
       shown_are = s.shown_are;
     }

@@ -1,5 +1,5 @@
 -- Lines with which no part is whole, and the next one after them.
-use Rattle.std.proofs.Common.{◌≡◌, ◌∙◌, Bool, true, false, cond, List, [], ◌∷◌, ◌++◌, Option, Some, None, map, option_and_then, refl, sym, ap, subst, append_assoc}
+use Rattle.std.proofs.Common.{◌≡◌, ◌∙◌, Bool, true, false, cond, List, [], ◌∷◌, ◌++◌, Option, Some, None, map, option_and_then, refl, sym, ap, append_assoc}
 use Rattle.std.specs.List.{AllByRecursion}
 use Rattle.std.proofs.lemmas.List.{append-nil}
 use Rattle.std.proofs.lemmas.Option.{option_and_then_some}
@@ -15,7 +15,6 @@ use Rattle.mari_publish.specs.declared.publication.Publication.{Publication}
 use Rattle.mari_publish.proofs.Follows.{in_parts}
 use Rattle.mari_publish.proofs.Steps.{some_is}
 use Rattle.mari_reach_lines.specs.Ranges.{ReachInRange}
-use Rattle.mari_reach_lines.specs.declared.line.Claim.{Claim}
 use Rattle.mari_reach_lines.specs.declared.line.ReachLine.{ReachLine}
 use Rattle.mari_reach_lines.specs.declared.line.ReachLine.TheVariants as reach
 use Rattle.mari_stream.specs.Forms.{after_lines, with_part}
@@ -26,7 +25,7 @@ use Rattle.mari_reach_text.specs.declared.kept.Said.{Said}
 use Rattle.mari_reach_text.specs.declared.kept.Said.TheVariants as says
 use Rattle.mari_reach_text.specs.declared.named.NamedItem.{NamedItem}
 use Rattle.mari_reach_text.proofs.Mirrors.{plain}
-use Rattle.mari_reach_text.proofs.Stepped.{Ended, Stepped, is_quiet, stepped}
+use Rattle.mari_reach_text.proofs.Stepped.{Ended, is_quiet, not_both, stepped}
 
 abbrev pub IsQuiet : ReachLine → Type 0
 IsQuiet l = is_quiet (line_of l) ≡ true
@@ -79,19 +78,10 @@ still_noted s k says.Nothing q = ap (λ (is : List NamedItem). record { kept = k
 
 pub no_part : (h new : Held) (l : Line) (o : Option Part) → Ended h l new o → is_quiet l ≡ true → o ≡ None
 no_part h new l None e q = refl
-no_part h new l (Some (part.Head date quarters budget)) e q = absurd (differ (sym q ∙ e.2))
-  where
-    differ : true ≡ false → ⊥
-    differ c = absurd cc
-no_part h new l (Some (part.Block (block.Published b))) e q = absurd (differ (sym q ∙ e.2))
-  where
-    differ : true ≡ false → ⊥
-    differ c = absurd cc
+no_part h new l (Some (part.Head date quarters budget)) e q = absurd (not_both (sym q ∙ e.2))
+no_part h new l (Some (part.Block (block.Published b))) e q = absurd (not_both (sym q ∙ e.2))
 no_part h new l (Some (part.Block (block.Unpublished heading count))) e q = absurd e
-no_part h new l (Some (part.Totals os ps)) e q = absurd (differ (sym q ∙ e.2))
-  where
-    differ : true ≡ false → ⊥
-    differ c = absurd cc
+no_part h new l (Some (part.Totals os ps)) e q = absurd (not_both (sym q ∙ e.2))
 
 -- a line that may follow, by what comes of the line for which it stands
 pub follows_by : (s : ReachKept) (l : ReachLine) (z : Kept × Option Part) → counts_right s.first (said l) ≡ true → after s.kept s.kept.held (line_of l) ≡ Some z
@@ -140,8 +130,8 @@ pub record UpTo (ls : List ReachLine) (l : ReachLine) (rest : List ReachLine) (p
   pub gives : grown p part ≡ q
   pub come : after_lines reach_form ps s (ls ++ l ∷ rest) ≡ after_lines reach_form ps (more_kept s before (items_in ls)) (l ∷ rest)
 
-pub up_to : (ls : List ReachLine) (l : ReachLine) (rest : List ReachLine) (ps : List ReachPart) (s : ReachKept) (p q : Publication) (last : Kept) → AllByRecursion ReachInRange ls → AllByRecursion IsQuiet ls
-    → after_all p s.kept (map line_of ls ++ line_of l ∷ []) ≡ Some (q, last) → UpTo ls l rest ps s p q last
+pub up_to : (ls : List ReachLine) (l : ReachLine) (rest : List ReachLine) (ps : List ReachPart) (s : ReachKept) (p q : Publication) (last : Kept)
+    → AllByRecursion ReachInRange ls → AllByRecursion IsQuiet ls → after_all p s.kept (map line_of ls ++ line_of l ∷ []) ≡ Some (q, last) → UpTo ls l rest ps s p q last
 up_to ls l rest ps s p q last r a e =
     let apart = sym (in_parts p s.kept (map line_of ls) (line_of l ∷ [])) ∙ e in
     option_and_then_some (λ (x : Publication × Kept). after_all x.0 x.1 (line_of l ∷ [])) (after_all p s.kept (map line_of ls)) (q, last) apart (λ x come one.

@@ -6,7 +6,8 @@ ghost use Rattle.mari_publish.specs.Order.{HasRoom};
 ghost use Rattle.mari_reach_lines.specs.Ranges.{ReachInRange};
 ghost use Rattle.mari_reach_lines.specs.declared.line.ReachLine.TheVariants as reach;
 ghost use Rattle.mari_reach_text.specs.Claims.{one_if_first as one_for};
-ghost use Rattle.mari_reach_text.specs.Order.{FollowsReach, after_both, counts_right as counts, given, kept_beside, line_of, noted, said, without_tree as tree_left_out};
+ghost use Rattle.mari_reach_text.specs.Order.{FollowsReach, after_both, given, kept_beside, line_of, noted, said};
+ghost use Rattle.mari_reach_text.specs.Order.{counts_right as counts, without_tree as tree_left_out};
 
 use crate::kept::{ReachKept, ReachPart, Said};
 use crate::named::{NamedBlock, NamedItem};

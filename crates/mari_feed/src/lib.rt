@@ -25,6 +25,6 @@ pub use block::{put_ledger, put_market, put_outcome, put_totals};
 pub use fault::FeedFault;
 pub use form::Printed;
 pub use part::{part_text, put_head, read_part};
-pub use stream::{FeedStop, print_feed};
+pub use stream::{FeedStop, print_feed, print_line, stop_of};
 pub use text::{put_end, put_first, put_first_list, put_next, put_next_list, put_string};
 pub use words::Kind;

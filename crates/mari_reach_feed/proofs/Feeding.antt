@@ -1,5 +1,5 @@
 -- Parts that are printed as they come.
-use Rattle.std.proofs.Common.{◌≡◌, ◌∙◌, ◌+◌, ℕ, List, [], ◌∷◌, ◌++◌, true, length, take, drop, Option, Some, None, Result, Ok, Err, refl, sym, ap, subst, append-nil}
+use Rattle.std.proofs.Common.{◌≡◌, ◌∙◌, ◌+◌, ℕ, List, [], ◌∷◌, ◌++◌, true, length, take, drop, Option, Some, None, Result, Ok, Err, refl, sym, ap, subst, append_assoc, append-nil}
 use Rattle.std.specs.List.{AllByRecursion}
 use Rattle.std.proofs.Math.Seq.{take-append-add}
 use Rattle.std.proofs.lemmas.Grind.{flat_map-append}
@@ -12,9 +12,8 @@ use Rattle.mari_publish.specs.declared.stream.ReadStop.{ReadStop}
 use Rattle.mari_publish.specs.declared.stream.ReadStop.TheVariants.{Unopened as ReadUnopened, Fetch as ReadFetch, Text as ReadText, Part as ReadPart, Memory as ReadMemory}
 use Rattle.mari_reach_lines.specs.Spelling.{text_of_reach_lines}
 use Rattle.mari_reach_lines.specs.declared.line.ReachLine.{ReachLine}
-use Rattle.mari_stream.specs.Forms.{Follow, HasPart, HoldsParts}
+use Rattle.mari_stream.specs.Forms.{Follow, HasPart, HoldsParts, text_by}
 use Rattle.mari_stream.specs.Streams as read
-use Rattle.mari_stream.proofs.Lines.{parts-stay}
 use Rattle.mari_reach_text.specs.Order.{nothing_reached, reach_form}
 use Rattle.mari_reach_text.specs.Texts.{ReachPublication, reach_parts_of}
 use Rattle.mari_reach_text.specs.declared.kept.ReachKept.{ReachKept}
@@ -81,7 +80,13 @@ module _ (before after : Option (List ℕ)) where
 
   -- what holds of the bytes that are given holds of the page
   holds : (page : List ℕ) (xs : List ReachPart) → HoldsParts reach_form (take most_given page) xs → HoldsParts reach_form page xs
-  holds page xs h = subst (λ (t : List ℕ). HoldsParts reach_form t xs) (take-append-drop most_given page) (parts-stay reach_form (take most_given page) (drop most_given page) xs h)
+  holds page xs h = record {
+    lines = h.lines;
+    rest = h.rest ++ drop most_given page;
+    kept = h.kept;
+    is = sym (take-append-drop most_given page) ∙ ap (λ (t : List ℕ). t ++ drop most_given page) h.is ∙ append_assoc (text_by reach_form h.lines) h.rest (drop most_given page);
+    follow = h.follow;
+  }
 
   -- the line of a part was begun
   line_begun : (page : List ℕ) (xs : List ReachPart) (x : ReachPart) → HasPart reach_form page xs x → TookPart (then_took before (reach_feed_of xs)) after (reach_line_of x) → TookSome page before after
@@ -138,7 +143,7 @@ module _ (before after : Option (List ℕ)) where
       let w = t.whole in
       let made = publication_of w.lines t.parts w.kept w.follow w.done in
       let both = text_of_parts w.lines t.parts w.kept made.0 w.follow w.done made.1 in
-      let first = record { lines = w.lines; rest = []; kept = w.kept; is = w.is ∙ sym (append-nil _); follow = w.follow } in
+      let first : HoldsParts reach_form page t.parts = record { lines = w.lines; rest = []; kept = w.kept; is = w.is ∙ sym (append-nil _); follow = w.follow } in
       record {
         publication = made.0;
         is = record { has = both.1; is = w.is ∙ ap text_of_reach_lines both.0 };

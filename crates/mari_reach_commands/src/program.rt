@@ -9,6 +9,7 @@ ghost use Rattle.mari_reach_commands.specs.Words.{Job as JobAsked, task_at};
 ghost use Rattle.mari_reach_commands.specs.Words.Task.{Clears};
 
 use crate::checking::check;
+use crate::feeding::feed;
 use crate::usage::usage_line;
 use crate::words::{Task, read_task};
 use mari_answers::{Status, say, say_no_books};
@@ -63,6 +64,7 @@ fn clear<S: Shelf, K: Sink>(
 /// - `clear FOLDER [--nodes N]` answers each run of the folder's day and prints the day as it is made. A tree has at most N
 ///   items, 1 to `MOST_NODES`, or `USUAL_NODES` where the words don't say.
 /// - `check FOLDER` checks the folder's publication.txt, which is read in pieces, against its market files.
+/// - `feed FOLDER` prints the folder's publication.txt, which is read in pieces, as JSON: a line for each of its parts.
 ///
 /// The market files of the folder are fetched in their order and then read in that order. It uses only calls that return.
 pub fn run_reach<S: Shelf, K: Sink>(
@@ -88,6 +90,7 @@ pub fn run_reach<S: Shelf, K: Sink>(
     match read_task(alloc, words) {
         Ok(Task::Clear { folder, nodes }) => clear(alloc, shelf, sink, &folder, nodes),
         Ok(Task::Check { folder }) => check(alloc, shelf, sink, &folder),
+        Ok(Task::Feed { folder }) => feed(alloc, shelf, sink, &folder),
         Err(WordsFault::Usage) => say(sink, usage_line(), Status::Usage),
         Err(WordsFault::Memory) => Status::Memory,
     }

@@ -64,7 +64,7 @@ module _ (before after : Option (List ℕ)) where
   nothing_taken took = took ∙ sym (took_nothing before)
 
   -- of the page, where nothing was taken
-  took_none : (page : List ℕ) → Took [] → TookFirst page before after
+  pub took_none : (page : List ℕ) → Took [] → TookFirst page before after
   took_none page took = record {
     parts = [];
     first = record { lines = []; rest = page; kept = nothing_reached; is = refl; follow = record { in_range = tt; gives = refl } };

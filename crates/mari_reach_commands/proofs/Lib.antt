@@ -1,3 +1,5 @@
 pub mod Budgets
 pub mod Causes
+pub mod Checks
 pub mod Promised
+pub mod Feeds

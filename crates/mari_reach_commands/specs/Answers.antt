@@ -15,7 +15,8 @@ use Rattle.mari_reach_day.specs.declared.writing.ReachEnd.TheVariants as end
 use Rattle.mari_check.specs.Streams.{IsStreamFetch}
 use Rattle.mari_check.specs.declared.stream.StreamFault.{StreamFault}
 use Rattle.mari_check.specs.declared.stream.StreamFault.TheVariants as stream
-use Rattle.mari_reach_check.specs.Streams.{ChecksPage}
+use Rattle.mari_reach_text.specs.Texts.{ReachPublication}
+use Rattle.mari_reach_check.specs.Streams.{IsPageOf, SaysOf, StreamStates}
 use Rattle.mari_reach_check.specs.declared.verdict.ReachVerdict.{ReachVerdict}
 use Rattle.mari_reach_check.specs.declared.verdict.ReachVerdict.TheVariants as verdict
 use Rattle.mari_feed.specs.Streams.{IsFeedFetch}
@@ -65,14 +66,19 @@ ReportsAnswer (Err (stream.Fetch why)) before after result = ReportsNoPage PUBLI
 ReportsAnswer (Err (stream.Text fault)) before after result = ReportsText fault before after result
 ReportsAnswer (Err stream.Memory) before after result = (result ≡ status.Memory) × (after ≡ before)
 
--- the page of a folder's publication
-abbrev pub publication_of : Pages → (folder : List ℕ) → Option (List ℕ)
-publication_of pages folder = page_of pages (path_in folder (file_named PUBLICATION))
+-- the name of a folder's publication, and its page
+abbrev pub publication_path : List ℕ → List ℕ
+publication_path folder = path_in folder (file_named PUBLICATION)
 
--- how a publication is reported that is checked by these books: what is answered is so of its page, and is reported
+abbrev pub publication_of : Pages → (folder : List ℕ) → Option (List ℕ)
+publication_of pages folder = page_of pages (publication_path folder)
+
+-- how a publication is reported that is checked by these books: what is answered is so of its page, of the
+-- text of a day it is the verdict on that day, and it is reported
 pub record ReportsPage (pages : Option Pages) (failed : Type 0) (books : Books) (folder : List ℕ) (before after : Option (List ℕ)) (result : Status) : Type 0 where
   pub answer : Result ReachVerdict StreamFault
-  pub states : WhereReported pages (λ reported. ChecksPage books (publication_of reported folder) answer)
+  pub states : WhereReported pages (λ reported. StreamStates books (publication_of reported folder) answer)
+  pub whole : WhereReported pages (λ reported. (page : List ℕ) (p : ReachPublication) → publication_of reported folder ≡ Some page → IsPageOf page p → SaysOf books p answer)
   pub cause : IsStreamFetch fetch.Failed answer → failed
   pub said : ReportsAnswer answer before after result
 

@@ -6,7 +6,9 @@ ghost use Rattle.mari_remain.specs.Accepted.{IsAccepted};
 ghost use Rattle.mari_reach_commands.specs.Answers.{ReportsAnswer, ReportsCheck, ReportsPage, valid_line};
 ghost use Rattle.mari_answers.specs.Reports.{Reports};
 
-use mari_answers::{Status, pair_line, say, say_invalid, say_no_books, say_no_page, say_text_fault};
+use mari_answers::{
+    Status, pair_line, say, say_invalid, say_no_books, say_no_page, say_text_fault,
+};
 use mari_check::StreamFault;
 use mari_day::{PUBLICATION, file_name, path_in, read_books};
 use mari_io::{Shelf, Sink};
@@ -70,12 +72,7 @@ fn check_page<S: Shelf, K: Sink>(
 }
 
 /// Checks the publication of a folder against its market files, or says why it has no books.
-pub fn check<S: Shelf, K: Sink>(
-    alloc: Global,
-    shelf: &mut S,
-    sink: &mut K,
-    folder: &str,
-) -> Status
+pub fn check<S: Shelf, K: Sink>(alloc: Global, shelf: &mut S, sink: &mut K, folder: &str) -> Status
     ensures same { S.pages shelf.new ≡ S.pages shelf.old }
     ensures reports { ReportsCheck (S.pages shelf.old) (Rose (S.faults shelf.old) (S.faults shelf.new)) folder.now (K.taken sink.old) (K.taken sink.new) result }
 

@@ -89,7 +89,8 @@ module _ (before after : Option (List ℕ)) where
   }
 
   -- the line of a part was begun
-  line_begun : (page : List ℕ) (xs : List ReachPart) (x : ReachPart) → HasPart reach_form page xs x → TookPart (then_took before (reach_feed_of xs)) after (reach_line_of x) → TookSome page before after
+  line_begun : (page : List ℕ) (xs : List ReachPart) (x : ReachPart) → HasPart reach_form page xs x
+      → TookPart (then_took before (reach_feed_of xs)) after (reach_line_of x) → TookSome page before after
   line_begun page xs x has cut = record {
     parts = xs ++ x ∷ [];
     first = has;

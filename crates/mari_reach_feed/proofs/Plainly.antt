@@ -20,7 +20,8 @@ use Rattle.mari_reach_text.specs.declared.named.NamedItem.TheVariants as named
 use Rattle.mari_feed.specs.Ranges.{FitsButTree}
 use Rattle.mari_feed.specs.Values.{bid_value, border_value, natural, operator_value, price_value, provider_value, zone_value}
 use Rattle.mari_feed.proofs.Plain.{IsPlain, one_line, plain_utf8, read_plain}
-use Rattle.mari_feed.proofs.Plainly.{plain_bid, plain_border, plain_item, plain_kind, plain_list, plain_money, plain_mw, plain_name, plain_operator, plain_part, plain_price, plain_provider, plain_zone}
+use Rattle.mari_feed.proofs.Plainly.{plain_bid, plain_border, plain_item, plain_kind, plain_list, plain_money, plain_mw, plain_name}
+use Rattle.mari_feed.proofs.Plainly.{plain_operator, plain_part, plain_price, plain_provider, plain_zone}
 use Rattle.mari_feed.proofs.Shallow.{lines, numbers, shallow_item, shallow_list, shallow_part}
 use Rattle.mari_reach_feed.specs.Texts.{IsReachLine, NamedItemFits, ReachPartFits}
 use Rattle.mari_reach_feed.specs.Values.{gap_value, named_block_value, named_value, reach_json_of, reach_part_value}

@@ -37,7 +37,13 @@ named_lines_text b =
 
 abbrev pub named_rest_text : NamedBlock → List ℕ
 named_rest_text b =
-    nexts_text ((codes "tree", list_of named_value b.tree) ∷ (codes "welfare", natural b.block.welfare) ∷ (codes "zones", list_of zone_value b.block.zones) ∷ []) ++ 125 ∷ []
+    nexts_text (
+    (codes "tree", list_of named_value b.tree)
+    ∷ (codes "welfare", natural b.block.welfare)
+    ∷ (codes "zones", list_of zone_value b.block.zones)
+    ∷ []
+    )
+    ++ 125 ∷ []
 
 -- the bytes are JSON of the part, on one line
 pub record IsReachLine (bytes : List ℕ) (x : ReachPart) : Type 0 where

@@ -9,7 +9,8 @@ use Rattle.mari_reach_text.specs.declared.kept.ReachPart.TheVariants as parts
 use Rattle.mari_reach_text.specs.declared.named.NamedBlock.{NamedBlock}
 use Rattle.mari_reach_text.specs.declared.named.NamedItem.{NamedItem}
 use Rattle.mari_reach_text.specs.declared.named.NamedItem.TheVariants as named
-use Rattle.mari_feed.specs.Values.{bid_value, border_value, bound_value, cut_value, head_value, kind_value, list_of, money_value, natural, object_of, operator_value, price_value, provider_value, totals_value, zone_value}
+use Rattle.mari_feed.specs.Values.{bid_value, border_value, bound_value, cut_value, head_value, kind_value, list_of, money_value, natural}
+use Rattle.mari_feed.specs.Values.{object_of, operator_value, price_value, provider_value, totals_value, zone_value}
 
 -- the gap within which an activation is the best: none is said of the first one
 abbrev pub gap_value : Claim → Data

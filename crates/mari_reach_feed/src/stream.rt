@@ -66,7 +66,8 @@ pub fn print_reach_feed<S: Shelf, K: Sink>(
     ensures same { S.pages shelf.new ≡ S.pages shelf.old }
 
     // What is said of the page and of what was printed, where pages are reported.
-    ensures reported { (reported : Pages) → S.pages shelf.old ≡ Some reported → FeedStates (page_of reported name.now) (K.taken sink.old) (K.taken sink.new) result }
+    ensures reported { (reported : Pages) → S.pages shelf.old ≡ Some reported
+        → FeedStates (page_of reported name.now) (K.taken sink.old) (K.taken sink.new) result }
 
     // The shelf is asked for no other page: one call names a page, and each further one is for a piece, at most one for
     // each byte that was given, and one.

@@ -6,7 +6,14 @@ use Rattle.mari_feed.proofs.block.put_market.Goals as goal
 
 pub returns : goal.returns
 returns c =
-    let step1 = opened c.args.text.now.items c.put_first_list.new.text.items (codes "bids") (list_of bid_value c.args.block.now.bids) (c.in_ok-put_first_list.ensures ∙ ap (λ xs. c.args.text.now.items ++ first_text (codes "bids") (list_of bid_value xs)) c.as_slice.ensures) in
-    let step2 = further c.args.text.now.items c.put_first_list.new.text.items c.put_next_list.new.text.items (codes "bids") (list_of bid_value c.args.block.now.bids) ([]) (codes "borders") (list_of border_value c.args.block.now.borders) step1 (c.in_ok-put_next_list.ensures ∙ ap (λ xs. c.put_first_list.new.text.items ++ next_text (codes "borders") (list_of border_value xs)) c.as_slice-2.ensures) in
-    further_shown c.put_next_list-2.result c.args.text.now.items c.put_next_list.new.text.items c.put_next_list-2.new.text.items (codes "bids") (list_of bid_value c.args.block.now.bids)
-    ((codes "borders", list_of border_value c.args.block.now.borders) ∷ []) (codes "demands") (list_of natural c.as_slice-3.result.now) (list_of natural c.args.block.now.demands) (ap (λ xs. list_of natural xs) c.as_slice-3.ensures) step2 c.put_next_list-2.ensures
+    let b = c.args.block.now in
+    let t = c.args.text.now.items in
+    let u = c.put_first_list.new.text.items in
+    let v = c.put_next_list.new.text.items in
+    let bids = list_of bid_value b.bids in
+    let borders = list_of border_value b.borders in
+    let step1 = opened t u (codes "bids") bids (c.in_ok-put_first_list.ensures ∙ ap (λ xs. t ++ first_text (codes "bids") (list_of bid_value xs)) c.as_slice.ensures) in
+    let step2 = further t u v (codes "bids") bids ([]) (codes "borders") borders step1
+    (c.in_ok-put_next_list.ensures ∙ ap (λ xs. u ++ next_text (codes "borders") (list_of border_value xs)) c.as_slice-2.ensures) in
+    further_shown c.put_next_list-2.result t v c.put_next_list-2.new.text.items (codes "bids") bids ((codes "borders", borders) ∷ []) (codes "demands")
+    (list_of natural c.as_slice-3.result.now) (list_of natural b.demands) (ap (λ xs. list_of natural xs) c.as_slice-3.ensures) step2 c.put_next_list-2.ensures

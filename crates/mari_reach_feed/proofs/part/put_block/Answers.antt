@@ -12,7 +12,9 @@ pub returns : goal.returns
 returns c =
     let b = c.args.block.now in
     in_pieces c.put_rest.result c.args.text.now.items c.put_lines.new.text.items c.put_ledger.new.text.items c.put_rest.new.text.items (codes "bids") (list_of bid_value b.block.bids)
-    ((codes "borders", list_of border_value b.block.borders) ∷ (codes "demands", list_of natural b.block.demands) ∷ (codes "gap", gap_value b.claim) ∷ (codes "kind", kind_value b.block.heading.direct) ∷ [])
-    ((codes "operators", list_of operator_value b.block.operators) ∷ (codes "providers", list_of provider_value b.block.providers) ∷ (codes "quarter", natural b.block.heading.quarter) ∷ (codes "run", natural b.block.heading.run) ∷ [])
+    ((codes "borders", list_of border_value b.block.borders) ∷ (codes "demands", list_of natural b.block.demands)
+    ∷ (codes "gap", gap_value b.claim) ∷ (codes "kind", kind_value b.block.heading.direct) ∷ [])
+    ((codes "operators", list_of operator_value b.block.operators) ∷ (codes "providers", list_of provider_value b.block.providers)
+    ∷ (codes "quarter", natural b.block.heading.quarter) ∷ (codes "run", natural b.block.heading.run) ∷ [])
     ((codes "tree", list_of named_value b.tree) ∷ (codes "welfare", natural b.block.welfare) ∷ (codes "zones", list_of zone_value b.block.zones) ∷ [])
     c.in_ok-put_lines.ensures c.in_ok-put_ledger.ensures c.put_rest.ensures

@@ -8,4 +8,5 @@ returns-in-Ok-clause-reported g c = λ reported e.
 
 pub returns-in-Err-clause-reported : goal.returns-in-Err-clause-reported
 returns-in-Err-clause-reported g c = λ reported e.
-    rw c.stop_of.ensures (feed_stopped (g.K.Sink.taken c.args.sink.now) (g.K.Sink.taken c.read_text_parts.new.with) (page_of reported c.args.name.now) c.in-Err.stop (c.in-Err.ensures.reported reported e))
+    rw c.stop_of.ensures
+    (feed_stopped (g.K.Sink.taken c.args.sink.now) (g.K.Sink.taken c.read_text_parts.new.with) (page_of reported c.args.name.now) c.in-Err.stop (c.in-Err.ensures.reported reported e))

@@ -57,6 +57,13 @@ pub further_last : {R E : Type 0} (r : Result R E) (old now next key : List ℕ)
 further_last (Ok v) old now next key d ms k x o e = further old now next key d ms k x o e
 further_last (Err v) old now next key d ms k x o e = tt
 
+-- the same where what was written is that value
+pub further_shown : {R E : Type 0} (r : Result R E) (old now next key : List ℕ) (d : Data) (ms : List Member) (k : List ℕ) (shown x : Data) → shown ≡ x
+    → Opened old now key d ms → OnOk r (next ≡ now ++ next_text k shown)
+    → OnOk r (Opened old next key d (ms ++ (k, x) ∷ []))
+further_shown (Ok v) old now next key d ms k shown x is o e = further old now next key d ms k x o (e ∙ ap (λ (y : Data). now ++ next_text k y) is)
+further_shown (Err v) old now next key d ms k shown x is o e = tt
+
 pub closed : {R E : Type 0} (r : Result R E) (old now next key : List ℕ) (d : Data) (ms : List Member)
     → Opened old now key d ms → OnOk r (next ≡ now ++ 125 ∷ [])
     → OnOk r (next ≡ old ++ compact_text (object_of ((key, d) ∷ ms)))
@@ -83,6 +90,15 @@ more_last (Err v) old now next ms k x o e = tt
 pub ended : {R E : Type 0} (r : Result R E) (old now next : List ℕ) (ms : List Member) → Grown old now ms → OnOk r (next ≡ now ++ 125 ∷ []) → OnOk r (next ≡ old ++ (nexts_text ms ++ 125 ∷ []))
 ended (Ok v) old now next ms o e = e ∙ ap (λ (t : List ℕ). t ++ 125 ∷ []) o ∙ append_assoc old (nexts_text ms) (125 ∷ [])
 ended (Err v) old now next ms o e = tt
+
+-- a member, and then the end
+pub ended_after : {R E : Type 0} (r : Result R E) (old now next key : List ℕ) (d : Data) (ms : List Member)
+    → now ≡ old ++ next_text key d → OnOk r (next ≡ now ++ (nexts_text ms ++ 125 ∷ []))
+    → OnOk r (next ≡ old ++ (nexts_text ((key, d) ∷ ms) ++ 125 ∷ []))
+ended_after (Ok v) old now next key d ms o e =
+    e ∙ ap (λ (t : List ℕ). t ++ (nexts_text ms ++ 125 ∷ [])) o ∙ append_assoc old (next_text key d) (nexts_text ms ++ 125 ∷ [])
+    ∙ ap (λ (t : List ℕ). old ++ t) (sym (append_assoc (next_text key d) (nexts_text ms) (125 ∷ [])))
+ended_after (Err v) old now next key d ms o e = tt
 
 -- ---- an object in three pieces
 

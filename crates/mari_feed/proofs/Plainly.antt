@@ -30,6 +30,7 @@ use Rattle.mari_publish.specs.declared.publication.Block.TheVariants as block
 use Rattle.mari_publish.specs.declared.publication.FullBlock.{FullBlock}
 use Rattle.mari_publish.specs.declared.publication.Part.{Part}
 use Rattle.mari_publish.specs.declared.publication.Part.TheVariants as part
+use Rattle.mari_feed.specs.Ranges.{FitsButTree}
 use Rattle.mari_feed.specs.Texts.{IsLineOf, json_of}
 use Rattle.mari_feed.specs.Values.{natural, whole, price_value, money_value, kind_value, side_value, zone_number, list_of, zone_value, border_value, bid_value, operator_value, provider_value, item_value, full_value, block_value, totals_value, part_value}
 use Rattle.mari_feed.specs.Plain.{is_plain_byte, is_plain_text}
@@ -151,7 +152,7 @@ plain_operator o h = (
 pub plain_provider : (p : AmountLine) → IsAmountLine p → IsPlain (provider_value p)
 plain_provider p h = (refl, tt, plain_money p.amount h.1, (refl, (refl, tt), plain_name p.name h.0, tt))
 
-plain_zone_number : (zone : ℕ) → IsZone zone → IsPlain (zone_number zone)
+pub plain_zone_number : (zone : ℕ) → IsZone zone → IsPlain (zone_number zone)
 plain_zone_number zone h = omega (arith, h)
 
 pub plain_mw : (mw : ℕ) → mw ≤ 99999 → IsPlain (natural mw)
@@ -194,6 +195,18 @@ plain_item (item.Leaf (leaf.Conflict c)) h = (
 )
 
 -- ---- parts
+
+pub but_tree : (b : FullBlock) → FullFits b → FitsButTree b
+but_tree b h = record {
+  heading = h.heading;
+  welfare = h.welfare;
+  zones = h.zones;
+  borders = h.borders;
+  bids = h.bids;
+  demands = h.demands;
+  operators = h.operators;
+  providers = h.providers;
+}
 
 plain_full : (b : FullBlock) → FullFits b → IsPlain (full_value b)
 plain_full b h = (

@@ -11,17 +11,17 @@ use Rattle.mari_publish.specs.declared.publication.Part.{Part}
 use Rattle.mari_publish.specs.declared.publication.Part.TheVariants as part
 use Rattle.mari_feed.specs.Values.{natural, whole, price_value, zone_number, list_of, zone_value, border_value, bid_value, operator_value, provider_value, item_value, full_value, part_value}
 
-shallow_list : {X : Type 0} (f : X → Data) (n : ℕ) → ((x : X) → depth (f x) ≤ n) → (xs : List X) → depth (list_of f xs) ≤ n + 1
+pub shallow_list : {X : Type 0} (f : X → Data) (n : ℕ) → ((x : X) → depth (f x) ≤ n) → (xs : List X) → depth (list_of f xs) ≤ n + 1
 shallow_list f n each [] = omega arith
 shallow_list f n each (x ∷ xs) = omega (arith, each x, shallow_list f n each xs)
 
-numbers : {X : Type 0} (f : X → Data) → ((x : X) → depth (f x) ≡ 0) → (xs : List X) → depth (list_of f xs) ≤ 1
+pub numbers : {X : Type 0} (f : X → Data) → ((x : X) → depth (f x) ≡ 0) → (xs : List X) → depth (list_of f xs) ≤ 1
 numbers f flat xs = shallow_list f 0 (λ x. omega (arith, flat x)) xs
 
-lines : {X : Type 0} (f : X → Data) → ((x : X) → depth (f x) ≡ 1) → (xs : List X) → depth (list_of f xs) ≤ 2
+pub lines : {X : Type 0} (f : X → Data) → ((x : X) → depth (f x) ≡ 1) → (xs : List X) → depth (list_of f xs) ≤ 2
 lines f flat xs = shallow_list f 1 (λ x. omega (arith, flat x)) xs
 
-shallow_item : (x : TreeItem) → depth (item_value x) ≤ 2
+pub shallow_item : (x : TreeItem) → depth (item_value x) ≤ 2
 shallow_item item.Branch = omega arith
 shallow_item (item.Leaf (leaf.Bound p)) = omega (arith, numbers price_value (λ _. refl) p.cents)
 shallow_item (item.Leaf (leaf.Cut c)) = omega (arith, numbers zone_number (λ _. refl) c.zones)

@@ -127,12 +127,12 @@ feed_stop read.Memory = NoMemory
 -- ---- what has come
 
 -- a line was written, or a first part of it, or memory ran out
-abbrev pub WroteLine : {T : Type 0} → Part → (before after : Option (List ℕ)) → Result T FeedStop → Type 0
-WroteLine x before after (Ok done) = after ≡ then_took before (line_of x)
-WroteLine x before after (Err (OfFetch f)) = ⊥
-WroteLine x before after (Err (OfText f)) = ⊥
-WroteLine x before after (Err OfSink) = TookPart before after (line_of x)
-WroteLine x before after (Err NoMemory) = after ≡ before
+abbrev pub WroteText : {T : Type 0} → List ℕ → (before after : Option (List ℕ)) → Result T FeedStop → Type 0
+WroteText line before after (Ok done) = after ≡ then_took before line
+WroteText line before after (Err (OfFetch f)) = ⊥
+WroteText line before after (Err (OfText f)) = ⊥
+WroteText line before after (Err OfSink) = TookPart before after line
+WroteText line before after (Err NoMemory) = after ≡ before
 
 -- the lines of these parts were taken
 abbrev pub PrintedLines : (before after : Option (List ℕ)) → List Part → Type 0
@@ -140,4 +140,4 @@ PrintedLines before after parts = after ≡ then_took before (feed_of parts)
 
 -- and that of the next part wasn't, or a first part of it
 abbrev pub BrokeLine : (before after : Option (List ℕ)) → List Part → Part → FeedStop → Type 0
-BrokeLine before after parts x stop = WroteLine {T = Unit {0}} x (then_took before (feed_of parts)) after (Err stop)
+BrokeLine before after parts x stop = WroteText {T = Unit {0}} (line_of x) (then_took before (feed_of parts)) after (Err stop)

@@ -6,12 +6,13 @@ ghost use Rattle.serde_json.specs.Written.{compact_text};
 ghost use Rattle.mari_lines.specs.Ranges.{InRange};
 ghost use Rattle.mari_lines.specs.declared.line.Line.TheVariants as line;
 ghost use Rattle.mari_publish.specs.Ranges.{BlockFits, FullFits, SumsFit};
+ghost use Rattle.mari_feed.specs.Ranges.{FitsButTree};
 ghost use Rattle.mari_feed.specs.Reading.{Reads};
-ghost use Rattle.mari_feed.specs.Texts.{ledger_text, lines_text, rest_text};
+ghost use Rattle.mari_feed.specs.Texts.{ledger_text, lines_text, market_text, outcome_text, rest_text};
 ghost use Rattle.mari_feed.specs.Values.{full_value, unpublished_value, block_value, totals_value};
 
 use crate::fault::FeedFault;
-use crate::form::Form;
+use crate::form::{Form, Printed};
 use crate::members::{Members, has_key};
 use crate::numbers::{Megawatts, Nodes, Quarter, Run, Welfare};
 use crate::text::{put_end, put_first, put_first_list, put_next, put_next_list};
@@ -26,20 +27,28 @@ use mari_units::{
 use serde_json::Value;
 use std::alloc::Global;
 
-/// Appends the bids, the borders, the demands and the kind of a block.
+/// Appends the bids, the borders and the demands of a block.
+pub fn put_market(text: &mut Vec<u8>, block: &FullBlock) -> Result<(), Memory>
+    requires { FitsButTree block.now }
+    ensures { OnOk result (text.new.items ≡ text.old.items ++ market_text block.now) }
+{
+    put_first_list::<BidLine>(text, "bids", block.bids.as_slice())?;
+    put_next_list::<BorderLine>(text, "borders", block.borders.as_slice())?;
+    put_next_list::<Megawatts>(text, "demands", block.demands.as_slice())
+}
+
+/// The same and its kind.
 fn put_lines(text: &mut Vec<u8>, block: &FullBlock) -> Result<(), Memory>
     requires { FullFits block.now }
     ensures { OnOk result (text.new.items ≡ text.old.items ++ lines_text block.now) }
 {
-    put_first_list::<BidLine>(text, "bids", block.bids.as_slice())?;
-    put_next_list::<BorderLine>(text, "borders", block.borders.as_slice())?;
-    put_next_list::<Megawatts>(text, "demands", block.demands.as_slice())?;
+    put_market(text, block)?;
     put_next::<Kind>(text, "kind", &block.heading.direct)
 }
 
 /// Appends what each operator and each provider gets in it, its quarter and its number.
-fn put_ledger(text: &mut Vec<u8>, block: &FullBlock) -> Result<(), Memory>
-    requires { FullFits block.now }
+pub fn put_ledger(text: &mut Vec<u8>, block: &FullBlock) -> Result<(), Memory>
+    requires { FitsButTree block.now }
     ensures { OnOk result (text.new.items ≡ text.old.items ++ ledger_text block.now) }
 {
     put_next_list::<MoneyLine>(text, "operators", block.operators.as_slice())?;
@@ -48,18 +57,26 @@ fn put_ledger(text: &mut Vec<u8>, block: &FullBlock) -> Result<(), Memory>
     put_next::<Run>(text, "run", &block.heading.run)
 }
 
+/// Appends its welfare, its zones and its end.
+pub fn put_outcome(text: &mut Vec<u8>, block: &FullBlock) -> Result<(), Memory>
+    requires { FitsButTree block.now }
+    ensures { OnOk result (text.new.items ≡ text.old.items ++ outcome_text block.now) }
+{
+    put_next::<Welfare>(text, "welfare", &block.welfare)?;
+    put_next_list::<ZoneLine>(text, "zones", block.zones.as_slice())?;
+    put_end(text)
+}
+
 /// Appends its certificate tree, its welfare, its zones and its end.
 fn put_rest(text: &mut Vec<u8>, block: &FullBlock) -> Result<(), Memory>
     requires { FullFits block.now }
     ensures { OnOk result (text.new.items ≡ text.old.items ++ rest_text block.now) }
 {
     put_next_list::<TreeItem>(text, "tree", block.tree.as_slice())?;
-    put_next::<Welfare>(text, "welfare", &block.welfare)?;
-    put_next_list::<ZoneLine>(text, "zones", block.zones.as_slice())?;
-    put_end(text)
+    put_outcome(text, block)
 }
 
-impl Form for FullBlock {
+impl Printed for FullBlock {
     type Item = FullBlock;
 
     ghost written = { full_value };
@@ -71,7 +88,9 @@ impl Form for FullBlock {
         put_ledger(text, block)?;
         put_rest(text, block)
     }
+}
 
+impl Form for FullBlock {
     fn read(alloc: Global, value: &Value) -> Result<FullBlock, FeedFault> {
         let mut members = Members::of(value)?;
         let bids = members.list::<BidLine>(alloc, "bids", 0, MOST_BIDS)?;
@@ -134,7 +153,7 @@ fn read_unpublished(alloc: Global, value: &Value) -> Result<(Heading, u32), Feed
     Ok((heading, nodes))
 }
 
-impl Form for Block {
+impl Printed for Block {
     type Item = Block;
 
     ghost written = { block_value };
@@ -147,7 +166,9 @@ impl Form for Block {
             Block::Unpublished(heading, nodes) => put_unpublished(text, *heading, *nodes),
         }
     }
+}
 
+impl Form for Block {
     fn read(alloc: Global, value: &Value) -> Result<Block, FeedFault> {
         if has_key(value, "nodes") {
             let (heading, nodes) = read_unpublished(alloc, value)?;

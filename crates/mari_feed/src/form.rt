@@ -12,11 +12,11 @@ use mari_units::{Items, Memory};
 use serde_json::Value;
 use std::alloc::Global;
 
-/// How an item stands in the feed, both ways.
-pub trait Form {
+/// How an item is written in the feed.
+pub trait Printed {
     ghost use Rattle.serde_json.specs.Data.{Data};
 
-    /// What is written and read.
+    /// What is written.
     type Item: Drop;
 
     /// The value of an item.
@@ -29,10 +29,13 @@ pub trait Form {
     fn put(text: &mut Vec<u8>, item: &Self::Item) -> Result<(), Memory>
         requires { InItsRange item.now }
         ensures { OnOk result (text.new.items ≡ text.old.items ++ compact_text (written item.now)) };
+}
 
+/// How an item stands in the feed, both ways.
+pub trait Form: Printed {
     /// The item that has this value.
     fn read(alloc: Global, value: &Value) -> Result<Self::Item, FeedFault>
-        ensures { Reads InItsRange written (view value.now) result };
+        ensures { Reads Self.InItsRange Self.written (view value.now) result };
 }
 
 /// The list that has this value, of `least` to `greatest` items.

@@ -5,7 +5,8 @@
 //! the value of a whole block may take many times the block's memory. Its promise: the text of a part is the compact JSON
 //! of its value, on one line; bytes that are JSON of a part in range are read as that part, whatever their spaces,
 //! escapes and order of keys; any other bytes are said to be no JSON, or JSON of no part; and of a page the lines of the
-//! parts before its end or its first fault are printed.
+//! parts before its end or its first fault are printed. What it writes of a block without its certificate tree, and how a
+//! member is written, is there for the parts of another form of text.
 #![tactic(auto)]
 
 mod block;
@@ -20,6 +21,10 @@ mod text;
 mod tree;
 mod words;
 
+pub use block::{put_ledger, put_market, put_outcome, put_totals};
 pub use fault::FeedFault;
-pub use part::{part_text, read_part};
-pub use stream::{FeedStop, print_feed};
+pub use form::Printed;
+pub use part::{part_text, put_head, read_part};
+pub use stream::{FeedStop, print_feed, print_line, stop_of};
+pub use text::{put_end, put_first, put_first_list, put_next, put_next_list, put_string};
+pub use words::Kind;

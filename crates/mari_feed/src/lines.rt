@@ -5,7 +5,7 @@ ghost use Rattle.mari_lines.specs.declared.line.Line.TheVariants as line;
 ghost use Rattle.mari_feed.specs.Values.{zone_value, border_value, bid_value, operator_value, provider_value};
 
 use crate::fault::FeedFault;
-use crate::form::Form;
+use crate::form::{Form, Printed};
 use crate::members::Members;
 use crate::numbers::{Area, Flow, Megawatts};
 use crate::text::{put_end, put_first, put_next};
@@ -14,7 +14,7 @@ use mari_units::{Cents, Memory, Name, Quarters};
 use serde_json::Value;
 use std::alloc::Global;
 
-impl Form for ZoneLine {
+impl Printed for ZoneLine {
     type Item = ZoneLine;
 
     ghost written = { zone_value };
@@ -29,7 +29,9 @@ impl Form for ZoneLine {
         put_next::<Cents>(text, "price", &zone.price)?;
         put_end(text)
     }
+}
 
+impl Form for ZoneLine {
     fn read(alloc: Global, value: &Value) -> Result<ZoneLine, FeedFault> {
         let mut members = Members::of(value)?;
         let area = members.item::<Area>(alloc, "area")?;
@@ -48,7 +50,7 @@ impl Form for ZoneLine {
     }
 }
 
-impl Form for BorderLine {
+impl Printed for BorderLine {
     type Item = BorderLine;
 
     ghost written = { border_value };
@@ -62,7 +64,9 @@ impl Form for BorderLine {
         put_next::<Name>(text, "to", &border.to)?;
         put_end(text)
     }
+}
 
+impl Form for BorderLine {
     fn read(alloc: Global, value: &Value) -> Result<BorderLine, FeedFault> {
         let mut members = Members::of(value)?;
         let flow = members.item::<Flow>(alloc, "flow")?;
@@ -79,7 +83,7 @@ impl Form for BorderLine {
     }
 }
 
-impl Form for BidLine {
+impl Printed for BidLine {
     type Item = BidLine;
 
     ghost written = { bid_value };
@@ -91,7 +95,9 @@ impl Form for BidLine {
         put_next::<Megawatts>(text, "mw", &bid.mw)?;
         put_end(text)
     }
+}
 
+impl Form for BidLine {
     fn read(alloc: Global, value: &Value) -> Result<BidLine, FeedFault> {
         let mut members = Members::of(value)?;
         let id = members.item::<Name>(alloc, "id")?;
@@ -101,7 +107,7 @@ impl Form for BidLine {
     }
 }
 
-impl Form for MoneyLine {
+impl Printed for MoneyLine {
     type Item = MoneyLine;
 
     ghost written = { operator_value };
@@ -115,7 +121,9 @@ impl Form for MoneyLine {
         put_next::<Quarters>(text, "rent", &operator.rent)?;
         put_end(text)
     }
+}
 
+impl Form for MoneyLine {
     fn read(alloc: Global, value: &Value) -> Result<MoneyLine, FeedFault> {
         let mut members = Members::of(value)?;
         let name = members.item::<Name>(alloc, "name")?;
@@ -132,7 +140,7 @@ impl Form for MoneyLine {
     }
 }
 
-impl Form for AmountLine {
+impl Printed for AmountLine {
     type Item = AmountLine;
 
     ghost written = { provider_value };
@@ -144,7 +152,9 @@ impl Form for AmountLine {
         put_next::<Name>(text, "name", &provider.name)?;
         put_end(text)
     }
+}
 
+impl Form for AmountLine {
     fn read(alloc: Global, value: &Value) -> Result<AmountLine, FeedFault> {
         let mut members = Members::of(value)?;
         let amount = members.item::<Quarters>(alloc, "amount")?;

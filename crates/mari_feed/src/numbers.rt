@@ -12,7 +12,7 @@ ghost use Rattle.mari_feed.specs.Reading.{Reads};
 ghost use Rattle.mari_feed.specs.Values.{natural, whole, price_value, money_value, zone_number};
 
 use crate::fault::FeedFault;
-use crate::form::Form;
+use crate::form::{Form, Printed};
 use itoa::Buffer;
 use mari_lines::MOST_MONEY;
 use mari_units::{
@@ -101,7 +101,7 @@ fn read_whole(value: &Value, greatest: i64) -> Result<i64, FeedFault>
 /// A quantity of an order, in MW.
 pub struct Megawatts;
 
-impl Form for Megawatts {
+impl Printed for Megawatts {
     ghost use Rattle.mari_units.specs.declared.limits.TheConstants.{MOST_MW};
 
     type Item = u32;
@@ -113,7 +113,9 @@ impl Form for Megawatts {
     fn put(text: &mut Vec<u8>, mw: &u32) -> Result<(), Memory> {
         put_natural(text, u64::from(*mw))
     }
+}
 
+impl Form for Megawatts {
     fn read(_alloc: Global, value: &Value) -> Result<u32, FeedFault> {
         read_number(value, 0, MOST_MW)
     }
@@ -122,7 +124,7 @@ impl Form for Megawatts {
 /// A flow over a border, in MW.
 pub struct Flow;
 
-impl Form for Flow {
+impl Printed for Flow {
     ghost use Rattle.mari_units.specs.declared.limits.TheConstants.{MOST_FLOW};
 
     type Item = i64;
@@ -134,7 +136,9 @@ impl Form for Flow {
     fn put(text: &mut Vec<u8>, flow: &i64) -> Result<(), Memory> {
         put_whole(text, *flow)
     }
+}
 
+impl Form for Flow {
     fn read(_alloc: Global, value: &Value) -> Result<i64, FeedFault> {
         read_whole(value, i64::from(MOST_FLOW))
     }
@@ -143,7 +147,7 @@ impl Form for Flow {
 /// A zone's number: from 1 in the feed, and from 0 elsewhere.
 pub struct ZoneNumber;
 
-impl Form for ZoneNumber {
+impl Printed for ZoneNumber {
     type Item = u32;
 
     ghost written = { zone_number };
@@ -153,7 +157,9 @@ impl Form for ZoneNumber {
     fn put(text: &mut Vec<u8>, zone: &u32) -> Result<(), Memory> {
         put_natural(text, u64::from(*zone + 1))
     }
+}
 
+impl Form for ZoneNumber {
     fn read(_alloc: Global, value: &Value) -> Result<u32, FeedFault> {
         let number = read_number(value, 1, MOST_ZONES as u32)?;
         Ok(number - 1)
@@ -163,7 +169,7 @@ impl Form for ZoneNumber {
 /// A welfare, in quarter-cents.
 pub struct Welfare;
 
-impl Form for Welfare {
+impl Printed for Welfare {
     type Item = u64;
 
     ghost written = { natural };
@@ -173,13 +179,15 @@ impl Form for Welfare {
     fn put(text: &mut Vec<u8>, welfare: &u64) -> Result<(), Memory> {
         put_natural(text, *welfare)
     }
+}
 
+impl Form for Welfare {
     fn read(_alloc: Global, value: &Value) -> Result<u64, FeedFault> {
         read_natural(value, 0, i64::MAX as u64)
     }
 }
 
-impl Form for Cents {
+impl Printed for Cents {
     type Item = Cents;
 
     ghost written = { price_value };
@@ -189,13 +197,15 @@ impl Form for Cents {
     fn put(text: &mut Vec<u8>, price: &Cents) -> Result<(), Memory> {
         put_whole(text, price.0)
     }
+}
 
+impl Form for Cents {
     fn read(_alloc: Global, value: &Value) -> Result<Cents, FeedFault> {
         Ok(Cents(read_whole(value, CAP)?))
     }
 }
 
-impl Form for Quarters {
+impl Printed for Quarters {
     type Item = Quarters;
 
     ghost written = { money_value };
@@ -205,7 +215,9 @@ impl Form for Quarters {
     fn put(text: &mut Vec<u8>, money: &Quarters) -> Result<(), Memory> {
         put_whole(text, money.0 as i64)
     }
+}
 
+impl Form for Quarters {
     fn read(_alloc: Global, value: &Value) -> Result<Quarters, FeedFault> {
         let money = read_whole(value, MOST_MONEY as i64)?;
         Ok(Quarters(i128::from(money)))
@@ -215,7 +227,7 @@ impl Form for Quarters {
 /// The number of an area.
 pub struct Area;
 
-impl Form for Area {
+impl Printed for Area {
     type Item = u32;
 
     ghost written = { natural };
@@ -225,7 +237,9 @@ impl Form for Area {
     fn put(text: &mut Vec<u8>, number: &u32) -> Result<(), Memory> {
         put_natural(text, u64::from(*number))
     }
+}
 
+impl Form for Area {
     fn read(_alloc: Global, value: &Value) -> Result<u32, FeedFault> {
         read_number(value, 1, MOST_ZONES as u32)
     }
@@ -234,7 +248,7 @@ impl Form for Area {
 /// A number of nodes of a search tree.
 pub struct Nodes;
 
-impl Form for Nodes {
+impl Printed for Nodes {
     type Item = u32;
 
     ghost written = { natural };
@@ -244,7 +258,9 @@ impl Form for Nodes {
     fn put(text: &mut Vec<u8>, number: &u32) -> Result<(), Memory> {
         put_natural(text, u64::from(*number))
     }
+}
 
+impl Form for Nodes {
     fn read(_alloc: Global, value: &Value) -> Result<u32, FeedFault> {
         read_number(value, 1, MOST_NODES)
     }
@@ -253,7 +269,7 @@ impl Form for Nodes {
 /// The number of a quarter hour, or how many a day has.
 pub struct Quarter;
 
-impl Form for Quarter {
+impl Printed for Quarter {
     type Item = u32;
 
     ghost written = { natural };
@@ -263,7 +279,9 @@ impl Form for Quarter {
     fn put(text: &mut Vec<u8>, number: &u32) -> Result<(), Memory> {
         put_natural(text, u64::from(*number))
     }
+}
 
+impl Form for Quarter {
     fn read(_alloc: Global, value: &Value) -> Result<u32, FeedFault> {
         read_number(value, 1, MOST_QUARTERS)
     }
@@ -272,7 +290,7 @@ impl Form for Quarter {
 /// The number of a run.
 pub struct Run;
 
-impl Form for Run {
+impl Printed for Run {
     type Item = u32;
 
     ghost written = { natural };
@@ -282,7 +300,9 @@ impl Form for Run {
     fn put(text: &mut Vec<u8>, number: &u32) -> Result<(), Memory> {
         put_natural(text, u64::from(*number))
     }
+}
 
+impl Form for Run {
     fn read(_alloc: Global, value: &Value) -> Result<u32, FeedFault> {
         read_number(value, 1, MOST_RUNS as u32)
     }

@@ -13,7 +13,7 @@ ghost use Rattle.mari_feed.specs.Values.{head_value, part_value};
 
 use crate::block::{put_totals, read_totals};
 use crate::fault::FeedFault;
-use crate::form::Form;
+use crate::form::{Form, Printed};
 use crate::members::{Members, has_key};
 use crate::numbers::{Nodes, Quarter};
 use crate::text::{put_end, put_first, put_next};
@@ -24,7 +24,7 @@ use serde_json::Value;
 use std::alloc::Global;
 
 /// Appends a head.
-fn put_head(text: &mut Vec<u8>, date: &Name, quarters: u32, budget: u32) -> Result<(), Memory>
+pub fn put_head(text: &mut Vec<u8>, date: &Name, quarters: u32, budget: u32) -> Result<(), Memory>
     requires { InRange (line.Head date.now quarters budget) }
     ensures { OnOk result (text.new.items ≡ text.old.items ++ compact_text (head_value date.now quarters budget)) }
 {

@@ -1,6 +1,6 @@
 //! The feed of a page that is read in pieces.
 
-ghost use Rattle.std.specs.Prelude.{◌≡◌, ℕ, List, Result as Res, Some, Err};
+ghost use Rattle.std.specs.Prelude.{◌≡◌, ◌++◌, ◌∷◌, [], ℕ, List, Result as Res, Some, Err};
 ghost use Rattle.mari_io.specs.Outside.{Counts, Pages, counted, page_of};
 ghost use Rattle.mari_io.specs.declared.shelf.Fetch.TheVariants as fetch;
 ghost use Rattle.mari_publish.specs.Faults.{IsOutcome};
@@ -8,7 +8,7 @@ ghost use Rattle.mari_publish.specs.declared.fault.TextFault.{TextFault as TheTe
 ghost use Rattle.mari_publish.specs.declared.publication.Publication.{Publication as ThePublication};
 ghost use Rattle.mari_publish.specs.Ranges.{PartFits};
 ghost use Rattle.mari_publish.specs.Streams.{AsksForPage};
-ghost use Rattle.mari_feed.specs.Streams.{FeedStates, IsFeedFetch, IsWrapped, SameAsRead, WroteLine, feed_stop};
+ghost use Rattle.mari_feed.specs.Streams.{FeedStates, IsFeedFetch, IsWrapped, SameAsRead, WroteText, feed_stop, line_of};
 
 use crate::part::part_text;
 use mari_io::{Fetch, Shelf, Sink, write_all};
@@ -29,23 +29,31 @@ pub enum FeedStop {
     Memory,
 }
 
+/// Prints a text as a line.
+pub fn print_line<K: Sink>(mut text: Vec<u8>, sink: &mut K) -> Result<(), FeedStop>
+    ensures wrote { WroteText (text.items ++ 10 ∷ []) (K.taken sink.old) (K.taken sink.new) result }
+    ensures cause { Counts (result ≡ Err FeedStop.Sink) (K.faults sink.old) (K.faults sink.new) }
+{
+    if put(&mut text, b"\n").is_err() {
+        return Err(FeedStop::Memory);
+    }
+    match write_all(sink, &text) {
+        Ok(()) => Ok(()),
+        Err(_) => Err(FeedStop::Sink),
+    }
+}
+
 /// Prints the line of a part.
 fn print_part<K: Sink>(alloc: Global, part: Part, sink: &mut K) -> Result<(), FeedStop>
     requires { PartFits part }
-    ensures wrote { WroteLine part (K.taken sink.old) (K.taken sink.new) result }
+    ensures wrote { WroteText (line_of part) (K.taken sink.old) (K.taken sink.new) result }
     ensures cause { Counts (result ≡ Err FeedStop.Sink) (K.faults sink.old) (K.faults sink.new) }
 {
     let text = part_text(alloc, &part);
     drop(part);
-    let Ok(mut line) = text else {
-        return Err(FeedStop::Memory);
-    };
-    if put(&mut line, b"\n").is_err() {
-        return Err(FeedStop::Memory);
-    }
-    match write_all(sink, &line) {
-        Ok(()) => Ok(()),
-        Err(_) => Err(FeedStop::Sink),
+    match text {
+        Ok(text) => print_line(text, sink),
+        Err(_) => Err(FeedStop::Memory),
     }
 }
 
@@ -74,7 +82,7 @@ impl<K: Sink> PartsSoFar<K> for FeedSoFar {
 }
 
 /// Why the printing stops, by why the reading does.
-fn stop_of(stop: ReadStop<FeedStop>) -> FeedStop
+pub fn stop_of(stop: ReadStop<FeedStop>) -> FeedStop
     ensures { result ≡ feed_stop stop }
 {
     match stop {

@@ -7,7 +7,7 @@ ghost use Rattle.serde_json.specs.Written.{compact_text};
 ghost use Rattle.mari_feed.specs.Plain.{is_plain_text};
 ghost use Rattle.mari_feed.specs.Values.{list_of};
 
-use crate::form::Form;
+use crate::form::Printed;
 use mari_units::{Memory, put};
 
 /// Appends a string that needs no escape.
@@ -21,7 +21,7 @@ pub fn put_string(text: &mut Vec<u8>, string: &[u8]) -> Result<(), Memory>
 }
 
 /// Appends a list.
-pub fn put_list<F: Form>(text: &mut Vec<u8>, items: &[F::Item]) -> Result<(), Memory>
+pub fn put_list<F: Printed>(text: &mut Vec<u8>, items: &[F::Item]) -> Result<(), Memory>
     requires { All F.InItsRange items.now }
     ensures { OnOk result (text.new.items ≡ text.old.items ++ compact_text (list_of F.written items.now)) }
 {
@@ -47,7 +47,7 @@ fn put_key(text: &mut Vec<u8>, key: &str) -> Result<(), Memory>
 }
 
 /// Appends the beginning of an object, and its first member.
-pub fn put_first<F: Form>(text: &mut Vec<u8>, key: &str, item: &F::Item) -> Result<(), Memory>
+pub fn put_first<F: Printed>(text: &mut Vec<u8>, key: &str, item: &F::Item) -> Result<(), Memory>
     requires key { is_plain_text key.now ≡ true }
     requires item { F.InItsRange item.now }
     ensures { OnOk result (text.new.items ≡ text.old.items ++ 123 ∷ (quoted key.now ++ 58 ∷ compact_text (F.written item.now))) }
@@ -58,7 +58,7 @@ pub fn put_first<F: Form>(text: &mut Vec<u8>, key: &str, item: &F::Item) -> Resu
 }
 
 /// The same where it is a list.
-pub fn put_first_list<F: Form>(
+pub fn put_first_list<F: Printed>(
     text: &mut Vec<u8>,
     key: &str,
     items: &[F::Item],
@@ -73,7 +73,7 @@ pub fn put_first_list<F: Form>(
 }
 
 /// Appends a further member.
-pub fn put_next<F: Form>(text: &mut Vec<u8>, key: &str, item: &F::Item) -> Result<(), Memory>
+pub fn put_next<F: Printed>(text: &mut Vec<u8>, key: &str, item: &F::Item) -> Result<(), Memory>
     requires key { is_plain_text key.now ≡ true }
     requires item { F.InItsRange item.now }
     ensures { OnOk result (text.new.items ≡ text.old.items ++ 44 ∷ (quoted key.now ++ 58 ∷ compact_text (F.written item.now))) }
@@ -84,7 +84,7 @@ pub fn put_next<F: Form>(text: &mut Vec<u8>, key: &str, item: &F::Item) -> Resul
 }
 
 /// The same where it is a list.
-pub fn put_next_list<F: Form>(
+pub fn put_next_list<F: Printed>(
     text: &mut Vec<u8>,
     key: &str,
     items: &[F::Item],

@@ -7,7 +7,7 @@ ghost use Rattle.mari_feed.specs.Ranges.{ConflictFits};
 ghost use Rattle.mari_feed.specs.Values.{bound_value, cut_value, conflict_value, item_value};
 
 use crate::fault::FeedFault;
-use crate::form::Form;
+use crate::form::{Form, Printed};
 use crate::members::{Members, has_key};
 use crate::numbers::{Flow, Megawatts, ZoneNumber};
 use crate::text::{put_end, put_first_list, put_next, put_next_list, put_string};
@@ -19,7 +19,7 @@ use mari_units::{Cents, MOST_BORDERS, MOST_ZONES, Memory};
 use serde_json::Value;
 use std::alloc::Global;
 
-impl Form for Prices {
+impl Printed for Prices {
     type Item = Prices;
 
     ghost written = { bound_value };
@@ -30,7 +30,9 @@ impl Form for Prices {
         put_first_list::<Cents>(text, "bound", prices.cents.as_slice())?;
         put_end(text)
     }
+}
 
+impl Form for Prices {
     fn read(alloc: Global, value: &Value) -> Result<Prices, FeedFault> {
         let mut members = Members::of(value)?;
         let cents = members.list::<Cents>(alloc, "bound", 1, MOST_ZONES)?;
@@ -39,7 +41,7 @@ impl Form for Prices {
     }
 }
 
-impl Form for Cut {
+impl Printed for Cut {
     type Item = Cut;
 
     ghost written = { cut_value };
@@ -51,7 +53,9 @@ impl Form for Cut {
         put_next::<CutSide>(text, "side", &cut.side)?;
         put_end(text)
     }
+}
 
+impl Form for Cut {
     fn read(alloc: Global, value: &Value) -> Result<Cut, FeedFault> {
         let mut members = Members::of(value)?;
         let zones = members.list::<ZoneNumber>(alloc, "cut", 1, MOST_ZONES)?;
@@ -64,7 +68,7 @@ impl Form for Cut {
     }
 }
 
-impl Form for Conflict {
+impl Printed for Conflict {
     type Item = Conflict;
 
     ghost written = { conflict_value };
@@ -78,7 +82,9 @@ impl Form for Conflict {
         put_next_list::<Megawatts>(text, "mws", conflict.activation.mw.as_slice())?;
         put_end(text)
     }
+}
 
+impl Form for Conflict {
     fn read(alloc: Global, value: &Value) -> Result<Conflict, FeedFault> {
         let mut members = Members::of(value)?;
         let cents = members.list::<Cents>(alloc, "at", 1, MOST_ZONES)?;
@@ -94,7 +100,7 @@ impl Form for Conflict {
     }
 }
 
-impl Form for TreeItem {
+impl Printed for TreeItem {
     type Item = TreeItem;
 
     ghost written = { item_value };
@@ -109,7 +115,9 @@ impl Form for TreeItem {
             TreeItem::Leaf(Leaf::Conflict(conflict)) => Conflict::put(text, conflict),
         }
     }
+}
 
+impl Form for TreeItem {
     fn read(alloc: Global, value: &Value) -> Result<TreeItem, FeedFault> {
         if let Some(text) = value.as_str() {
             if is_same(text, "branch") {

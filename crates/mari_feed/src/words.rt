@@ -7,7 +7,7 @@ ghost use Rattle.mari_lines.specs.Ranges.{IsDate};
 ghost use Rattle.mari_feed.specs.Values.{kind_value, side_value};
 
 use crate::fault::FeedFault;
-use crate::form::Form;
+use crate::form::{Form, Printed};
 use crate::text::put_string;
 use mari_lines::is_date;
 use mari_market::CutSide;
@@ -22,7 +22,7 @@ pub fn is_same(text: &str, other: &str) -> bool
     text == other
 }
 
-impl Form for Name {
+impl Printed for Name {
     type Item = Name;
 
     ghost written = { string };
@@ -32,7 +32,9 @@ impl Form for Name {
     fn put(text: &mut Vec<u8>, name: &Name) -> Result<(), Memory> {
         put_string(text, name.bytes())
     }
+}
 
+impl Form for Name {
     fn read(alloc: Global, value: &Value) -> Result<Name, FeedFault> {
         let Some(text) = value.as_str() else {
             return Err(FeedFault::NotAPart);
@@ -48,7 +50,7 @@ impl Form for Name {
 /// A date.
 pub struct Date;
 
-impl Form for Date {
+impl Printed for Date {
     type Item = Name;
 
     ghost written = { string };
@@ -58,7 +60,9 @@ impl Form for Date {
     fn put(text: &mut Vec<u8>, date: &Name) -> Result<(), Memory> {
         put_string(text, date.bytes())
     }
+}
 
+impl Form for Date {
     fn read(alloc: Global, value: &Value) -> Result<Name, FeedFault> {
         let name = Name::read(alloc, value)?;
         if !is_date(name.bytes()) {
@@ -71,7 +75,7 @@ impl Form for Date {
 /// The kind of a run: whether it is a direct run.
 pub struct Kind;
 
-impl Form for Kind {
+impl Printed for Kind {
     type Item = bool;
 
     ghost written = { kind_value };
@@ -85,7 +89,9 @@ impl Form for Kind {
             put_string(text, b"scheduled")
         }
     }
+}
 
+impl Form for Kind {
     fn read(_alloc: Global, value: &Value) -> Result<bool, FeedFault> {
         let Some(text) = value.as_str() else {
             return Err(FeedFault::NotAPart);
@@ -100,7 +106,7 @@ impl Form for Kind {
     }
 }
 
-impl Form for CutSide {
+impl Printed for CutSide {
     type Item = CutSide;
 
     ghost written = { side_value };
@@ -113,7 +119,9 @@ impl Form for CutSide {
             CutSide::In => put_string(text, b"in"),
         }
     }
+}
 
+impl Form for CutSide {
     fn read(_alloc: Global, value: &Value) -> Result<CutSide, FeedFault> {
         let Some(text) = value.as_str() else {
             return Err(FeedFault::NotAPart);

@@ -2,3 +2,4 @@ pub mod Budgets
 pub mod Causes
 pub mod Checks
 pub mod Promised
+pub mod Feeds

@@ -19,12 +19,16 @@ use Rattle.mari_reach_text.specs.Texts.{IsReachText, ReachPublication}
 use Rattle.mari_reach_check.specs.Streams.{SaysOf, StreamStates}
 use Rattle.mari_reach_check.specs.declared.verdict.ReachVerdict.{ReachVerdict}
 use Rattle.mari_reach_check.specs.declared.verdict.ReachVerdict.TheVariants as verdict
+use Rattle.mari_feed.specs.Streams.{IsFeedFetch}
+use Rattle.mari_feed.specs.declared.stream.FeedStop.{FeedStop}
+use Rattle.mari_feed.specs.declared.stream.FeedStop.TheVariants as stop
+use Rattle.mari_reach_feed.specs.Streams.{FeedStates}
 use Rattle.mari_answers.specs.Lines.{invalid_line, pair_line}
 use Rattle.mari_answers.specs.Reports.{Reports, ReportsNoBooks, ReportsNoPage, ReportsText, WhereReported}
 use Rattle.mari_answers.specs.declared.status.Status.{Status}
 use Rattle.mari_answers.specs.declared.status.Status.TheVariants as status
 use Rattle.mari_reach_commands.specs.Words.{Job, Task, usage_line}
-use Rattle.mari_reach_commands.specs.Words.Task.{Checks, Clears}
+use Rattle.mari_reach_commands.specs.Words.Task.{Checks, Clears, Feeds}
 
 -- the status of a day, by how it ended
 abbrev pub status_of : ReachEnd → Status
@@ -87,12 +91,31 @@ pub data ReportsCheck (pages : Option Pages) (failed : Type 0) (folder : List �
       → ReportsCheck pages failed folder before after result
   OfNoPage : LacksBooks pages failed folder before after result → ReportsCheck pages failed folder before after result
 
+-- how the printing of a feed is reported by how it ended: nothing more is printed; or the line of its status is
+abbrev pub ReportsStop : {T : Type 0} → Result T FeedStop → (before after : Option (List ℕ)) → Status → Type 0
+ReportsStop (Ok done) before after result = (result ≡ status.Done) × (after ≡ before)
+ReportsStop (Err (stop.Fetch why)) before after result = ReportsNoPage PUBLICATION why before after result
+ReportsStop (Err (stop.Text fault)) before after result = ReportsText fault before after result
+ReportsStop (Err stop.Sink) before after result = (result ≡ status.WriteFault) × (after ≡ before)
+ReportsStop (Err stop.Memory) before after result = (result ≡ status.Memory) × (after ≡ before)
+
+-- how the feed of a folder is reported: lines of the publication's parts are printed, as its printing ended, and then the line
+-- of the status; that a call of the shelf failed is reported only where one did
+pub record ReportsFeed (pages : Option Pages) (failed : Type 0) (folder : List ℕ) (before after : Option (List ℕ)) (result : Status) : Type 0 where
+  pub between : Option (List ℕ)
+  pub end : Result (Unit {0}) FeedStop
+  pub cause : IsFeedFetch fetch.Failed end → failed
+  pub states : WhereReported pages (λ reported. FeedStates (publication_of reported folder) before between end)
+  pub reports : ReportsStop end between after result
+
 -- what an answer says: the words are no command, and the usage line is written; or the folder is reported whose day is to be
--- answered, or whose publication is to be checked; or there was no memory for the words
+-- answered, or whose publication is to be checked or printed as a feed; or there was no memory for the words
 pub data Answers (asked : Option Task) (pages : Option Pages) (failed : Type 0) (before after : Option (List ℕ)) (result : Status) : Type 0 where
   OfUsage : asked ≡ None → Reports usage_line status.Usage before after result → Answers asked pages failed before after result
   OfFolder : (job : Job) → asked ≡ Some (Clears job) → ReportsFolder pages failed job.folder job.nodes before after result
       → Answers asked pages failed before after result
   OfCheck : (folder : List ℕ) → asked ≡ Some (Checks folder) → ReportsCheck pages failed folder before after result
+      → Answers asked pages failed before after result
+  OfFeed : (folder : List ℕ) → asked ≡ Some (Feeds folder) → ReportsFeed pages failed folder before after result
       → Answers asked pages failed before after result
   Starved : result ≡ status.Memory → after ≡ before → Answers asked pages failed before after result

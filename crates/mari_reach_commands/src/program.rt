@@ -1,14 +1,15 @@
 //! The program over any shelf and sink.
 
-ghost use Rattle.std.specs.Prelude.{◌≡◌, Some, None, map, string_bytes};
+ghost use Rattle.std.specs.Prelude.{◌≡◌, ◌≤◌, ◌+◌, ℕ, List, Some, None, map, string_bytes};
 ghost use Rattle.mari_io.specs.Outside.{Counts, Pages, Rose};
 ghost use Rattle.mari_market.specs.Clearing.{IsBudget};
 ghost use Rattle.mari_reach_commands.specs.Answers.{Answers, ReportsFolder, status_of as status_of_end};
 ghost use Rattle.mari_reach_commands.specs.Promise.{KeepsPromise};
 ghost use Rattle.mari_reach_commands.specs.Words.{Job as JobAsked, task_at};
-ghost use Rattle.mari_reach_commands.specs.Words.Task.{Clears};
+ghost use Rattle.mari_reach_commands.specs.Words.Task.{Clears, Feeds};
 
 use crate::checking::check;
+use crate::feeding::feed;
 use crate::usage::usage_line;
 use crate::words::{Task, read_task};
 use mari_answers::{Status, say, say_no_books};
@@ -68,8 +69,10 @@ fn clear<S: Shelf, K: Sink>(
 /// - `clear FOLDER [--nodes N]` answers each run of the folder's day and prints the day as it is made. A tree has at most N
 ///   items, 1 to `MOST_NODES`, or `USUAL_NODES` where the words don't say.
 /// - `check FOLDER` checks the folder's publication.txt, which is read in pieces, against its market files.
+/// - `feed FOLDER` prints the folder's publication.txt, which is read in pieces, as JSON: a line for each of its parts.
 ///
-/// The market files of the folder are fetched in their order and then read in that order. It uses only calls that return.
+/// For the first two the market files of the folder are fetched in their order and then read in that order. It uses only calls
+/// that return.
 pub fn run_reach<S: Shelf, K: Sink>(
     alloc: Global,
     words: &[String],
@@ -86,6 +89,9 @@ pub fn run_reach<S: Shelf, K: Sink>(
     // Where the words are no command, nothing is fetched.
     ensures untouched { task_at (map string_bytes words.now) ≡ None → S.fetches shelf.new ≡ S.fetches shelf.old }
 
+    // For a feed one page is named.
+    ensures one { (folder : List ℕ) → task_at (map string_bytes words.now) ≡ Some (Feeds folder) → S.named shelf.new ≤ S.named shelf.old + 1 }
+
     // Why a page wasn't had, or a text not written.
     ensures read_fault { Counts (result ≡ Status.ReadFault) (S.faults shelf.old) (S.faults shelf.new) }
     ensures missing { Counts (result ≡ Status.Missing) (S.misses shelf.old) (S.misses shelf.new) }
@@ -95,6 +101,7 @@ pub fn run_reach<S: Shelf, K: Sink>(
     match read_task(alloc, words) {
         Ok(Task::Clear { folder, nodes }) => clear(alloc, shelf, sink, &folder, nodes),
         Ok(Task::Check { folder }) => check(alloc, shelf, sink, &folder),
+        Ok(Task::Feed { folder }) => feed(alloc, shelf, sink, &folder),
         Err(WordsFault::Usage) => say(sink, usage_line(), Status::Usage),
         Err(WordsFault::Memory) => Status::Memory,
     }

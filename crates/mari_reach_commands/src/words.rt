@@ -23,6 +23,11 @@ pub enum Task {
         /// The folder.
         folder: String,
     },
+    /// The publication of a folder is to be printed as a feed.
+    Feed {
+        /// The folder.
+        folder: String,
+    },
 }
 
 /// Whether a word names the option of `mari` that this program doesn't have.
@@ -51,12 +56,13 @@ fn task_of(command: Command) -> Option<Task>
     match command {
         Command::Clear { folder, nodes, .. } => Some(Task::Clear { folder, nodes }),
         Command::Check { folder } => Some(Task::Check { folder }),
+        Command::Feed { folder } => Some(Task::Feed { folder }),
         _ => None,
     }
 }
 
-/// What the words after the program's name ask for: those by which `mari clear` is called, without its workers, or `mari
-/// check`.
+/// What the words after the program's name ask for: those by which `mari clear` is called, without its workers, `mari
+/// check`, or `mari feed`.
 pub fn read_task(alloc: Global, words: &[String]) -> Result<Task, WordsFault>
     ensures { Reads result (task_at (map string_bytes words.now)) }
 {

@@ -152,7 +152,7 @@ each_item : (tree : List NamedItem) → AllByRecursion ItemFits tree → All Ite
 each_item [] a = All-nil ItemFits
 each_item (i ∷ is) a = cons_all ItemFits i is a.0 (each_item is a.1)
 
-block_fits : (b : NamedBlock) → FullFits (first_block b) → IsClaim b.claim → (b.block.tree ≡ []) × AllByRecursion ItemFits b.tree → NamedFits b
+pub block_fits : (b : NamedBlock) → FullFits (first_block b) → IsClaim b.claim → (b.block.tree ≡ []) × AllByRecursion ItemFits b.tree → NamedFits b
 block_fits b f c t = record {
   heading = f.heading;
   claim = c;

@@ -1,15 +1,15 @@
-use Rattle.std.proofs.Common.{◌∙◌, [], ◌∷◌, ◌++◌, ap, codes}
-use Rattle.mari_feed.specs.Texts.{first_text, next_text}
+use Rattle.std.proofs.Common.{[], ◌∷◌, codes}
 use Rattle.mari_feed.specs.Values.{bid_value, border_value, kind_value, list_of, natural}
-use Rattle.mari_feed.proofs.Opened.{further, further_last, opened}
+use Rattle.mari_feed.proofs.Opened.{further_last}
+use Rattle.mari_feed.proofs.Plainly.{but_tree}
 use Rattle.mari_feed.proofs.block.put_lines.Goals as goal
+
+pub put_market-requires : goal.put_market-requires
+put_market-requires c = but_tree c.args.block.now c.requires
 
 pub returns : goal.returns
 returns c =
-    let step1 = opened c.args.text.now.items c.put_first_list.new.text.items (codes "bids") (list_of bid_value c.args.block.now.bids) (c.in_ok-put_first_list.ensures ∙ ap (λ xs. c.args.text.now.items ++ first_text (codes "bids") (list_of bid_value xs)) c.as_slice.ensures) in
-    let step2 = further c.args.text.now.items c.put_first_list.new.text.items c.put_next_list.new.text.items (codes "bids") (list_of bid_value c.args.block.now.bids) ([]) (codes "borders") (list_of border_value c.args.block.now.borders) step1 (c.in_ok-put_next_list.ensures ∙ ap (λ xs. c.put_first_list.new.text.items ++ next_text (codes "borders") (list_of border_value xs)) c.as_slice-2.ensures) in
-    let step3 = further c.args.text.now.items c.put_next_list.new.text.items c.put_next_list-2.new.text.items (codes "bids") (list_of bid_value c.args.block.now.bids) ((codes "borders", list_of border_value c.args.block.now.borders) ∷ []) (codes "demands") (list_of natural c.args.block.now.demands) step2 (c.in_ok-put_next_list-2.ensures ∙ ap (λ xs. c.put_next_list.new.text.items ++ next_text (codes "demands") (list_of natural xs)) c.as_slice-3.ensures) in
-    further_last c.put_next.result c.args.text.now.items c.put_next_list-2.new.text.items c.put_next.new.text.items (codes "bids")
+    further_last c.put_next.result c.args.text.now.items c.put_market.new.text.items c.put_next.new.text.items (codes "bids")
     (list_of bid_value c.args.block.now.bids)
     ((codes "borders", list_of border_value c.args.block.now.borders) ∷ (codes "demands", list_of natural c.args.block.now.demands) ∷ [])
-    (codes "kind") (kind_value c.args.block.now.heading.direct) step3 c.put_next.ensures
+    (codes "kind") (kind_value c.args.block.now.heading.direct) c.in_ok-put_market.ensures c.put_next.ensures

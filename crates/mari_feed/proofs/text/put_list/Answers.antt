@@ -10,7 +10,7 @@ loop-item-init g c = record { text = c.in_ok-put.ensures.put; later = refl }
 
 pub loop-item-preserved : goal.loop-item-preserved
 loop-item-preserved g c =
-    let f = g.F.Form.written in
+    let f = g.F.Printed.written in
     let i = c.loop-item.item-index in
     let begun = c.loop-item.invariant in
     record {
@@ -29,5 +29,5 @@ loop-item-preserved g c =
 
 pub returns : goal.returns
 returns g c =
-    all_items c.put-2.result g.F.Form.written c.args.items.now c.loop-item.item-index c.args.text.now.items c.loop-item.text.items
+    all_items c.put-2.result g.F.Printed.written c.args.items.now c.loop-item.item-index c.args.text.now.items c.loop-item.text.items
     c.put-2.new.text.items c.loop-item-test.false c.loop-item.invariant.text c.put-2.ensures.put

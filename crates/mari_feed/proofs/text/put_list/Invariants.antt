@@ -6,6 +6,6 @@ use Rattle.mari_feed.proofs.text.put_list.Given as goal
 -- the items so far stand after the bracket
 abbrev pub invariant-loop-item : goal.invariant-loop-item
 invariant-loop-item g l = record {
-  text : l.text.items ≡ l.fn.text.items ++ 91 ∷ joined (map g.F.Form.written (take l.item-index l.items));
+  text : l.text.items ≡ l.fn.text.items ++ 91 ∷ joined (map g.F.Printed.written (take l.item-index l.items));
   later : l.later ≡ nat_lt 0 l.item-index;
 }

@@ -1,7 +1,7 @@
 use Rattle.std.proofs.Common.{◌≡◌, Global, Option, Some, map, subst, arith, refl}
 use Rattle.std.specs.Prelude.{string_bytes}
 use Rattle.mari_reach_commands.proofs.Budgets.{budget-asked}
-use Rattle.mari_reach_commands.specs.Answers.Answers.{OfCheck, OfFolder, OfUsage, Starved}
+use Rattle.mari_reach_commands.specs.Answers.Answers.{OfCheck, OfFeed, OfFolder, OfUsage, Starved}
 use Rattle.mari_reach_commands.specs.Promise.{KeepsPromise}
 use Rattle.mari_reach_commands.specs.Words.{Job, Task}
 use Rattle.mari_reach_commands.specs.Words.Task.{Clears}
@@ -32,6 +32,30 @@ returns-in-Ok-Check-clause-promise g c = λ job reported is e. let there = rw c.
 
 pub returns-in-Ok-Check-clause-untouched : goal.returns-in-Ok-Check-clause-untouched
 returns-in-Ok-Check-clause-untouched g c = λ none. let there = rw c.in-Ok-Check.field-0-is at c.in-Ok-Check.ensures in absurd cc
+
+pub returns-in-Ok-Feed-clause-answers : goal.returns-in-Ok-Feed-clause-answers
+returns-in-Ok-Feed-clause-answers g c = OfFeed _ (rw c.in-Ok-Feed.field-0-is at c.in-Ok-Feed.ensures) (rw c.deref-in-Ok-Feed.ensures at c.feed.ensures.reports)
+
+pub returns-in-Ok-Feed-clause-promise : goal.returns-in-Ok-Feed-clause-promise
+returns-in-Ok-Feed-clause-promise g c = λ job reported is e. let there = rw c.in-Ok-Feed.field-0-is at c.in-Ok-Feed.ensures in absurd cc
+
+pub returns-in-Ok-Feed-clause-untouched : goal.returns-in-Ok-Feed-clause-untouched
+returns-in-Ok-Feed-clause-untouched g c = λ none. let there = rw c.in-Ok-Feed.field-0-is at c.in-Ok-Feed.ensures in absurd cc
+
+pub returns-in-Ok-Clear-clause-one : goal.returns-in-Ok-Clear-clause-one
+returns-in-Ok-Clear-clause-one g c = λ folder is. let there = rw c.in-Ok-Clear.field-0-is at c.in-Ok-Clear.ensures in absurd cc
+
+pub returns-in-Ok-Check-clause-one : goal.returns-in-Ok-Check-clause-one
+returns-in-Ok-Check-clause-one g c = λ folder is. let there = rw c.in-Ok-Check.field-0-is at c.in-Ok-Check.ensures in absurd cc
+
+pub returns-in-Ok-Feed-clause-one : goal.returns-in-Ok-Feed-clause-one
+returns-in-Ok-Feed-clause-one g c = λ folder is. c.feed.ensures.one
+
+pub returns-in-Err-Usage-clause-one : goal.returns-in-Err-Usage-clause-one
+returns-in-Err-Usage-clause-one g c = λ folder is. let none = rw c.in-Err-Usage.field-0-is at c.in-Err-Usage.ensures in absurd cc
+
+pub returns-in-Err-Memory-clause-one : goal.returns-in-Err-Memory-clause-one
+returns-in-Err-Memory-clause-one g c = λ folder is. omega arith
 
 pub returns-in-Err-Usage-clause-answers : goal.returns-in-Err-Usage-clause-answers
 returns-in-Err-Usage-clause-answers g c = OfUsage (rw c.in-Err-Usage.field-0-is at c.in-Err-Usage.ensures) (rw c.usage_line.ensures at c.say.ensures.reports)

@@ -1,0 +1,3 @@
+pub mod Plainly
+pub mod Fitting
+pub mod Feeding

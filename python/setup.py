@@ -1,6 +1,6 @@
-"""Puts the repository's shipped program into a wheel, where it is the manifest's and the machine can run it.
+"""Puts the repository's shipped programs into a wheel, where they are the manifest's and the machine can run them.
 
-All else stands in pyproject.toml. A wheel without the program is one for any machine.
+All else stands in pyproject.toml. A wheel without a program is one for any machine.
 """
 
 import hashlib
@@ -19,33 +19,42 @@ except ImportError:
 
 HERE = Path(__file__).resolve().parent
 RELEASE = next((place for place in (HERE / "release", HERE.parent / "release") if place.is_dir()), HERE)
-"""The shipped program and its manifest: in a source distribution, or in the repository."""
+"""The shipped programs and their manifest: in a source distribution, or in the repository."""
+PROGRAMS = {"mari": "mari", "reach": "mari_reach"}
+"""The names of the programs in a wheel, and in that folder."""
 
 
 def shipped():
-    """Whether the program is there, for this kind of machine, and the one that the manifest names."""
-    program, manifest = RELEASE / "mari", RELEASE / "manifest"
-    if not (program.is_file() and manifest.is_file()) or (platform.system(), platform.machine()) != ("Linux", "x86_64"):
-        return False
+    """By their names in a wheel the programs that are there, for this kind of machine, and that the manifest names."""
+    manifest = RELEASE / "manifest"
+    if not manifest.is_file() or (platform.system(), platform.machine()) != ("Linux", "x86_64"):
+        return {}
     wanted = dict(line.rsplit(" ", 1) for line in manifest.read_text().splitlines() if " " in line)
-    return hashlib.sha256(program.read_bytes()).hexdigest() == wanted.get("program mari")
+    there = {name: RELEASE / file for name, file in PROGRAMS.items() if (RELEASE / file).is_file()}
+    return {
+        name: program
+        for name, program in there.items()
+        if hashlib.sha256(program.read_bytes()).hexdigest() == wanted.get(f"program {program.name}")
+    }
 
 
 class BuildWithProgram(build_py):
-    """Copies the program beside the modules."""
+    """Copies the programs beside the modules."""
 
     def run(self):
         """Builds as always, and then copies."""
         super().run()
-        if shipped() and not getattr(self, "editable_mode", False):
-            place = Path(self.build_lib) / "mari" / "_program" / "mari"
+        if getattr(self, "editable_mode", False):
+            return
+        for name, program in shipped().items():
+            place = Path(self.build_lib) / "mari" / "_program" / name
             place.parent.mkdir(parents=True, exist_ok=True)
-            shutil.copyfile(RELEASE / "mari", place)
+            shutil.copyfile(program, place)
             place.chmod(0o755)
 
 
 class SourcesWithProgram(sdist):
-    """Takes the program and its manifest along, since a wheel is also made of the source distribution."""
+    """Takes the programs and their manifest along, since a wheel is also made of the source distribution."""
 
     def make_release_tree(self, base_dir, files):
         """Makes the tree as always, and then copies."""
@@ -53,8 +62,8 @@ class SourcesWithProgram(sdist):
         if shipped():
             place = Path(base_dir) / "release"
             place.mkdir()
-            for name in ("mari", "manifest"):
-                shutil.copy(RELEASE / name, place / name)
+            for file in (*shipped().values(), RELEASE / "manifest"):
+                shutil.copy(file, place / file.name)
 
 
 class OfMachine(Distribution):
@@ -62,7 +71,7 @@ class OfMachine(Distribution):
 
     def has_ext_modules(self):
         """As one with a compiled module would be."""
-        return shipped() or super().has_ext_modules()
+        return bool(shipped()) or super().has_ext_modules()
 
 
 class WheelOfMachine(bdist_wheel):

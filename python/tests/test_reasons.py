@@ -57,7 +57,7 @@ class Agreement(unittest.TestCase):
                 self.assertIn(why.bid, linked)
                 self.assertIn(why.rule, ("group", "parent", "indivisible"))
                 if why.rule == "indivisible":
-                    self.assertIn("the certificate's", why.text)
+                    self.assertRegex(why.text, "[Tt]he certificate")
             else:
                 self.assertLessEqual(why.margin, 0)
 

@@ -7,7 +7,7 @@ from mari.reasons import NO_RUN
 from mari.units import cents, quarter_cents
 
 DETAILED = 400      # of a tree with more items no bounds are shown
-NO_DAY = {"date": "", "quarters": 1, "budget": 0, "times": [], "zones": [], "borders": [], "positions": None,
+NO_DAY = {"date": "", "quarters": 1, "budget": 0, "form": 1, "times": [], "zones": [], "borders": [], "positions": None,
           "states": [state.value for state in State], "awaited": 0, "runs": [], "totals": False}
 PLACE = {state: place for place, state in enumerate(State)}
 LINKS = {"needs": "needs", "bars": "barred by", "technical": "barred by a direct activation of"}
@@ -29,9 +29,12 @@ def ledger_part(part):
             "providers": columns(part.providers, name=lambda row: row.provider, amount=lambda row: money(row.amount))}
 
 
+LETTERS = {"branch": "B", "price": "P", "bound": "o", "conflict": "x", "none": "n"}
+
+
 def letter(item):
-    """A tree's item in short: B branch, o bound, x conflict, i and u cuts of what comes in and goes out."""
-    return {"branch": "B", "bound": "o", "conflict": "x"}.get(item.kind) or ("i" if item.side == "in" else "u")
+    """A tree's item in short: one of LETTERS, or i and u for cuts of what comes in and goes out."""
+    return LETTERS.get(item.kind) or ("i" if item.side == "in" else "u")
 
 
 def ends(prices):
@@ -40,11 +43,18 @@ def ends(prices):
 
 def tree_part(tree):
     """The items in preorder as letters; by their places the zones of cuts and conflicts, and a bound's ends."""
-    leaves = [(at, item) for at, item in enumerate(tree) if item.kind != "branch"]
-    zones = {at: item.zones for at, item in leaves if item.kind != "bound"}
+    zones = {at: item.zones for at, item in enumerate(tree) if item.kind in ("cut", "conflict")}
     few = len(tree) <= DETAILED
-    bounds = {at: ends(item.prices) for at, item in leaves if few and item.kind == "bound"}
+    bounds = {at: ends(item.prices) for at, item in enumerate(tree) if few and item.kind == "bound"}
     return {"items": "".join(map(letter, tree)), "zones": zones, "bounds": bounds}
+
+
+def decisions_part(tree, zone_at):
+    """At what a tree of the second form branches, by the places of its items: bids, and zones with prices."""
+    few = tree if len(tree) <= DETAILED else []
+    gates = {at: item.bid for at, item in enumerate(few) if item.kind == "branch"}
+    prices = {at: [zone_at.get(item.zone), cents(item.price)] for at, item in enumerate(few) if item.kind == "price"}
+    return {"gates": gates, "prices": prices}
 
 
 class DayParts:
@@ -76,7 +86,7 @@ class DayParts:
         elif not self.head:
             if (part.date, part.quarters) != (self.folder.date, self.clock.quarters):
                 raise MariOtherFolder("publication.txt is of another day than day.csv")
-            self.head = {"budget": part.budget}
+            self.head = {"budget": part.budget, "form": part.form}
         else:
             if len(self.runs) != len(self.folder.runs):
                 raise MariOtherFolder("publication.txt has the totals, but runs are missing")
@@ -157,6 +167,8 @@ class DayParts:
         part["demands"].update(served=block.demands, unserved=[
             abs(demand.mw) - met if demand.at_any_price else 0 for demand, met in zip(demands, block.demands)])
         part.update(tree=tree_part(block.tree), **ledger_part(block))
+        if block.form == 2:
+            part["tree"].update(decisions_part(block.tree, self.zone_at))
         self.flows = [before + row.mw for before, row in zip(self.flows, block.borders)]
 
     def _in_short(self, run, block, part, bids, reasons):
@@ -165,6 +177,8 @@ class DayParts:
                  "asked": [sum(max(0, mw) for mw in asked), sum(max(0, -mw) for mw in asked)]}
         if not block.published:
             return {**short, "nodes": block.nodes}
+        if block.form == 2:
+            short["gap"] = None if block.first else money(block.gap)
         served = list(zip(asked, block.demands))
         upward = sum(why.mw for bid, why in zip(bids, reasons) if bid.direction == "up")
         return {**short, "price": part["zones"]["price"], "welfare": money(block.welfare),

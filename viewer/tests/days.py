@@ -13,6 +13,9 @@ TOP = os.path.dirname(VIEWER)
 BUILT = os.path.join(TOP, "crates", "mari_app", "out", "mari_app")
 SHIPPED = os.path.join(TOP, "release", "mari")
 PROGRAM = os.environ.get("MARI") or (BUILT if os.access(BUILT, os.X_OK) else SHIPPED)
+REACH_BUILT = os.path.join(TOP, "crates", "mari_reach_app", "out", "mari_reach_app")
+REACH_SHIPPED = os.path.join(TOP, "release", "mari_reach")
+REACH = os.environ.get("REACH") or (REACH_BUILT if os.access(REACH_BUILT, os.X_OK) else REACH_SHIPPED)
 sys.path[:0] = [VIEWER, HERE, os.path.join(TOP, "python", "src")]
 sys.dont_write_bytecode = True
 
@@ -46,22 +49,37 @@ class Days:
             shutil.copytree(os.path.join(TOP, "examples", name), folder, dirs_exist_ok=True)
         return folder
 
-    def day(self, name):
-        """A new folder with its publication. Of the invented day two runs are too large for so small a budget."""
-        folder = self.market(name)
-        if name not in self.cleared:
-            options = ["--nodes", "60"] if name == "fair" else []
-            self.cleared[name] = subprocess.run([PROGRAM, "clear", folder, *options], stdout=subprocess.PIPE,
-                                                check=False).stdout
+    def day(self, name, reach=False):
+        """A new folder with its publication, of the second form by reach.
+
+        Of the invented day some runs are too large for so small a budget: unpublished, or within a gap.
+        """
+        folder, key = self.market(name), (name, reach)
+        if key not in self.cleared:
+            options = ["--nodes", "4" if reach else "60"] if name == "fair" else []
+            self.cleared[key] = subprocess.run([REACH if reach else PROGRAM, "clear", folder, *options],
+                                               stdout=subprocess.PIPE, check=False).stdout
         with open(os.path.join(folder, "publication.txt"), "wb") as publication:
-            publication.write(self.cleared[name])
+            publication.write(self.cleared[key])
         return folder
 
-    def page_of(self, name):
+    def page_of(self, name, reach=False):
         """The path of a day's page."""
-        if name not in self.pages:
-            self.pages[name], _, _ = self.page(self.day(name))
-        return self.pages[name]
+        if (name, reach) not in self.pages:
+            self.pages[name, reach], _, _ = self.page(self.day(name, reach))
+        return self.pages[name, reach]
+
+    def reach(self):
+        """The path of reach; where it has no command `check`, of a script that checks by examples/checker."""
+        if b" check " in subprocess.run([REACH], stdout=subprocess.PIPE, check=False).stdout:
+            return REACH
+        path = os.path.join(self.empty(), "reach")
+        checker = os.path.join(TOP, "examples", "checker", "check.py")
+        with open(path, "w", encoding="utf-8") as script:
+            script.write(f'#!/bin/sh\n[ "$1" = check ] && exec "{sys.executable}" "{checker}" "$2"\n'
+                         f'exec "{REACH}" "$@"\n')
+        os.chmod(path, 0o755)
+        return path
 
     def page(self, folder):
         """(path of the page, exit code, what was said) of `show`."""

@@ -13,9 +13,9 @@ def open_browser():
 
 
 class PageTest(unittest.TestCase):
-    def show(self, name, fragment=""):
+    def show(self, name, fragment="", reach=False):
         """Opens the page of a day."""
-        self.browser.open(self.days.page_of(name), fragment)
+        self.browser.open(self.days.page_of(name, reach), fragment)
 
     def cells(self, selector):
         return [[cell.text for cell in row.find_elements("css selector", "td")]

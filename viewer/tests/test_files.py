@@ -1,19 +1,21 @@
-"""What is made of files, sound and damaged. Needs the program, and neither d3 nor a browser."""
+"""What is made of files, sound and damaged. Needs the programs, for `./view` d3 too, and no browser."""
 import contextlib
 import io
 import json
 import os
+import subprocess
 import unittest
 from unittest import mock
 
-from days import PROGRAM, Days, change, script
+from days import PROGRAM, TOP, Days, change, script
 
 from making.day_parts import DayParts
-from making.page import Page, json_text
+from making.page import D3, Page, json_text
 from mari import Day, Folder, MariError, Program, iter_parts
 from mari.publication import open_text
 
 show = script("show")
+NO_D3 = not os.path.isfile(D3)
 
 
 def made(folder):
@@ -112,6 +114,78 @@ class Sound(FileTest):
         text = json_text({"</script>": ["<!--", "&", "\u2028"]})
         self.assertFalse(set(text) & set("<>&\u2028"))
         self.assertEqual(json.loads(text), {"</script>": ["<!--", "&", "\u2028"]})
+
+
+class Second(FileTest):
+    """Days of the second form."""
+
+    def test_a_tree_has_its_decisions(self):
+        """Of docs/REACH.md: i1 closed, and then open. The other day's run is within a gap of one quarter-cent."""
+        summary, found = made(self.days.day("paradox-bid", reach=True))
+        self.assertEqual((summary["form"], summary["runs"][0]["gap"]), (2, None))
+        self.assertEqual(found["run-1"]["tree"], {
+            "items": "Bou", "zones": {2: [1]}, "bounds": {1: [9999900, 9999900]}, "gates": {0: "i1"}, "prices": {}})
+        folder = self.days.day("two-zones", reach=True)
+        change(folder, "publication.txt", "scheduled first", "scheduled within 0.0025")
+        change(folder, "publication.txt", "done 1 0", "done 0 1")
+        change(folder, "publication.txt", "tree 1\n", "tree 5\nprice B 59.99\nnone\nbranch b1\nnone\n")
+        summary, found = made(folder)
+        self.assertEqual(summary["runs"][0]["gap"], "1")
+        self.assertEqual(found["run-1"]["tree"], {
+            "items": "PnBno", "zones": {}, "bounds": {4: [2000, 6000]}, "gates": {2: "b1"}, "prices": {0: [1, 5999]}})
+
+    def test_the_first_form_has_no_gaps(self):
+        summary, found = self.made("paradox-bid")
+        self.assertEqual(summary["form"], 1)
+        self.assertNotIn("gap", summary["runs"][0])
+        self.assertNotIn("gates", found["run-1"]["tree"])
+
+    def test_the_words_are_those_of_explain(self):
+        folder = self.days.day("fair", reach=True)
+        summary, found = made(folder)
+        words = [text for name, part in found.items() if name.startswith("run-") for text in part["reasons"]["text"]]
+        self.assertEqual(words, [why.text for why in Day.read(folder).reasons()])
+        with open(os.path.join(folder, "publication.txt"), encoding="ascii") as text:
+            gaps = [line.split()[5] for line in text if line.startswith("run ") and " within " in line]
+        self.assertEqual([int(run["gap"]) for run in summary["runs"] if run["gap"]],
+                         [int(gap.replace(".", "")) // 25 for gap in gaps])
+
+    def test_faults(self):
+        folder = self.days.day("paradox-bid", reach=True)
+        change(folder, "publication.txt", "branch i1", "branch <i>")
+        with self.assertRaises(MariError) as caught:
+            made(folder)
+        self.assertEqual(str(caught.exception), "publication.txt line 9: should be the line branch")
+
+
+@unittest.skipIf(NO_D3, "d3 isn't installed")
+class View(FileTest):
+    """`./view` of either form."""
+
+    def view(self, *words):
+        environment = {**os.environ, "MARI": PROGRAM, "REACH": self.days.reach()}
+        done = subprocess.run([os.path.join(TOP, "view"), *words], env=environment, capture_output=True, check=False)
+        return done.returncode, done.stdout.decode().strip(), done.stderr.decode().strip()
+
+    def test_reach_clears_and_checks(self):
+        folder = self.days.market("paradox-bid")
+        page = os.path.join(folder, "day.html")
+        self.assertEqual(self.view(folder, "--reach", "--nodes", "2"), (0, page, ""))
+        with open(os.path.join(folder, "publication.txt"), encoding="ascii") as text:
+            self.assertEqual(next(text), "mari 2 2025-03-12 96 2\n")
+        self.assertEqual(self.view(folder), (0, page, ""))
+        change(folder, "publication.txt", "bid p1 40", "bid p1 39")
+        code, _, said = self.view(folder)
+        self.assertEqual(code, 7)
+        self.assertIn("publication.txt isn't the day of the folder's market files: invalid 1 ", said)
+
+    def test_words(self):
+        folder = self.days.market("paradox-bid")
+        usage = (2, "", "usage: ./view FOLDER [--reach [--nodes N]]")
+        for words in (["--reach"], [folder, "--nodes", "2"], [folder, "--reach", "--nodes"],
+                      [folder, "--reach", "--nodes", "0"], [folder, "--reach", "--nodes", "50001"], [folder, "more"]):
+            self.assertEqual(self.view(*words), usage, words)
+        self.assertEqual(self.view("--nodes=050000", "--reach", folder)[0], 0)
 
 
 class Damage(FileTest):

@@ -4,14 +4,14 @@ import re
 import subprocess
 import unittest
 
-from days import TOP, change, PROGRAM
+from days import TOP, change, PROGRAM, REACH
 from hostile_day import NAMES, renamed
 from page_test import PageTest, open_browser
 from pictures import take_pictures
 
 from making.day_parts import DayParts
 from making.page import D3, Page
-from mari import Day
+from mari import Day, Publication
 
 from selenium.webdriver.common.keys import Keys
 
@@ -71,8 +71,13 @@ class Reading(PageTest):
         self.assertEqual(len(self.browser.all("#figures .alarm")), 0)
 
     def test_the_trees_fit_the_gated_bids(self):
-        self.show("fair")
-        wrong = self.browser.driver.execute_async_script("""
+        for reach in (False, True):
+            self.show("fair", reach=reach)
+            self.assertEqual(self.wrong_trees(), [])
+
+    def wrong_trees(self):
+        """The runs of the page whose trees have other gates."""
+        return self.browser.driver.execute_async_script("""
           const done = arguments[arguments.length - 1];
           (async () => {
             const wrong = [];
@@ -82,7 +87,6 @@ class Reading(PageTest):
             }
             return wrong;
           })().then(done, (fault) => done(String(fault)));""")
-        self.assertEqual(wrong, [])
 
     def test_money_is_exact(self):
         self.show("two-zones")
@@ -94,6 +98,62 @@ class Reading(PageTest):
             self.assertEqual(self.browser.run("return numbers_module.euros(BigInt(arguments[0]))",
                                               quarters), text)
         self.assertEqual(self.browser.run("return numbers_module.price(-5)"), "\u22120.05")
+
+
+class Second(PageTest):
+    """Days of the second form."""
+
+    def titles(self, selector):
+        return [title.get_attribute("textContent") for title in self.browser.all(f"{selector} title")]
+
+    def test_gaps(self):
+        blocks = Publication.read(self.days.day("fair", reach=True)).blocks
+        gaps = [(block.run, f"{block.gap:,}") for block in blocks if block.gap is not None]
+        run, gap = gaps[0]
+        self.show("fair", f"#run={run}", reach=True)
+        self.assertIn(f"Welfare, within {gap} EUR of the best", self.figures())
+        self.assertIn(f", within {gap} EUR of the best", self.browser.text("#day-chart .reading"))
+        self.assertIn(f"that nothing is better by more than {gap} EUR", self.browser.text("#certificate h2"))
+        self.assertTrue(self.browser.text("#count").startswith(f"{16 - len(gaps)} first, {len(gaps)} within a gap"))
+        self.assertEqual(self.titles("#day-chart circle.gap"), [
+            f"Run {run}: no admissible activation is better by more than {gap} EUR" for run, gap in gaps])
+        self.browser.run("location.hash = arguments[0]", f"#run={run - 1}")
+        self.browser.drawn(run - 1)
+        self.assertIn("Welfare, first", self.figures())
+
+    def test_the_certificate_is_drawn(self):
+        self.show("paradox-bid", reach=True)
+        self.assertEqual(self.titles("#certificate .branches circle"), [
+            "branch at the gate of i1: left closed, right open"])
+        self.assertEqual(self.titles("#certificate path.leaf"), [
+            "bound at depth 1, potentials from 99,999.00 to 99,999.00 EUR/MWh; i1 closed",
+            "cut out at depth 1, zones Z; i1 open"])
+        self.assertEqual(self.published(), ["left"])
+
+    def published(self):
+        """Which side of each branch the published gates and prices take, from the root."""
+        ways = [way.get_attribute("d") for way in self.browser.all("#certificate path.way")]
+        ends = [[float(number) for number in re.findall(r"[0-9.]+", way)] for way in ways]
+        return ["left" if end[2] < end[0] else "right" for end in ends]
+
+    def test_a_branch_at_a_price(self):
+        """The price of B is 60.00 and b1 runs: above 59.99, and its gate would be open."""
+        folder = self.days.market("two-zones")
+        change(folder, "bids.csv", "60.00,0,100", "60.00,1,100")
+        with open(os.path.join(folder, "publication.txt"), "wb") as publication:
+            subprocess.run([REACH, "clear", folder], stdout=publication, check=True)
+        with open(os.path.join(folder, "publication.txt"), encoding="ascii") as text:
+            tree = re.search("tree [0-9]+\n(?:.*\n)*?(?=operator)", text.read())[0]
+        change(folder, "publication.txt", tree, "tree 5\nprice B 59.99\nnone\nbranch b1\nnone\nbound 20.00 60.00\n")
+        self.browser.open(self.days.page(folder)[0])
+        self.assertEqual(self.titles("#certificate .branches circle"), [
+            "branch at the price B 59.99: left at most that, right above it",
+            "branch at the gate of b1: left closed, right open"])
+        self.assertEqual(self.titles("#certificate path.leaf"), [
+            "none at depth 1; B at most 59.99", "none at depth 2; B above 59.99, b1 closed",
+            "bound at depth 2, potentials from 20.00 to 60.00 EUR/MWh; B above 59.99, b1 open"])
+        self.assertEqual(self.published(), ["right", "right"])
+        self.assertEqual([name.text for name in self.browser.all("#certificate .branches text")], ["B 59.99", "b1"])
 
 
 class Causes(PageTest):

@@ -28,7 +28,7 @@ from mari.errors import (
 from mari.folder import Folder, StrPath, problems
 from mari.lint import Finding, lint
 from mari.order import ordered
-from mari.program import Checked, Joint, Program, Worth, find_program
+from mari.program import Checked, Joint, Program, Reach, Reached, Worth, find_program
 from mari.publication import (
     Activation,
     Flow,
@@ -37,6 +37,7 @@ from mari.publication import (
     Publication,
     RunBlock,
     ZonePrice,
+    form_of,
     iter_blocks,
     iter_parts,
 )
@@ -49,6 +50,12 @@ __version__ = "0.3.0"
 def clear(folder: StrPath | Folder, *, nodes: int | None = None, workers: int | None = None) -> Day:
     """Clears a folder by the program, keeps its publication.txt where the folder is a path, and gives the day."""
     publication = Program().clear(folder, nodes=nodes, workers=workers)
+    return Day(folder if isinstance(folder, Folder) else Folder.read(folder), publication)
+
+
+def reach(folder: StrPath | Folder, *, nodes: int | None = None) -> Day:
+    """Clears a folder by the program of the second form, as `clear` does by the other."""
+    publication = Reach().clear(folder, nodes=nodes)
     return Day(folder if isinstance(folder, Folder) else Folder.read(folder), publication)
 
 
@@ -87,6 +94,8 @@ __all__ = [
     "Problem",
     "Program",
     "Publication",
+    "Reach",
+    "Reached",
     "Reason",
     "Reasons",
     "Run",
@@ -99,10 +108,12 @@ __all__ = [
     "ZonePrice",
     "clear",
     "find_program",
+    "form_of",
     "iter_blocks",
     "iter_parts",
     "lint",
     "ordered",
     "problems",
+    "reach",
     "reasons",
 ]

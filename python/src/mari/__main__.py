@@ -13,7 +13,8 @@ from mari.errors import MariError
 from mari.folder import Folder
 from mari.lint import lint
 from mari.order import ordered
-from mari.program import Program
+from mari.program import Program, Reach
+from mari.publication import form_of
 from mari.reasons import Reason, State
 
 
@@ -39,11 +40,13 @@ def parser() -> argparse.ArgumentParser:
     for name in ("explain", "summary", "csv"):
         text = "the budget of each run's search, where the folder is cleared"
         commands.choices[name].add_argument("--nodes", type=int, help=text)
+        text = "the folder is cleared by reach, whose text is of the second form"
+        commands.choices[name].add_argument("--reach", action="store_true", help=text)
     return made
 
 
 def main(words: Sequence[str] | None = None) -> int:
-    """Ends with 0, 1 where `lint` finds something or a demand isn't served, 2 for words, or the program's exit code.
+    """Ends with 0, 1 where `lint` finds something or `summary` a flaw, 2 for words, or the program's exit code.
 
     A reader that closes the pipe ends it with 5.
     """
@@ -65,7 +68,7 @@ def _run(options: argparse.Namespace) -> int:
         return _lint(options.folder)
     if options.command == "order":
         return _order(Path(options.folder), Path(options.new))
-    day = _day(options.folder, options.nodes)
+    day = _day(options.folder, options.nodes, options.reach)
     if options.command == "explain":
         return _explain(day, options.bid, options.all)
     if options.command == "csv":
@@ -73,22 +76,24 @@ def _run(options: argparse.Namespace) -> int:
             print(path)
         return 0
     print("\n".join(day.summary()))
-    return 1 if day.unserved() or day.publication.unpublished else 0
+    return 1 if day.unserved() or day.publication.unpublished or day.publication.within else 0
 
 
-def _day(folder: str, nodes: int | None) -> Day:
-    """The day of a folder, which is cleared where it has no publication.txt, or has one of another budget.
+def _day(folder: str, nodes: int | None, by_reach: bool) -> Day:
+    """The day of a folder, which is cleared where it has no publication.txt, or has one of another budget or form.
 
-    One that is there is checked.
+    One that is there is checked. A day of the second form stays one.
     """
-    program = Program()
+    programs: dict[int, type[Program] | type[Reach]] = {1: Program, 2: Reach}
+    form = 2 if by_reach else 1
     if (Path(folder) / "publication.txt").exists():
-        program.check(folder)
-        day = Day.read(folder)
-        if nodes in (None, day.publication.budget):
+        found = form_of(folder)
+        programs[found]().check(folder)
+        day, form = Day.read(folder), max(form, found)
+        if nodes in (None, day.publication.budget) and form == found:
             return day
     writable = os.access(folder, os.W_OK)
-    return Day(Folder.read(folder), program.clear(folder, nodes=nodes, save=writable))
+    return Day(Folder.read(folder), programs[form]().clear(folder, nodes=nodes, save=writable))
 
 
 def _lint(folder: str) -> int:

@@ -2,12 +2,13 @@
 
 The tree decides the gates of the run in their order, closed first: the gated bids that it is offered, in the order of
 bids.csv. The open side of a branch is there only where the gate may be open: its parent is open, and no open gate is of
-its group.
+its group. A tree of the second form decides gates and prices in any order, and both sides of each branch are there.
 """
 
 from __future__ import annotations
 
 from collections.abc import Iterator, Sequence
+from decimal import Decimal
 from typing import NamedTuple
 
 from mari.publication import Item
@@ -18,6 +19,27 @@ class Gate(NamedTuple):
 
     group: str | None = None
     parent: int | None = None
+
+
+class Decision(NamedTuple):
+    """A decision of a tree of the second form: at the gate of a bid, or at a price of a zone."""
+
+    bid: str
+    zone: str
+    price: Decimal | None
+    above: bool
+    """Whether the gate is open, or the price of the zone a cent more than `price` or above."""
+
+
+class ReachLeaf(NamedTuple):
+    """A leaf of a tree of the second form, and the decisions that lead to it."""
+
+    item: Item
+    decisions: tuple[Decision, ...]
+
+    def may_open(self, bid: str) -> bool:
+        """Whether the gate of a bid isn't decided closed."""
+        return all(one.above or one.bid != bid for one in self.decisions)
 
 
 class Leaves:
@@ -64,3 +86,19 @@ def may_open(prefix: str, gates: Sequence[Gate]) -> bool:
     return gate.group is None or all(
         state == "0" or other.group != gate.group for state, other in zip(prefix, gates)
     )
+
+
+def reach_leaves(tree: Sequence[Item]) -> list[ReachLeaf] | None:
+    """The leaves of a tree of the second form in its order; None where it isn't whole."""
+    found: list[ReachLeaf] = []
+    waiting: list[tuple[Decision, ...]] = [()]
+    for item in tree:
+        if not waiting:
+            return None
+        decisions = waiting.pop()
+        if item.is_leaf:
+            found.append(ReachLeaf(item, decisions))
+            continue
+        above, below = (Decision(item.bid, item.zone, item.price, side) for side in (True, False))
+        waiting += [(*decisions, above), (*decisions, below)]
+    return None if waiting else found

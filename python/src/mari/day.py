@@ -115,7 +115,7 @@ class Day:
         """The day as tables: prices, flows, bids, demands, operators, providers and runs.
 
         Prices are in euro per MWh, money in euro; `time` is the local clock at which the quarter hour begins, with its
-        distance from UTC.
+        distance from UTC. In the second form the runs have their `gap` too, None where the activation is the first.
         """
         prices: list[tuple[object, ...]] = []
         flows: list[tuple[object, ...]] = []
@@ -124,12 +124,14 @@ class Day:
         runs: list[tuple[object, ...]] = []
         for run, block in zip(self.folder.runs, self.publication.blocks):
             key = (run.run, run.quarter, self._time(run.quarter), run.kind)
-            runs.append((*key, run.reference, block.published, block.nodes, block.welfare if block.published else None))
+            found = (block.published, block.nodes, block.welfare if block.published else None)
+            runs.append((*key, run.reference, *found, *([block.gap] if self.publication.form == 2 else [])))
             prices += [(*key, *row) for row in block.zones]
             flows += [(*key, *row) for row in block.borders]
             operators += [(*key, *row) for row in block.operators]
             providers += [(*key, *row) for row in block.providers]
         head = ("run", "quarter", "time", "kind")
+        gap = ("gap",) if self.publication.form == 2 else ()
         return {
             "prices": Table((*head, "zone", "price", "least", "greatest", "area"), prices),
             "flows": Table((*head, "from", "to", "mw", "rent"), flows),
@@ -137,7 +139,7 @@ class Day:
             "demands": self._served(),
             "operators": Table((*head, "operator", "payment", "rent", "net"), operators),
             "providers": Table((*head, "provider", "amount"), providers),
-            "runs": Table((*head, "reference", "published", "nodes", "welfare"), runs),
+            "runs": Table((*head, "reference", "published", "nodes", "welfare", *gap), runs),
         }
 
     def _time(self, quarter: int) -> str:
@@ -174,11 +176,8 @@ class Day:
 
     def summary(self) -> list[str]:
         """The day in a few lines, the demand that isn't served first."""
-        unserved, unpublished = self.unserved(), self.publication.unpublished
-        runs = len(self.folder.runs)
-        lines = [f"{self.folder.date}: {runs - len(unpublished)} of {runs} runs published"]
-        if unpublished:
-            lines.append(f"NOT PUBLISHED: runs {_some(unpublished)}: clear with more nodes")
+        unserved = self.unserved()
+        lines = self._answered()
         if unserved:
             total = sum(row.unserved for row in unserved)
             lines.append(f"UNSERVED at the cap: {total} MW of {len(unserved)} inelastic demands (sum over runs):")
@@ -196,6 +195,23 @@ class Day:
                 lines.append(f"prices at the cap of {CAP} in {len(capped)} runs: {_some(capped)}")
         activated = sum(row.mw for _, block in self._published() for row in block.bids)
         lines.append(f"{activated} MW activated (sum over runs), welfare {self.publication.welfare} euro")
+        return lines
+
+
+    def _answered(self) -> list[str]:
+        """How many runs are published or have the first activation, and which don't."""
+        publication, runs = self.publication, len(self.folder.runs)
+        if publication.form == 2:
+            gaps = [block.gap for block in publication.blocks if block.gap is not None]
+            lines = [f"{self.folder.date}: {runs - len(gaps)} of {runs} runs have the first activation"]
+            if gaps:
+                said = f"runs {_some(publication.within)}: at most {max(gaps)} euro each, {sum(gaps)} in all"
+                lines.append(f"WITHIN A GAP of the best: {said}: clear with more nodes")
+            return lines
+        unpublished = publication.unpublished
+        lines = [f"{self.folder.date}: {runs - len(unpublished)} of {runs} runs published"]
+        if unpublished:
+            lines.append(f"NOT PUBLISHED: runs {_some(unpublished)}: clear with more nodes")
         return lines
 
 

@@ -1,4 +1,4 @@
-"""Finds the program and runs it: typed results, or an exception that says what to mend."""
+"""Finds the programs and runs them: typed results, or an exception that says what to mend."""
 
 from __future__ import annotations
 
@@ -59,6 +59,13 @@ class Checked(NamedTuple):
     unpublished: int
 
 
+class Reached(NamedTuple):
+    """How many runs of a valid publication have the first activation, and how many one within a gap of the best."""
+
+    first: int
+    within: int
+
+
 @dataclass
 class JointQuarter:
     """A quarter hour of a joint market: prices, flows, activated MW of the bids, and MW met of the demands."""
@@ -90,36 +97,36 @@ class Joint:
         return self.nodes is None
 
 
-def find_program() -> Path:
+def find_program(name: str = "mari") -> Path:
     """The program: $MARI, that of the installed wheel, that of the repository, or `mari` on the path.
 
-    The repository is the one that this package or the current folder lies in.
+    The repository is the one that this package or the current folder lies in. The program `reach` of the second form is
+    found in the same way, by $REACH.
     """
-    stated = os.environ.get("MARI")
+    stated = os.environ.get(name.upper())
     if stated:
         return Path(stated)
     here = Path(__file__).resolve().parent
-    shipped = here / "_program" / "mari"
+    shipped = here / "_program" / name
     if shipped.exists():
         return shipped
     for folder in (*here.parents, Path.cwd(), *Path.cwd().parents):
-        if (folder / "mari").is_file() and (folder / "docs" / "FORMATS.md").is_file():
-            return folder / "mari"
-    found = shutil.which("mari")
+        if (folder / name).is_file() and (folder / "docs" / "FORMATS.md").is_file():
+            return folder / name
+    found = shutil.which(name)
     if found:
         return Path(found)
-    raise MariNoProgram("no program mari was found: set MARI to its path")
+    raise MariNoProgram(f"no program {name} was found: set {name.upper()} to its path")
 
 
-class Program:
-    """The program, called for folders. Every call may raise what `mari.errors` has.
+class _Called:
+    """What the programs have in common: how they are called, and what their exit codes mean."""
 
-    A folder is a path, or a `Folder`, which is written into a temporary one for the call.
-    """
+    name: str
 
     def __init__(self, path: StrPath | None = None) -> None:
         """The program at a path, or the one that `find_program` finds."""
-        self.path = Path(path) if path is not None else find_program()
+        self.path = Path(path) if path is not None else find_program(self.name)
 
     def run(self, *words: str) -> subprocess.CompletedProcess[bytes]:
         """Calls the program with these words, whatever it comes to."""
@@ -127,6 +134,39 @@ class Program:
             return subprocess.run([str(self.path), *words], capture_output=True, check=False)
         except OSError as error:
             raise MariNoProgram(f"{self.path} can't be run: {error.strerror}") from None
+
+    def _cleared(self, folder: StrPath | Folder, options: list[str], save: bool) -> Publication:
+        with _at(folder) as path:
+            ended = self._call(path, "clear", _word(path), *options, good=(0, 1))
+            publication = Publication.of_text(ended.stdout.decode("ascii"))
+            if save and not isinstance(folder, Folder):
+                _keep(Path(path) / "publication.txt", ended.stdout)
+            return publication
+
+    def _checked(self, folder: StrPath) -> tuple[int, int]:
+        first, others = map(int, self._call(folder, "check", _word(folder)).stdout.split()[1:3])
+        return first, others
+
+    def _call(
+        self, folder: StrPath | None, *words: str, good: tuple[int, ...] = (0,), quarters: tuple[int, int] | None = None
+    ) -> subprocess.CompletedProcess[bytes]:
+        """Calls the program, and raises what it ended with where that isn't good."""
+        ended = self.run(*words)
+        if ended.returncode in good:
+            return ended
+        printed = ended.stdout.decode("ascii", "replace").rstrip("\n").split("\n")
+        said = printed[-1] if ended.returncode in (2, 3, 4, 7, 8, 9) else ""
+        said = said or ended.stderr.decode("utf-8", "replace").strip()
+        raise _exception(ended.returncode, said, folder, quarters)
+
+
+class Program(_Called):
+    """The program, called for folders. Every call may raise what `mari.errors` has.
+
+    A folder is a path, or a `Folder`, which is written into a temporary one for the call.
+    """
+
+    name = "mari"
 
     def clear(
         self, folder: StrPath | Folder, *, nodes: int | None = None, workers: int | None = None, save: bool = True
@@ -136,17 +176,11 @@ class Program:
         `nodes` is the budget of each run's search, 1 to 50,000 (else 10,000), `workers` its threads, 1 to 16 (else 2).
         Runs that aren't published within the budget are in `Publication.unpublished`.
         """
-        with _at(folder) as path:
-            ended = self._call(path, "clear", _word(path), *_options(nodes, workers), good=(0, 1))
-            publication = Publication.of_text(ended.stdout.decode("ascii"))
-            if save and not isinstance(folder, Folder):
-                _keep(Path(path) / "publication.txt", ended.stdout)
-            return publication
+        return self._cleared(folder, _options(nodes, workers), save)
 
     def check(self, folder: StrPath) -> Checked:
         """Tests the folder's publication.txt against its market files; `MariInvalid` where it has a fault."""
-        ended = self._call(folder, "check", _word(folder))
-        return Checked(*map(int, ended.stdout.split()[1:3]))
+        return Checked(*self._checked(folder))
 
     def feed(self, folder: StrPath) -> list[dict[str, Any]]:
         """The lines of the feed of the folder's publication.txt: the head, the blocks and the totals."""
@@ -194,17 +228,22 @@ class Program:
         """The folder's `borders` or `limits` in the form that states limits for each run."""
         return self._call(folder, "migrate", _word(folder), part).stdout
 
-    def _call(
-        self, folder: StrPath | None, *words: str, good: tuple[int, ...] = (0,), quarters: tuple[int, int] | None = None
-    ) -> subprocess.CompletedProcess[bytes]:
-        """Calls the program, and raises what it ended with where that isn't good."""
-        ended = self.run(*words)
-        if ended.returncode in good:
-            return ended
-        printed = ended.stdout.decode("ascii", "replace").rstrip("\n").split("\n")
-        said = printed[-1] if ended.returncode in (2, 3, 4, 7, 8, 9) else ""
-        said = said or ended.stderr.decode("utf-8", "replace").strip()
-        raise _exception(ended.returncode, said, folder, quarters)
+class Reach(_Called):
+    """The program of the second form, in which every run has an answer. Its calls are as those of `Program`."""
+
+    name = "reach"
+
+    def clear(self, folder: StrPath | Folder, *, nodes: int | None = None, save: bool = True) -> Publication:
+        """Clears a day. With `save` its text is kept as publication.txt in the folder.
+
+        `nodes` is how many items the tree of each run has at most, 1 to 50,000 (else 10,000). Runs whose activations
+        are within a gap of the best are in `Publication.within`.
+        """
+        return self._cleared(folder, _options(nodes, None), save)
+
+    def check(self, folder: StrPath) -> Reached:
+        """Tests the folder's publication.txt against its market files; `MariInvalid` where it has a fault."""
+        return Reached(*self._checked(folder))
 
 
 def _exception(code: int, said: str, folder: StrPath | None, quarters: tuple[int, int] | None) -> MariError:

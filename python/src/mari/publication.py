@@ -1,7 +1,8 @@
-"""The text of a printed day, read into rows.
+"""The text of a printed day, of either form, read into rows.
 
-Prices are in euro per MWh and money in euro, both exact decimals; quantities are in MW. `Program.check` is what says
-whether a publication is that of its folder: reading tests the form of lines alone.
+Prices are in euro per MWh and money in euro, both exact decimals; quantities are in MW. `Program.check`, or of the
+second form `Reach.check`, is what says whether a publication is that of its folder: reading tests the form of lines
+alone.
 """
 
 from __future__ import annotations
@@ -16,7 +17,7 @@ from typing import NamedTuple, TextIO
 
 from mari.errors import MariMissing, MariText, MariUnreadable, shown
 from mari.text import PRICE, WHOLE, Lines
-from mari.units import euros
+from mari.units import MOST_GAP, MOST_NODES, NAME, euros
 
 
 class ZonePrice(NamedTuple):
@@ -63,14 +64,36 @@ class ProviderMoney(NamedTuple):
 
 @dataclass(frozen=True)
 class Item:
-    """An item of a certificate: a `branch`, or a leaf (`bound`, `cut` or `conflict`) with the numbers that it states.
+    """An item of a certificate: a branch, or a leaf with what it states.
 
-    `lines` has what stands in its lines after their first words. Numbers are read when they are asked for, since a
-    great tree has millions. Zones count from 1.
+    In the first form a branch is a `branch`, and a leaf a `bound`, `cut` or `conflict`. In the second a branch is a
+    `branch` at the gate of a bid or a `price` of a zone, and a leaf a `bound`, `cut` or `none`. `lines` has what stands
+    in its lines after their first words. Numbers are read when they are asked for, since a great tree has millions.
+    Zones count from 1.
     """
 
     kind: str
     lines: tuple[str, ...] = ()
+
+    @property
+    def is_leaf(self) -> bool:
+        """Whether no items are below it."""
+        return self.kind not in ("branch", "price")
+
+    @property
+    def bid(self) -> str:
+        """Of a branch of the second form: the bid whose gate is closed first, and then open."""
+        return self.lines[0] if self.kind == "branch" and self.lines else ""
+
+    @property
+    def zone(self) -> str:
+        """Of a `price`: the zone whose price is at most the stated one first, and then a cent more or above."""
+        return self.lines[0].partition(" ")[0] if self.kind == "price" else ""
+
+    @property
+    def price(self) -> Decimal | None:
+        """Of a `price`: the price."""
+        return Decimal(self.lines[0].partition(" ")[2]) if self.kind == "price" else None
 
     @property
     def zones(self) -> list[int]:
@@ -118,6 +141,9 @@ class RunBlock:
     `demands` has the MW that are met of each demand of the run, in the order of demands.csv, and `tree` the items of
     the certificate in preorder. `islands` is of `split` alone, where `tree` is empty and there is no money; in a run
     that isn't published `island` is then the one that is the cause.
+
+    In the second form every run is published: with the first activation, or with one that is `within` a gap. Then `gap`
+    says by how much more welfare than the printed one an admissible activation has at most, in euro.
     """
 
     run: int
@@ -134,11 +160,18 @@ class RunBlock:
     providers: list[ProviderMoney] = field(default_factory=list)
     islands: list[Island] = field(default_factory=list)
     island: int | None = None
+    form: int = 1
+    gap: Decimal | None = None
 
     @property
     def published(self) -> bool:
         """Whether the run is published."""
         return self.nodes is None
+
+    @property
+    def first(self) -> bool:
+        """Whether its activation is shown to be the first: the best, and of several best ones the earliest."""
+        return self.published and self.gap is None
 
     def price(self, zone: str) -> Decimal:
         """The published price of a zone."""
@@ -149,7 +182,8 @@ class RunBlock:
 class Publication:
     """A printed day: its blocks in the order of the runs, and the totals over the published ones.
 
-    `budget` is the number of nodes that each search had.
+    `budget` is the number of nodes that each search had, and `form` 1 for a text of `mari clear`, 2 for one of `reach
+    clear`.
     """
 
     date: str
@@ -158,6 +192,7 @@ class Publication:
     blocks: list[RunBlock] = field(default_factory=list)
     operators: list[OperatorMoney] = field(default_factory=list)
     providers: list[ProviderMoney] = field(default_factory=list)
+    form: int = 1
 
     @classmethod
     def read(cls, path: str | PathLike[str]) -> Publication:
@@ -188,6 +223,11 @@ class Publication:
         return [block.run for block in self.blocks if not block.published]
 
     @property
+    def within(self) -> list[int]:
+        """The runs of the second form whose activations are within a gap of the best."""
+        return [block.run for block in self.blocks if block.gap is not None]
+
+    @property
     def welfare(self) -> Decimal:
         """The welfare of the published runs together, in euro."""
         return sum((block.welfare for block in self.blocks), Decimal(0))
@@ -206,6 +246,12 @@ def open_text(folder: str | PathLike[str]) -> TextIO:
         raise MariUnreadable(path.name) from None
 
 
+def form_of(folder: str | PathLike[str]) -> int:
+    """The form of a text by how it begins: 2 where that is `mari 2`, or else 1."""
+    with open_text(folder) as text:
+        return 2 if text.read(len(_SECOND)) == _SECOND else 1
+
+
 def iter_parts(lines: Iterable[str]) -> Iterator[Publication | RunBlock]:
     """The parts of a printed day, one at a time, so that a day of any length takes the memory of one block.
 
@@ -215,11 +261,11 @@ def iter_parts(lines: Iterable[str]) -> Iterator[Publication | RunBlock]:
     reader = _Reader(lines)
     publication = reader.head()
     yield publication
-    published = unpublished = 0
-    for block in reader.blocks():
-        published, unpublished = published + block.published, unpublished + (not block.published)
+    first = others = 0
+    for block in reader.blocks(publication.form):
+        first, others = first + block.first, others + (not block.first)
         yield block
-    reader.totals(publication, published, unpublished)
+    reader.totals(publication, first, others)
     yield publication
 
 
@@ -268,12 +314,14 @@ def read_joint(lines: Iterable[str]) -> tuple[int | None, Decimal, list[RunBlock
     return None, welfare, quarters, tree
 
 
+_SECOND = "mari 2 "
 _PRICES = rf"{PRICE.pattern}(?: {PRICE.pattern})*"
 _WHOLES = rf"{WHOLE.pattern}(?: {WHOLE.pattern})*"
-_TREE = {
-    "branch": (),
+_LEAVES = {
     "bound": (("bound", re.compile(_PRICES)),),
     "cut": (("cut", re.compile(f"(?:in|out) {_WHOLES}")),),
+}
+_CONFLICT = {
     "conflict": (
         ("conflict", re.compile(_WHOLES)),
         ("at", re.compile(_PRICES)),
@@ -281,10 +329,22 @@ _TREE = {
         ("mws", re.compile(f"(?:{_WHOLES})?")),
     ),
 }
-"""The lines of each kind of item, and what may follow their first words."""
+_DECISIONS = {
+    "branch": (("branch", NAME),),
+    "price": (("price", re.compile(rf"{NAME.pattern} (?!-?99999\.(?!00))(?!-?[0-9]{{6}}){PRICE.pattern}")),),
+}
+_TREES: dict[int, dict[str, tuple[tuple[str, re.Pattern[str]], ...]]] = {
+    1: {"branch": (), **_LEAVES, **_CONFLICT},
+    2: {"none": (), **_LEAVES, **_DECISIONS},
+}
+"""Of each form the lines of each kind of item, and what may follow their first words."""
+
+_BARE = {kind: Item(kind) for kind in ("branch", "none")}
+"""The items that state nothing."""
 
 
-_BRANCH = Item("branch")
+_ENDINGS = {1: {("published", 5), ("unpublished", 6)}, 2: {("first", 5), ("within", 6)}}
+"""Of each form how a heading of a run may go on after its kind, and how many words it has."""
 
 
 class _Reader(Lines):
@@ -292,28 +352,38 @@ class _Reader(Lines):
 
     def head(self) -> Publication:
         words = self.one("mari", 5)
-        if words[1] != "1":
+        if words[1] not in ("1", "2"):
             raise MariText(self.read, f"form {shown(words[1])} isn't known")
-        return Publication(words[2], self.whole(words[3]), self.whole(words[4]))
+        return Publication(words[2], self.whole(words[3]), self.whole(words[4]), form=int(words[1]))
 
-    def blocks(self) -> Iterator[RunBlock]:
+    def blocks(self, form: int) -> Iterator[RunBlock]:
         while self.is_at("run"):
-            words, self.read = self.words, self.number
-            if len(words) == 6 and words[4] == "unpublished":
-                yield RunBlock(self.whole(words[1]), self.whole(words[2]), words[3], self.whole(words[5]))
-                self.step()
-            elif len(words) == 5 and words[4] == "published":
-                block = RunBlock(self.whole(words[1]), self.whole(words[2]), words[3])
+            block = self.heading(form)
+            if block.published:
                 self.step()
                 self.body(block)
                 yield block
             else:
-                raise self.fault("isn't the heading of a run")
+                yield block
+                self.step()
+
+    def heading(self, form: int) -> RunBlock:
+        words, self.read = self.words, self.number
+        if (*words[4:5], len(words)) not in _ENDINGS[form]:
+            raise self.fault("isn't the heading of a run")
+        block = RunBlock(self.whole(words[1]), self.whole(words[2]), words[3], form=form)
+        if words[4] == "unpublished":
+            block.nodes = self.whole(words[5])
+        elif words[4] == "within":
+            block.gap = self.money(words[5])
+            if not 0 <= block.gap <= MOST_GAP:
+                raise self.fault(f"{shown(words[5])} is no gap")
+        return block
 
     def body(self, block: RunBlock) -> None:
         block.welfare = self.welfare()
         self.market(block)
-        block.tree = self.tree()
+        block.tree = self.tree(block.form)
         block.operators, block.providers = self.ledger("")
         if self.whole(self.one("end", 2)[1]) != block.run:
             raise MariText(self.read, f"should be end {block.run}")
@@ -322,12 +392,14 @@ class _Reader(Lines):
         return euros(self.whole(self.one("welfare", 2)[1]))
 
     def market(self, block: RunBlock) -> None:
-        block.zones = self.many("zone", self.zone)
+        block.zones = self.some("zone", self.zone)
         block.borders = self.many("border", self.border)
         block.bids = self.many("bid", lambda words: Activation(words[1], self.mw(words[2])))
+        start = self.number
         places = self.many("demand", lambda words: (words[1], self.mw(words[2])))
-        if [place for place, _ in places] != [str(place) for place in range(1, len(places) + 1)]:
-            raise MariText(self.read, "the demands aren't numbered 1, 2, 3 and so on")
+        for at, (place, _) in enumerate(places):
+            if place != str(at + 1):
+                raise MariText(start + at, "the demands aren't numbered 1, 2, 3 and so on")
         block.demands = [mw for _, mw in places]
 
     def zone(self, words: list[str]) -> ZonePrice:
@@ -341,21 +413,24 @@ class _Reader(Lines):
         payment, rent, net = map(self.money, words[2:])
         return OperatorMoney(words[1], payment, rent, net)
 
-    def tree(self) -> list[Item]:
+    def tree(self, form: int = 1) -> list[Item]:
         count = self.whole(self.one("tree", 2)[1])
-        return [self.item() for _ in range(count)]
+        if not 1 <= count <= MOST_NODES:
+            raise MariText(self.read, f"no tree has {count} items")
+        kinds = _TREES[form]
+        return [self.item(kinds) for _ in range(count)]
 
-    def item(self) -> Item:
+    def item(self, kinds: dict[str, tuple[tuple[str, re.Pattern[str]], ...]]) -> Item:
         kind = self.words[0] if self.words else ""
-        if kind not in _TREE:
+        if kind not in kinds:
             raise self.fault("should be an item of the certificate")
-        if kind == "branch":
-            self.one("branch", 1)
-            return _BRANCH
+        if not kinds[kind]:
+            self.one(kind, 1)
+            return _BARE[kind]
         lines = []
-        for word, form in _TREE[kind]:
+        for word, written in kinds[kind]:
             rest = " ".join(self.words[1:])
-            if not self.is_at(word) or not form.fullmatch(rest):
+            if not self.is_at(word) or not written.fullmatch(rest):
                 raise self.fault(f"should be the line {word}")
             lines.append(rest)
             self.step()
@@ -369,14 +444,14 @@ class _Reader(Lines):
         return Island(number, welfare, zones, self.tree())
 
     def ledger(self, prefix: str) -> tuple[list[OperatorMoney], list[ProviderMoney]]:
-        operators = self.many(f"{prefix}operator", self.operator)
+        operators = self.some(f"{prefix}operator", self.operator)
         providers = self.many(f"{prefix}provider", lambda words: ProviderMoney(words[1], self.money(words[2])))
         return operators, providers
 
-    def totals(self, publication: Publication, published: int, unpublished: int) -> None:
+    def totals(self, publication: Publication, first: int, others: int) -> None:
         publication.operators, publication.providers = self.ledger("total-")
         words = self.one("done", 3)
-        if [self.whole(word) for word in words[1:]] != [published, unpublished]:
+        if [self.whole(word) for word in words[1:]] != [first, others]:
             raise MariText(self.read, "counts other runs than there are")
         if self.words:
             raise self.fault("comes after the end")

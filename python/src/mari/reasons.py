@@ -9,7 +9,7 @@ from decimal import Decimal
 from enum import Enum
 
 from mari.availability import Offers, Taken, Withheld
-from mari.certificate import Gate, Leaves, leaves
+from mari.certificate import Gate, Leaves, ReachLeaf, leaves, reach_leaves
 from mari.errors import MariOtherFolder
 from mari.folder import Folder
 from mari.publication import Item, Publication, RunBlock
@@ -59,7 +59,12 @@ class Reason:
 
 
 NO_RUN = "its quarter hour has no run in runs.csv"
-_SHOWN = {"bound": "no greater welfare", "conflict": "no consistent prices", "cut": "no balance"}
+_SHOWN = {
+    "bound": "no greater welfare",
+    "conflict": "no consistent prices",
+    "cut": "no balance",
+    "none": "no choice left",
+}
 """What each kind of leaf shows."""
 
 
@@ -117,6 +122,10 @@ def _withheld(run: Run, bid: Bid, why: Withheld, taken: Taken) -> Reason:
     return Reason(run.run, run.quarter, bid.id, State.WITHHELD, why.text, left=left, rule=why.rule, by=why.by)
 
 
+def _counted(counts: Counter[str]) -> str:
+    return ", ".join(f"{shown} ({count})" for shown, count in counts.most_common())
+
+
 class _RunReasons:
     """The reasons of one published run."""
 
@@ -127,9 +136,10 @@ class _RunReasons:
         self.mw = dict(block.bids)
         self.prices = {row.zone: row.price for row in block.zones}
         self.zones = [row.zone for row in block.zones]
-        self.tree = block.tree
+        self.block = block
         self.gates = [name for name, _ in block.bids if name in offers.gated]
         self.leaves: Leaves | None = None
+        self.reach_leaves: list[ReachLeaf] | None = None
         self.leaves_made = False
 
     def all(self) -> Iterator[Reason]:
@@ -195,8 +205,10 @@ class _RunReasons:
 
     def _shown(self, bid: Bid) -> str:
         """What the certificate shows of this bid: beside the published gates, and in all other choices of gates."""
+        if self.block.form == 2:
+            return self._reached(bid)
         if not self.leaves_made:
-            self.leaves, self.leaves_made = leaves(self.tree, self._gates()), True
+            self.leaves, self.leaves_made = leaves(self.block.tree, self._gates()), True
         word = "".join("1" if self.mw[name] or name == bid.id else "0" for name in self.gates)
         leaf = self.leaves.of(word) if self.leaves is not None else None
         if self.leaves is None or leaf is None:
@@ -206,8 +218,18 @@ class _RunReasons:
         text = f"With it, and every other gated bid as it is, there {shown}."
         if not counts:
             return text
-        said = ", ".join(f"{shown} ({count})" for shown, count in counts.most_common())
-        return f"{text} The certificate rules out every other choice with it: its leaves show {said}."
+        return f"{text} The certificate rules out every other choice with it: its leaves show {_counted(counts)}."
+
+    def _reached(self, bid: Bid) -> str:
+        """What a certificate of the second form shows of this bid."""
+        if self.block.gap is not None:
+            return f"The certificate shows that no choice with it is better by more than {self.block.gap} euro."
+        if not self.leaves_made:
+            self.reach_leaves, self.leaves_made = reach_leaves(self.block.tree), True
+        counts = Counter(_SHOWN[leaf.item.kind] for leaf in self.reach_leaves or () if leaf.may_open(bid.id))
+        if not counts:
+            return ""
+        return f"The certificate rules out every choice with it: its leaves show {_counted(counts)}."
 
     def _leaf_text(self, leaf: Item) -> str:
         shown = f"is {_SHOWN[leaf.kind]}" if leaf.kind != "conflict" else f"are {_SHOWN[leaf.kind]}"

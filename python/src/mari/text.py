@@ -89,10 +89,19 @@ class Lines:
             self.step()
         return rows
 
+    def some(self, word: str, read: Callable[[list[str]], Row]) -> list[Row]:
+        """What is read of each line of a kind of which there is one at least."""
+        if not self.is_at(word):
+            raise self.missing(word)
+        return self.many(word, read)
+
+    def missing(self, word: str) -> MariText:
+        return self.fault(f"should be the line {word}" if self.words else "is missing: the text ends too early")
+
     def one(self, word: str, length: int) -> list[str]:
         """The words of a line that must come now."""
         if not self.is_at(word) or len(self.words) != length:
-            raise self.fault(f"should be the line {word}" if self.words else "is missing: the text ends too early")
+            raise self.missing(word)
         words, self.read = self.words, self.number
         self.step()
         return words

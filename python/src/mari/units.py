@@ -34,9 +34,11 @@ MOST_NODES = 50_000
 MOST_WORKERS = 16
 MOST_RAISE = 1_000
 """The most MW by which `Program.value` raises a limit."""
+MOST_GAP = Decimal(10**16)
+"""The greatest gap of a run of the second form, in euro."""
 MOST_FILE_BYTES = 268_435_456
 
-_NAME = re.compile(r"[A-Za-z0-9_-]{1,16}")
+NAME = re.compile(r"[A-Za-z0-9_-]{1,16}")
 _WHOLE = re.compile(r"(-?)0*([0-9]+)")
 _PRICE = re.compile(r"-?[0-9]+(?:\.[0-9]{1,2})?")
 _DECIMAL = re.compile(r"-?[0-9]{1,15}(?:\.[0-9]{1,15})?")
@@ -45,7 +47,7 @@ _BEYOND = 10**18
 
 def is_name(text: str) -> bool:
     """Whether a text is a name: 1 to 16 ASCII letters, ASCII digits, `-` or `_`."""
-    return _NAME.fullmatch(text) is not None
+    return NAME.fullmatch(text) is not None
 
 
 @lru_cache(maxsize=1 << 16)

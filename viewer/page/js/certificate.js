@@ -1,15 +1,16 @@
 // The certificate: how large the tree is, and its picture, or of a large one its leaves by depth.
 
-import { price, whole } from "./numbers.js";
-import { placed, depthsOf } from "./tree.js";
+import { euros, price, whole } from "./numbers.js";
+import { placed, depthsOf, isBranch, leafClass } from "./tree.js";
 import { drawFacts } from "./facts.js";
 import { readingOf, sizeTo } from "./frame.js";
 import { UNPUBLISHED, unpublishedText, zoneNames } from "./sentences.js";
 
 const DRAWN = 161;
+const NAMED = 15;     // of a tree of the second form with more items the branches have no names
 const HIGH = 220;
-const SHAPES = { o: d3.symbolCircle, x: d3.symbolDiamond, i: d3.symbolSquare, u: d3.symbolSquare };
-const NAMES = { B: "branch", o: "bound", x: "conflict", i: "cut in", u: "cut out" };
+const SHAPES = { o: d3.symbolCircle, x: d3.symbolDiamond, cut: d3.symbolSquare };
+const NAMES = { o: "bound", x: "conflict", i: "cut in", u: "cut out", n: "none" };
 
 export class Certificate {
   constructor(host, day) {
@@ -17,9 +18,11 @@ export class Certificate {
     const panel = d3.select(host);
     this.reading = readingOf(host);
     this.facts = panel.append("dl").attr("class", "facts");
+    const [third, way] = day.form === 2 ? ["none", "published; left closed or at most"]
+      : ["conflict", "published gates; left closed, right open"];
     panel.append("p").attr("class", "legend").html(`<i class="leaf o"></i>bound
-      <i class="leaf cut"></i>cut <i class="leaf x"></i>conflict
-      <i class="key way"></i>published gates; left closed, right open`);
+      <i class="leaf cut"></i>cut <i class="leaf x"></i>${third}
+      <i class="key way"></i>${way}`);
     this.svg = panel.append("svg").attr("role", "img");
     this.note = panel.append("p").attr("class", "note");
     new ResizeObserver(() => this.resize()).observe(host);
@@ -59,17 +62,20 @@ export class Certificate {
     const facts = !view.run
       ? [["Nodes", whole(view.short.nodes)], ["Budget", whole(this.day.budget)]]
       : [["Nodes", whole(items.length)], ["Depth", nodes ? whole(d3.max(nodes, (n) => n.depth)) : ""],
-        ["Branches", whole(count("B"))], ["Bounds", whole(count("o"))],
-        ["Cuts", whole(count("iu"))], ["Conflicts", whole(count("x"))],
+        ...(this.day.form === 2 ? [["At gates", whole(count("B"))], ["At prices", whole(count("P"))]]
+          : [["Branches", whole(count("B"))]]),
+        ["Bounds", whole(count("o"))], ["Cuts", whole(count("iu"))],
+        this.day.form === 2 ? ["None", whole(count("n"))] : ["Conflicts", whole(count("x"))],
         ["Gated bids", whole(gates.length)], ["Budget", whole(this.day.budget)]];
     drawFacts(this.facts, facts);
     const many = items.length === 1 ? "one bound shows" : `${whole(items.length)} nodes show`;
-    this.reading.text(view.run ? `${many} that nothing is better` : UNPUBLISHED);
+    const more = view.short.gap ? ` by more than ${euros(BigInt(view.short.gap))} EUR` : "";
+    this.reading.text(view.run ? `${many} that nothing is better${more}` : UNPUBLISHED);
   }
 
   drawTree(nodes, view) {
     const depth = d3.max(nodes, (node) => node.depth);
-    const left = depth > 0 && depth <= 20 ? 128 : 16;
+    const left = this.day.form === 1 && depth > 0 && depth <= 20 ? 128 : 16;
     const x = (node) => left + node.x * (this.width - left - 16);
     const high = Math.min(HIGH, 28 + 40 * depth);
     const y = d3.scaleLinear([0, Math.max(depth, 1)], [14, Math.max(15, high - 14)]);
@@ -82,11 +88,12 @@ export class Certificate {
         .attr("d", (n) => `M${x(n.above)},${y(n.above.depth)}L${x(n)},${y(n.depth)}`);
     }
     if (left > 16) this.drawLevels(view.gates.slice(0, depth), y);
+    if (this.day.form === 2) this.drawBranches(nodes, x, y);
     const size = nodes.length > 60 ? 34 : 60;
-    this.svg.append("g").selectAll("path").data(nodes.filter((node) => node.kind !== "B")).enter()
-      .append("path").attr("class", (node) => `leaf ${"iu".includes(node.kind) ? "cut" : node.kind}`)
+    this.svg.append("g").selectAll("path").data(nodes.filter((node) => !isBranch(node.kind))).enter()
+      .append("path").attr("class", (node) => `leaf ${leafClass(node.kind)}`)
       .attr("transform", (node) => `translate(${x(node)},${y(node.depth)})`)
-      .attr("d", (node) => d3.symbol().type(SHAPES[node.kind]).size(size)())
+      .attr("d", (node) => d3.symbol().type(SHAPES[leafClass(node.kind)]).size(size)())
       .append("title").text((node) => this.leafText(node, view));
   }
 
@@ -98,15 +105,47 @@ export class Certificate {
     levels.classed("open", (gate) => gate.open);
   }
 
+  // In the second form each branch decides its own gate or price.
+  drawBranches(nodes, x, y) {
+    const marks = this.svg.append("g").attr("class", "branches").selectAll("g")
+      .data(nodes.filter((node) => isBranch(node.kind))).enter().append("g")
+      .attr("transform", (node) => `translate(${x(node)},${y(node.depth)})`);
+    marks.append("circle").attr("r", 2.5).append("title").text((node) => this.branchText(node));
+    if (nodes.length > NAMED) return;
+    const isLeft = (node) => x(node) > this.width - 110 || (node.above && !node.open && x(node) > 110);
+    marks.append("text").attr("x", (node) => (isLeft(node) ? -6 : 6)).attr("y", -2)
+      .attr("text-anchor", (node) => (isLeft(node) ? "end" : "start"))
+      .text((node) => node.bid || this.limitText(node));
+  }
+
+  limitText({ limit: [zone, cents] }) {
+    return `${this.day.zones[zone]} ${price(cents)}`;
+  }
+
+  branchText(node) {
+    return node.limit ? `branch at the price ${this.limitText(node)}: left at most that, right above it`
+      : `branch at the gate of ${node.bid}: left closed, right open`;
+  }
+
+  // What leads to a node in the second form.
+  decisionText(node) {
+    const { above, open } = node;
+    if (!above.limit) return `${above.bid} ${open ? "open" : "closed"}`;
+    return `${this.day.zones[above.limit[0]]} ${open ? "above" : "at most"} ${price(above.limit[1])}`;
+  }
+
   leafText(node, view) {
-    const open = [];
+    const [open, decided] = [[], []];
     for (let at = node; at.above; at = at.above) {
-      if (at.open) open.unshift(view.gates[at.depth - 1].bid.name);
+      if (this.day.form === 2) decided.unshift(this.decisionText(at));
+      else if (at.open) open.unshift(view.gates[at.depth - 1].bid.name);
     }
     const { zones, bounds } = view.run.tree;
+    const ends = bounds[node.at];
     const detail = zones[node.at] ? `, zones ${zoneNames(zones[node.at], this.day).join(", ")}`
-      : `, potentials from ${price(bounds[node.at][0])} to ${price(bounds[node.at][1])} EUR/MWh`;
-    return `${NAMES[node.kind]} at depth ${node.depth}${detail}; open: ${open.join(", ") || "none"}`;
+      : ends ? `, potentials from ${price(ends[0])} to ${price(ends[1])} EUR/MWh` : "";
+    const way = this.day.form === 2 ? decided.join(", ") || "nothing decided" : `open: ${open.join(", ") || "none"}`;
+    return `${NAMES[node.kind]} at depth ${node.depth}${detail}; ${way}`;
   }
 
   // Of a large tree the leaves by depth.

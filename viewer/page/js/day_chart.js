@@ -2,7 +2,7 @@
 
 import { price, whole, rough, euros, sum } from "./numbers.js";
 import { usualPrices, usualRange, widened } from "./colour.js";
-import { shortText, unservedText } from "./sentences.js";
+import { gapText, shortText, unservedText } from "./sentences.js";
 import { readingOf, sizeTo, spotOf } from "./frame.js";
 import { ZonePrices } from "./zone_prices.js";
 import { slotsOf, tenths, steps, stacked, bars, diamonds } from "./strokes.js";
@@ -53,7 +53,9 @@ export class DayChart {
       <span><i class="key others"></i> other zones</span> <span><i class="key up"></i> up</span>
       <span><i class="key down"></i> down</span>
       <span><i class="key up light"></i><i class="key down light"></i> of direct runs</span>
-      <span><i class="key asked"></i> demand</span> <span><i class="key unpublished"></i> unpublished</span>
+      <span><i class="key asked"></i> demand</span>
+      ${this.day.form === 2 ? '<span><b class="gap">\u25cb</b> within a gap of the best</span>'
+    : '<span><i class="key unpublished"></i> unpublished</span>'}
       <span><b class="flag">\u25be</b> rejected in the money</span>
       <span><b class="flag">\u25a0</b> demand unserved</span>`);
     legend.append("button").attr("type", "button").attr("class", "csv").text("CSV")
@@ -218,6 +220,11 @@ export class DayChart {
       if (run.unserved) {
         marks.append("rect").attr("class", "flag lack").attr("x", middle - 3 + (run.rejected ? 8 : 0)).attr("y", 2)
           .attr("width", 6).attr("height", 6).append("title").text(unservedText(run));
+      }
+      if (run.gap) {
+        const before = [run.rejected, run.unserved].filter(Boolean).length;
+        marks.append("circle").attr("class", "gap").attr("cx", middle + 8 * before).attr("cy", 5).attr("r", 3)
+          .append("title").text(gapText(run));
       }
     }
   }

@@ -4,7 +4,7 @@ import { price, whole, euros } from "./numbers.js";
 import { summary } from "./parts.js";
 import { Selection } from "./selection.js";
 import { runView } from "./run.js";
-import { whenText, shortText } from "./sentences.js";
+import { whenText, shortText, shownText } from "./sentences.js";
 import { DayChart } from "./day_chart.js";
 import { Network } from "./network.js";
 import { MeritOrder } from "./merit_order.js";
@@ -28,8 +28,11 @@ function head(day, selection) {
   document.title = `Mari: ${day.date}`;
   const without = day.runs.filter((run) => !run.price).length;
   const lacking = day.runs.filter((run) => run.unserved).length;
-  byId("count").textContent = `${whole(day.runs.length - without)} published`
+  const within = day.runs.filter((run) => run.gap).length;
+  const rest = whole(day.runs.length - without - within);
+  byId("count").textContent = `${rest} ${day.form === 2 ? "first" : "published"}`
     + (without ? `, ${whole(without)} unpublished` : "")
+    + (within ? `, ${whole(within)} within a gap` : "")
     + (lacking ? `, ${whole(lacking)} with demand unserved` : "");
   byId("of").textContent = `of ${whole(day.runs.length)}`;
   byId("run").max = day.runs.length;
@@ -69,7 +72,7 @@ function figures(day, short, zone) {
       ["Unserved at the cap", whole(short.unserved), "MW, inelastic", short.unserved > 0],
       ["Activated up / down", `${whole(short.activated[0])} / ${whole(short.activated[1])}`, "MW"],
       ["Congestion rent", euros(BigInt(short.rent)), "EUR"],
-      ["Welfare", euros(BigInt(short.welfare)), "EUR"]];
+      [`Welfare${shownText(short)}`, euros(BigInt(short.welfare)), "EUR"]];
   drawFacts(d3.select("#figures"), list);
 }
 

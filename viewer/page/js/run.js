@@ -1,7 +1,7 @@
 // A run joined with its quarter: its bids with what they offer, run and are paid, and why.
 
 import { part } from "./parts.js";
-import { gatesOf, treeOf } from "./tree.js";
+import { gatesOf, reachTreeOf, treeOf } from "./tree.js";
 
 const REJECTED = "rejected in the money";
 const WITHHELD = "withheld";
@@ -56,6 +56,10 @@ function joined(day, run, quarter) {
   });
 }
 
+function nodesOf(day, run, gates) {
+  return day.form === 2 ? reachTreeOf(run.tree, gates, run.zones.price) : treeOf(run.tree.items, gates);
+}
+
 // A run in full: the quarter hour's bids, those that it is offered, their gates, and the nodes of its tree. `run` is
 // null where it is unpublished.
 export async function runView(day, number) {
@@ -65,5 +69,5 @@ export async function runView(day, number) {
   const bids = all.filter((bid) => !bid.withheld);
   const gates = gatesOf(bids);
   return { short, run: short.price ? run : null, all, bids, gates,
-    nodes: short.price ? treeOf(run.tree.items, gates) : null };
+    nodes: short.price ? nodesOf(day, run, gates) : null };
 }

@@ -10,12 +10,22 @@ export function whenText(day, short) {
   return `quarter ${short.quarter}, ${from}\u2013${to}, ${short.kind}`;
 }
 
+// What is shown of a run in the second form; nothing in the first.
+export function shownText(short) {
+  if (short.gap === undefined) return "";
+  return short.gap === null ? ", first" : `, within ${euros(BigInt(short.gap))} EUR of the best`;
+}
+
+export function gapText(short) {
+  return `Run ${short.run}: no admissible activation is better by more than ${euros(BigInt(short.gap))} EUR`;
+}
+
 export function shortText(day, short, zone) {
   const head = `Run ${short.run}, ${whenText(day, short)}`;
   if (!short.price) return `${head}: unpublished, given up after ${whole(short.nodes)} nodes`;
   return `${head}: ${day.zones[zone]} ${price(short.price[zone])} EUR/MWh, `
     + `up ${whole(short.activated[0])} MW, down ${whole(short.activated[1])} MW, `
-    + `rent ${euros(BigInt(short.rent))} EUR`;
+    + `rent ${euros(BigInt(short.rent))} EUR${shownText(short)}`;
 }
 
 export function unservedText(short) {

@@ -1,5 +1,5 @@
 -- The block of a run for whose market an answer was found.
-use Rattle.std.proofs.Common.{◌≡◌, ℕ, ◌≤◌, ℤ, pos, negsuc, ◌≤ℤ◌, List, Option, sym, ap, subst, arith}
+use Rattle.std.proofs.Common.{◌≡◌, ◌∙◌, ℕ, ◌≤◌, ℤ, pos, negsuc, ◌≤ℤ◌, List, [], Option, sym, ap, subst, arith}
 use Rattle.std.specs.Int.RustNames.{unsigned_abs}
 use Rattle.std.proofs.lemmas.Int.{ints}
 use Rattle.mari_units.specs.declared.numbers.Cents.{Cents}
@@ -24,7 +24,7 @@ use Rattle.mari_reach_lines.specs.declared.line.Claim.TheVariants.{First, Within
 use Rattle.mari_reach_day.specs.declared.block.ReachBlock.{ReachBlock}
 use Rattle.mari_reach_day.specs.Reach.{IsReachBlock, IsReachOf, answered, blocks_of, found_in}
 use Rattle.mari_reach_text.specs.Numbers.{gated_of}
-use Rattle.mari_reach_day.specs.Steps.{ReachFits}
+use Rattle.mari_reach_day.specs.Ranges.{ReachFits}
 
 -- a gap within the greatest dual value is an amount of money of a line
 gap_size : (z : ℤ) → pos 0 ≤ℤ z → z ≤ℤ pos MOST_VALUE → unsigned_abs z ≤ MOST_MONEY
@@ -37,7 +37,7 @@ module _ (m : Market) (budget : ℕ) where
   admissible First f is = is.first.optimal.admissible
   admissible (Within gap) f is = is.admissible
 
-  items : (claim : Claim) (f : Found) → IsAnswer m budget (answered claim f) → IsWithinBudget budget f.tree
+  pub items : (claim : Claim) (f : Found) → IsAnswer m budget (answered claim f) → IsWithinBudget budget f.tree
   items First f is = is.items
   items (Within gap) f is = is.items
 
@@ -59,14 +59,15 @@ as_found tree k = record { activation = k.activation; welfare = k.welfare; tree 
 
 -- the block of a run's market, by what an answer of it found
 pub reach_of : (books : Books) (budget run : ℕ) (made : RunMarket) (also : Option (List Cents)) (claim : Claim) (f : Found) → IsAnswer made.market budget (answered claim f)
-    → (none : List TreeItem) (b : FullBlock) → IsReportedOf books run made also (record { activation = f.activation; welfare = f.welfare; tree = none }) b
+    → (none : List TreeItem) → none ≡ [] → (b : FullBlock) → IsReportedOf books run made also (record { activation = f.activation; welfare = f.welfare; tree = none }) b
     → (gated : List ℕ) → gated ≡ gated_of books made → IsReachOf books budget run made also (record { block = b; claim = claim; tree = f.tree; gated = gated })
-reach_of books budget run made also claim f is none b reported gated of =
+reach_of books budget run made also claim f is none empty b reported gated of =
     let r : ReachBlock = record { block = b; claim = claim; tree = f.tree; gated = gated } in
     let same : found_in r ≡ f = ap (as_found f.tree) reported.cleared in
     record {
       heading = reported.heading;
       names = reported.names;
+      bare = ap (λ (k : Clearing). k.tree) reported.cleared ∙ empty;
       gated = of;
       answer = subst (λ (x : Found). IsAnswer made.market budget (answered claim x)) (sym same) is;
       prices = reported.prices;

@@ -19,10 +19,10 @@ use Rattle.mari_reach_day.specs.Reach.{IsReachPart, block_of, blocks_of}
 use Rattle.mari_reach_day.proofs.Progressing.{sound}
 
 module _ (books : Books) (ok : IsAccepted books) (budget : ℕ) (blocks : List ReachBlock) (part : IsReachPart books budget blocks) where
-  few : length (blocks_of blocks) ≤ length books.runs.runs
+  pub few : length (blocks_of blocks) ≤ length books.runs.runs
   few = omega (arith, part.few, length-map blocks block_of)
 
-  each : (k : ℕ) (b : Block) → slice_get (blocks_of blocks) k ≡ Some b → IsSoundBlock books (take k (blocks_of blocks)) b
+  pub each : (k : ℕ) (b : Block) → slice_get (blocks_of blocks) k ≡ Some b → IsSoundBlock books (take k (blocks_of blocks)) b
   each k b e = by (slice_get blocks k) refl (sym (slice_get-map block_of blocks k) ∙ e)
     where
       by : (o : Option ReachBlock) → slice_get blocks k ≡ o → option_map block_of o ≡ Some b → IsSoundBlock books (take k (blocks_of blocks)) b

@@ -1,24 +1,31 @@
 -- What a sink takes of a day of the second form.
 use Rattle.std.specs.Prelude.{◌≡◌, ℕ, List, Option, length}
+use Rattle.std.specs.List.{All}
 use Rattle.mari_day.specs.Frame.{IsPartTextBy, StoppedBy, WroteBy, WrotePrefixBy}
 use Rattle.mari_day.specs.declared.frame.Stop.{Stop}
 use Rattle.mari_day.specs.declared.frame.Stop.TheVariants.{Sink, Memory as NoMemory}
+use Rattle.mari_publish.specs.Ranges.{SumsFit}
 use Rattle.mari_remain.specs.declared.books.Books.{Books}
+use Rattle.mari_progress.specs.Totals.{operator_totals, provider_totals}
 use Rattle.mari_reach_day.specs.declared.block.ReachBlock.{ReachBlock}
 use Rattle.mari_reach_day.specs.declared.writing.ReachEnd.{ReachEnd}
 use Rattle.mari_reach_day.specs.declared.writing.ReachEnd.TheVariants.{Done, WriteFault, Memory}
 use Rattle.mari_reach_day.specs.Lines.{reach_block_text, reach_head, reach_text}
-use Rattle.mari_reach_day.specs.Reach.{IsReachBlock, IsReachDay, first_in, within_in}
+use Rattle.mari_reach_day.specs.Ranges.{ReachFits}
+use Rattle.mari_reach_day.specs.Reach.{IsReachBlock, IsReachDay, blocks_of, first_in, within_in}
 
 -- the text is that of a day part: of its first line and the blocks of the first runs
 abbrev pub IsReachPartText : Books → (budget : ℕ) → List ℕ → Type 0
 IsReachPartText books budget text =
     IsPartTextBy (length books.runs.runs) (IsReachBlock books budget) (reach_head books.date books.quarters budget) (reach_block_text books) text
 
--- the text is that of a day, so many runs of which have the first activation, and so many one within a gap
+-- the text is that of a day, whose numbers are in range, so many runs of which have the first activation, and so many one
+-- within a gap
 pub record IsReachDayText (books : Books) (budget first within : ℕ) (text : List ℕ) : Type 0 where
   pub blocks : List ReachBlock
   pub day : IsReachDay books budget blocks
+  pub fits : All ReachFits blocks
+  pub totals : SumsFit (operator_totals books (blocks_of blocks)) (provider_totals books (blocks_of blocks))
   pub counted : first ≡ first_in blocks
   pub others : within ≡ within_in blocks
   pub spelled : text ≡ reach_text books budget blocks

@@ -1,4 +1,5 @@
 pub mod Reach
 pub mod Lines
+pub mod Ranges
 pub mod Days
 pub mod Steps

@@ -29,10 +29,12 @@ answered First f = answer.First f
 answered (Within gap) f = answer.Within f gap
 
 -- the block of a run's market: an answer of it, which is the first activation or one within a gap, with a tree of at most
--- the budget's items that shows it; the prices, intervals and areas; and the ledger
+-- the budget's items that shows it; the prices, intervals and areas; the ledger; and no
+-- certificate tree of the first form
 pub record IsReachOf (books : Books) (budget run : ℕ) (made : RunMarket) (also : Option (List Cents)) (r : ReachBlock) : Type 0 where
   pub heading : r.block.heading ≡ heading_of books run
   pub names : NamesMarket books made r.block
+  pub bare : r.block.tree ≡ []
   pub gated : r.gated ≡ gated_of books made
   pub answer : IsAnswer made.market budget (answered r.claim (found_in r))
   pub prices : HasPrices made.market r.block

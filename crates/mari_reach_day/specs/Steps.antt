@@ -1,32 +1,25 @@
 -- What is kept of a day of the second form, and what a run of it comes to.
-use Rattle.std.specs.Prelude.{ℕ, ◌≡◌, ◌≤◌, ◌-◌, List, Some, length}
+use Rattle.std.specs.Prelude.{ℕ, ◌≡◌, ◌-◌, List, Some, length}
+use Rattle.std.specs.List.{All}
 use Rattle.mari_day.specs.Dated.{IsDated}
 use Rattle.mari_day.specs.Progress.{IsSettledIn}
 use Rattle.mari_market.specs.Clearing.{IsBudget}
-use Rattle.mari_publish.specs.Ranges.{EndingFits, MarketFits}
 use Rattle.mari_remain.specs.Accepted.{IsAccepted}
 use Rattle.mari_remain.specs.declared.books.Books.{Books}
 use Rattle.mari_progress.specs.declared.progress.Progress.{Progress}
 use Rattle.mari_progress.specs.Progress.{IsProgress}
-use Rattle.mari_reach_lines.specs.Ranges.{IsClaim}
 use Rattle.mari_reach_day.specs.declared.block.ReachBlock.{ReachBlock}
 use Rattle.mari_reach_day.specs.declared.run.ReachDone.{ReachDone}
 use Rattle.mari_reach_day.specs.Days.{IsReachDayText}
+use Rattle.mari_reach_day.specs.Ranges.{ReachFits}
 use Rattle.mari_reach_day.specs.Reach.{IsReachBlock, block_of, blocks_of, first_in}
-use Rattle.mari_units.specs.declared.limits.TheConstants.{MOST_NODES}
 
--- the numbers of a block are in range, so that its text can be written
-pub record ReachFits (r : ReachBlock) : Type 0 where
-  pub market : MarketFits r.block
-  pub ending : EndingFits r.block
-  pub claim : IsClaim r.claim
-  pub tree : length r.tree ≤ MOST_NODES
-
--- what is kept of the day of these books stands for these blocks
+-- what is kept of the day of these books stands for these blocks, whose numbers are in range
 pub record KeepsReach (books : Books) (budget : ℕ) (blocks : List ReachBlock) (first : ℕ) (p : Progress) : Type 0 where
   pub accepted : IsAccepted books
   pub dated : IsDated books
   pub nodes : IsBudget budget
+  pub fits : All ReachFits blocks
   pub kept : IsProgress books (blocks_of blocks) p
   pub counted : first ≡ first_in blocks
 

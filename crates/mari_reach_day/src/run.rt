@@ -7,8 +7,9 @@ ghost use Rattle.mari_progress.specs.After.{run_after};
 ghost use Rattle.mari_progress.specs.Progress.{IsProgress};
 ghost use Rattle.mari_day.specs.Dated.{IsDated};
 ghost use Rattle.mari_reach_day.specs.declared.block.ReachBlock.{ReachBlock as PrintedReach};
+ghost use Rattle.mari_reach_day.specs.Ranges.{ReachFits};
 ghost use Rattle.mari_reach_day.specs.Reach.{answered, blocks_of};
-ghost use Rattle.mari_reach_day.specs.Steps.{IsReachDone, ReachFits};
+ghost use Rattle.mari_reach_day.specs.Steps.{IsReachDone};
 
 use crate::block::ReachBlock;
 use mari_day::published_run;

@@ -4,7 +4,7 @@ ghost use Rattle.std.specs.Prelude.{◌≡◌, ◌++◌, ◌≤◌, IfOk, OnOk, 
 ghost use Rattle.mari_rows.specs.Names.{name_at};
 ghost use Rattle.mari_reach_lines.specs.Spelling.{reach_line_text, text_of_reach_lines};
 ghost use Rattle.mari_reach_day.specs.Lines.{choice_line, item_line, leaf_line, reach_block_text, reach_head, reach_tree_lines};
-ghost use Rattle.mari_reach_day.specs.Steps.{ReachFits};
+ghost use Rattle.mari_reach_day.specs.Ranges.{ReachFits};
 
 use crate::block::ReachBlock;
 use mari_lines::{put_bound, put_cut, put_tree, put_welfare};

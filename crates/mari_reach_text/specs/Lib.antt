@@ -1,1 +1,4 @@
 pub mod Numbers
+pub mod Claims
+pub mod Order
+pub mod Texts

@@ -1,5 +1,5 @@
 -- Which gates and zones of a run's market the names of a text stand for.
-use Rattle.std.specs.Prelude.{ℕ, ◌≡◌, List, Option, Some, None, filter, map, option_map, position}
+use Rattle.std.specs.Prelude.{ℕ, ◌≡◌, List, Option, Some, filter, map, option_map, position}
 use Rattle.std.specs.Option.{option_and_then}
 use Rattle.std.specs.Str.{bytes_eq}
 use Rattle.mari_links.specs.Links.{has_gate}

@@ -82,7 +82,8 @@ pub fn numbered_tree(
     named: Items<NamedItem>,
 ) -> Result<Option<Items<ReachItem>>, Memory>
     requires { length gated.now ≤ MOST_BIDS }
-    ensures { IfOk result (λ tree. MatchOption tree ((items : List TheItem) → IsNumbered books.now gated.now named items → ⊥) (IsNumbered books.now gated.now named)) }
+    ensures { IfOk result (λ tree. MatchOption tree ((items : List TheItem) → IsNumbered books.now gated.now named items → ⊥)
+        (IsNumbered books.now gated.now named)) }
 {
     let mut tree = Vec::new(alloc);
     for item in named.into_vec() {

@@ -2,9 +2,8 @@
 
 use crate::lists::{at, number_of, set};
 use crate::solver::Optimum;
-use crate::words::closed;
 use mari_market::{Cut, Prefix};
-use mari_reach::{Choice, Decision};
+use mari_reach::Choice;
 use std::alloc::{AllocError, Global};
 use std::cmp::Reverse;
 
@@ -23,27 +22,28 @@ pub(crate) enum Kind {
     Bound,
 }
 
-/// An order that doesn't run as at the root.
+/// What runs of an order, or flows over a border, other than at the root.
 #[derive(Clone, Copy, Drop)]
 struct Change {
-    order: u32,
-    amount: i64,
+    /// The order's place in the market, or after all orders the border's.
+    place: u32,
+    /// What the order puts into its zone, or what flows, in MW.
+    amount: i32,
 }
 
-/// A node: its state, its relaxed optimum, and how it stands.
+/// A node: where it is in the tree, its relaxed optimum as long as it waits, and how it stands. Its decisions are those on
+/// the way to it.
 #[derive(Drop)]
 pub(crate) struct Node {
-    /// What its state decides.
-    pub(crate) decisions: Vec<Decision>,
+    /// The number of the node above it; the root's is its own.
+    pub(crate) parent: u32,
     /// How it stands.
     pub(crate) kind: Kind,
     /// The welfare of its optimum, in quarter-cents.
     pub(crate) bound: i64,
-    /// The word of the gates that its state opens.
-    pub(crate) word: Prefix,
     /// The potentials of its optimum, in cents per MWh.
-    pub(crate) potentials: Vec<i64>,
-    flows: Vec<i64>,
+    potentials: Vec<i32>,
+    /// What else its optimum has.
     changes: Vec<Change>,
 }
 
@@ -64,16 +64,39 @@ impl Turn {
     }
 }
 
+/// A number that is small, and else the nearest one that is.
+fn small(number: i64) -> i32 {
+    i32::try_from(number).unwrap_or(if number < 0 { i32::MIN } else { i32::MAX })
+}
+
+/// Adds where a list differs from the root's, with places from `first` on.
+fn add_changes(
+    changes: &mut Vec<Change>,
+    first: usize,
+    root: &[i64],
+    amounts: &[i64],
+) -> Result<(), AllocError> {
+    let mut place = 0usize;
+    for amount in amounts {
+        if *amount != at(root, place) {
+            changes.push(Change {
+                place: number_of(first.saturating_add(place)),
+                amount: small(*amount),
+            })?;
+        }
+        place = place.saturating_add(1);
+    }
+    Ok(())
+}
+
 impl Node {
     /// A node that has no optimum.
-    pub(crate) fn ended(alloc: Global, decisions: Vec<Decision>, kind: Kind) -> Node {
+    pub(crate) fn ended(alloc: Global, parent: u32, kind: Kind) -> Node {
         Node {
-            decisions,
+            parent,
             kind,
             bound: i64::MIN,
-            word: closed(0),
             potentials: Vec::new(alloc),
-            flows: Vec::new(alloc),
             changes: Vec::new(alloc),
         }
     }
@@ -81,53 +104,68 @@ impl Node {
     /// A node that waits, with its optimum, of which it keeps what differs from the root's.
     pub(crate) fn waiting(
         alloc: Global,
-        decisions: Vec<Decision>,
-        word: Prefix,
-        root: &[i64],
+        parent: u32,
+        root: &Optimum,
         optimum: &Optimum,
     ) -> Result<Node, AllocError> {
         let mut changes = Vec::new(alloc);
-        let mut order = 0u32;
-        for amount in &optimum.amounts {
-            if *amount != at(root, order as usize) {
-                let amount = *amount;
-                changes.push(Change { order, amount })?;
-            }
-            order = order.saturating_add(1);
+        add_changes(&mut changes, 0, &root.amounts, &optimum.amounts)?;
+        let orders = root.amounts.len();
+        add_changes(&mut changes, orders, &root.flows, &optimum.flows)?;
+        changes.shrink_to_fit();
+        let mut potentials = Vec::with_capacity(alloc, optimum.potentials.len())?;
+        for potential in &optimum.potentials {
+            potentials.push(small(*potential))?;
         }
         Ok(Node {
-            decisions,
+            parent,
             kind: Kind::Waiting,
             bound: optimum.value,
-            word,
-            potentials: Vec::from_slice(alloc, optimum.potentials.as_slice())?,
-            flows: Vec::from_slice(alloc, optimum.flows.as_slice())?,
+            potentials,
             changes,
         })
     }
 
-    /// Its optimum.
-    pub(crate) fn optimum(&self, alloc: Global, root: &[i64]) -> Result<Optimum, AllocError> {
-        let mut amounts = Vec::from_slice(alloc, root)?;
-        for change in &self.changes {
-            set(&mut amounts, change.order as usize, change.amount);
-        }
-        Ok(Optimum {
-            amounts,
-            flows: Vec::from_slice(alloc, self.flows.as_slice())?,
-            potentials: Vec::from_slice(alloc, self.potentials.as_slice())?,
-            value: self.bound,
-        })
+    /// Says how it stands now, where it waits no more: what its optimum runs is forgotten.
+    pub(crate) fn end(&mut self, alloc: Global, kind: Kind) {
+        self.kind = kind;
+        self.changes = Vec::new(alloc);
     }
 
-    /// Its turn, where it has this number.
-    pub(crate) fn turn(&self, number: usize) -> Turn {
+    /// The potentials of its optimum, in cents per MWh.
+    pub(crate) fn potentials(&self, alloc: Global) -> Result<Vec<i64>, AllocError> {
+        let mut potentials = Vec::with_capacity(alloc, self.potentials.len())?;
+        for potential in &self.potentials {
+            potentials.push(i64::from(*potential))?;
+        }
+        Ok(potentials)
+    }
+
+    /// Its optimum, where it waits.
+    pub(crate) fn optimum(&self, alloc: Global, root: &Optimum) -> Result<Optimum, AllocError> {
+        let mut optimum = root.clone()?;
+        let orders = root.amounts.len();
+        for change in &self.changes {
+            let (place, amount) = (change.place as usize, i64::from(change.amount));
+            if place < orders {
+                set(&mut optimum.amounts, place, amount);
+            } else {
+                set(&mut optimum.flows, place.saturating_sub(orders), amount);
+            }
+        }
+        optimum.potentials = self.potentials(alloc)?;
+        optimum.value = self.bound;
+        Ok(optimum)
+    }
+
+    /// The turn of a node of this bound, word and number.
+    pub(crate) fn turn(bound: i64, opened: &Prefix, number: usize) -> Turn {
         let mut word = [0u64; 8];
         for place in 0..8usize {
-            word[place] = self.word.bits[place].reverse_bits();
+            word[place] = opened.bits[place].reverse_bits();
         }
         Turn {
-            bound: self.bound,
+            bound,
             word: Reverse(word),
             number: Reverse(number_of(number)),
         }

@@ -83,11 +83,6 @@ pub(crate) fn activation_of(alloc: Global, optimum: &Optimum) -> Result<Activati
     })
 }
 
-/// Whether a bound holds by its value, and for the word by the gates that the state opens alone.
-fn holds_at_sight(node: &Node, best: i64, word: &Prefix) -> bool {
-    node.bound < best || (node.bound == best && !is_before(&node.word, word))
-}
-
 impl Search {
     /// The search of a market, with its root and the best activation that closes every gate; nothing where the solver
     /// gives up.
@@ -117,7 +112,7 @@ impl Search {
             waiting: BinaryHeap::new(alloc),
             stuck: false,
         };
-        search.add(alloc, market, none, &start)?;
+        search.add(alloc, market, 0, &none, &start)?;
         Ok(Some(search))
     }
 
@@ -136,23 +131,79 @@ impl Search {
         }
     }
 
+    /// The welfare of a node's optimum, in quarter-cents.
+    pub(crate) fn bound_of(&self, number: u32) -> i64 {
+        match self.nodes.get(number as usize) {
+            Some(node) => node.bound,
+            None => i64::MIN,
+        }
+    }
+
+    /// What is decided at the node above a node, for this one.
+    fn last_decision(&self, number: u32, parent: u32) -> Option<Decision> {
+        match &self.nodes.get(parent as usize)?.kind {
+            Kind::Branch(choice, first) if number == *first => Some(choice.first()),
+            Kind::Branch(choice, _) => Some(choice.second()),
+            _ => None,
+        }
+    }
+
+    /// The decisions on the way to a node.
+    fn decisions_of(&self, alloc: Global, number: u32) -> Result<Vec<Decision>, AllocError> {
+        let mut decisions = Vec::new(alloc);
+        let mut number = number;
+        for _ in 0..self.nodes.len() {
+            let Some(node) = self.nodes.get(number as usize) else {
+                break;
+            };
+            if node.parent == number {
+                break;
+            }
+            let Some(decision) = self.last_decision(number, node.parent) else {
+                break;
+            };
+            decisions.push(decision)?;
+            number = node.parent;
+        }
+        decisions.reverse();
+        Ok(decisions)
+    }
+
+    /// Whether a bound that is the best welfare holds for the best word.
+    fn holds_for_word(
+        &self,
+        alloc: Global,
+        market: &Market,
+        number: u32,
+        node: &Node,
+    ) -> Result<bool, AllocError>
+        requires { IsValid market.now }
+    {
+        let decisions = self.decisions_of(alloc, number)?;
+        let Some(view) = view_of(alloc, market, &decisions)? else {
+            return Ok(false);
+        };
+        let potentials = node.potentials(alloc)?;
+        let needed = needed_word(market, &view.spans, &potentials, &view.word);
+        Ok(!is_before(&needed, &self.word))
+    }
+
     /// Whether no better or earlier activation lies below a node, by its bound.
     pub(crate) fn bound_holds(
         &self,
         alloc: Global,
         market: &Market,
-        node: &Node,
+        number: u32,
     ) -> Result<bool, AllocError>
         requires { IsValid market.now }
     {
-        if node.bound > self.best || holds_at_sight(node, self.best, &self.word) {
-            return Ok(node.bound <= self.best);
+        match self.nodes.get(number as usize) {
+            Some(node) if node.bound == self.best => {
+                self.holds_for_word(alloc, market, number, node)
+            }
+            Some(node) => Ok(node.bound < self.best),
+            None => Ok(true),
         }
-        let Some(view) = view_of(alloc, market, &node.decisions)? else {
-            return Ok(false);
-        };
-        let needed = needed_word(market, &view.spans, &node.potentials, &node.word);
-        Ok(!is_before(&needed, &self.word))
     }
 
     /// Offers an optimum, where it is whole and has consistent prices. It says whether it is and has.
@@ -176,105 +227,70 @@ impl Search {
         Ok(true)
     }
 
-    /// A node of a state, examined from an optimum within looser bounds. Where the solver gives up it has that optimum.
+    /// Examines a state below a node, from an optimum within looser bounds. Where the solver gives up it has that optimum.
+    /// Where the node waits, its word comes with it.
     fn examined(
         &mut self,
         alloc: Global,
         market: &Market,
-        decisions: Vec<Decision>,
+        parent: u32,
+        decisions: &[Decision],
         start: &Optimum,
-    ) -> Result<Node, AllocError>
+    ) -> Result<(Node, Option<Prefix>), AllocError>
         requires { IsValid market.now }
     {
-        let Some(view) = view_of(alloc, market, &decisions)? else {
-            return Ok(Node::ended(alloc, decisions, Kind::Void));
+        let Some(view) = view_of(alloc, market, decisions)? else {
+            return Ok((Node::ended(alloc, parent, Kind::Void), None));
         };
-        let root = self.root.amounts.as_slice();
         match solve(alloc, market, &self.places, &view.spans, start)? {
-            Solved::Cut(cut) => Ok(Node::ended(alloc, decisions, Kind::Cut(cut))),
+            Solved::Cut(cut) => Ok((Node::ended(alloc, parent, Kind::Cut(cut)), None)),
             Solved::Stuck => {
                 self.stuck = true;
-                Node::waiting(alloc, decisions, view.word, root, start)
+                let node = Node::waiting(alloc, parent, &self.root, start)?;
+                Ok((node, Some(view.word)))
             }
             Solved::Optimum(optimum) => {
-                let node = Node::waiting(alloc, decisions, view.word, root, &optimum)?;
+                let node = Node::waiting(alloc, parent, &self.root, &optimum)?;
                 self.judge(alloc, market, &optimum)?;
-                Ok(node)
+                Ok((node, Some(view.word)))
             }
         }
     }
 
-    /// Adds a node of a state.
+    /// Adds a node of a state below a node.
     fn add(
         &mut self,
         alloc: Global,
         market: &Market,
-        decisions: Vec<Decision>,
+        parent: u32,
+        decisions: &[Decision],
         start: &Optimum,
     ) -> Result<(), AllocError>
         requires { IsValid market.now }
     {
-        let node = self.examined(alloc, market, decisions, start)?;
-        if matches!(&node.kind, Kind::Waiting) {
-            self.waiting.push(node.turn(self.nodes.len()))?;
+        let (node, word) = self.examined(alloc, market, parent, decisions, start)?;
+        if let Some(word) = word {
+            let turn = Node::turn(node.bound, &word, self.nodes.len());
+            self.waiting.push(turn)?;
         }
         self.nodes.push(node)?;
         Ok(())
     }
 
-    /// Says how a node stands.
-    fn mark(&mut self, number: u32, kind: Kind) {
+    /// Says how a node stands that waits no more.
+    fn mark(&mut self, alloc: Global, number: u32, kind: Kind) {
         if let Some(node) = self.nodes.get_mut(number as usize) {
-            node.kind = kind;
+            node.end(alloc, kind);
         }
-    }
-
-    /// Whether a node was closed by its bound, which doesn't hold for the present best.
-    fn is_open_again(
-        &self,
-        alloc: Global,
-        market: &Market,
-        number: usize,
-    ) -> Result<Option<Turn>, AllocError>
-        requires { IsValid market.now }
-    {
-        match self.nodes.get(number) {
-            Some(node) if matches!(&node.kind, Kind::Bound) => {
-                if self.bound_holds(alloc, market, node)? {
-                    Ok(None)
-                } else {
-                    Ok(Some(node.turn(number)))
-                }
-            }
-            _ => Ok(None),
-        }
-    }
-
-    /// Lets nodes wait again whose bounds don't hold for an earlier word. It says whether there are some.
-    fn reopen(&mut self, alloc: Global, market: &Market) -> Result<bool, AllocError>
-        requires { IsValid market.now }
-    {
-        let mut some = false;
-        for number in 0..self.nodes.len() {
-            if let Some(turn) = self.is_open_again(alloc, market, number)? {
-                self.mark(number_of(number), Kind::Waiting);
-                self.waiting.push(turn)?;
-                some = true;
-            }
-        }
-        Ok(some)
     }
 
     /// Whether a node's bound holds; then it is marked so.
     fn close(&mut self, alloc: Global, market: &Market, number: u32) -> Result<bool, AllocError>
         requires { IsValid market.now }
     {
-        let holds = match self.nodes.get(number as usize) {
-            Some(node) => self.bound_holds(alloc, market, node)?,
-            None => true,
-        };
+        let holds = self.bound_holds(alloc, market, number)?;
         if holds {
-            self.mark(number, Kind::Bound);
+            self.mark(alloc, number, Kind::Bound);
         }
         Ok(holds)
     }
@@ -291,11 +307,11 @@ impl Search {
         let Some(node) = self.nodes.get(number as usize) else {
             return Ok(None);
         };
-        let Some(view) = view_of(alloc, market, &node.decisions)? else {
+        let decisions = self.decisions_of(alloc, number)?;
+        let Some(view) = view_of(alloc, market, &decisions)? else {
             return Ok(None);
         };
-        let optimum = node.optimum(alloc, &self.root.amounts)?;
-        let decisions = Vec::from_slice(alloc, node.decisions.as_slice())?;
+        let optimum = node.optimum(alloc, &self.root)?;
         let runs = self.running(market, &optimum);
         Ok(Some(Visit {
             decisions,
@@ -319,9 +335,9 @@ impl Search {
         let first = decided(alloc, &visit.decisions, choice, Child::First)?;
         let second = decided(alloc, &visit.decisions, choice, Child::Second)?;
         let children = number_of(self.nodes.len());
-        self.mark(number, Kind::Branch(choice, children));
-        self.add(alloc, market, first, &visit.optimum)?;
-        self.add(alloc, market, second, &visit.optimum)
+        self.mark(alloc, number, Kind::Branch(choice, children));
+        self.add(alloc, market, number, &first, &visit.optimum)?;
+        self.add(alloc, market, number, &second, &visit.optimum)
     }
 
     /// Whether a bound is far above the best welfare.
@@ -370,9 +386,6 @@ impl Search {
         let mut turn = 0u32;
         for _ in 0..u64::MAX {
             let Some(next) = self.waiting.pop() else {
-                if self.reopen(alloc, market)? {
-                    continue;
-                }
                 return Ok(Stop::Done);
             };
             let number = next.number();

@@ -35,7 +35,8 @@ fn leaf_of(alloc: Global, node: &Node) -> Result<ReachLeaf, AllocError> {
         Kind::Void => Ok(ReachLeaf::Void),
         Kind::Cut(cut) => Ok(ReachLeaf::Cut(cut.clone()?)),
         Kind::Waiting | Kind::Bound | Kind::Branch(_, _) => {
-            Ok(ReachLeaf::Bound(prices_of(alloc, &node.potentials)?))
+            let potentials = node.potentials(alloc)?;
+            Ok(ReachLeaf::Bound(prices_of(alloc, &potentials)?))
         }
     }
 }
@@ -46,14 +47,14 @@ impl Search {
         &self,
         alloc: Global,
         market: &Market,
-        node: &Node,
+        number: u32,
         cutoff: Cutoff,
     ) -> Result<bool, AllocError>
         requires { IsValid market.now }
     {
         match cutoff {
-            Cutoff::Best => self.bound_holds(alloc, market, node),
-            Cutoff::Value(value) => Ok(node.bound <= value),
+            Cutoff::Best => self.bound_holds(alloc, market, number),
+            Cutoff::Value(value) => Ok(self.bound_of(number) <= value),
         }
     }
 
@@ -62,6 +63,7 @@ impl Search {
         &self,
         alloc: Global,
         market: &Market,
+        number: u32,
         node: &Node,
         cutoff: Cutoff,
         left: &mut Vec<u32>,
@@ -69,7 +71,7 @@ impl Search {
         requires { IsValid market.now }
     {
         if let Kind::Branch(choice, first) = &node.kind {
-            if !self.holds_at(alloc, market, node, cutoff)? {
+            if !self.holds_at(alloc, market, number, cutoff)? {
                 left.push(first.saturating_add(1))?;
                 left.push(*first)?;
                 return Ok(ReachItem::Branch(*choice));
@@ -95,7 +97,7 @@ impl Search {
                 break;
             };
             if let Some(node) = self.nodes.get(number as usize) {
-                items.push(self.item_of(alloc, market, node, cutoff, &mut left)?)?;
+                items.push(self.item_of(alloc, market, number, node, cutoff, &mut left)?)?;
             }
         }
         Ok(Items::of(items))

@@ -1,4 +1,4 @@
-use Rattle.std.proofs.Common.{◌≡◌, ◌∙◌, ◌++◌, ◌∷◌, List, Option, Some, None, map, rules, sym, subst}
+use Rattle.std.proofs.Common.{◌≡◌, ◌∙◌, ◌++◌, ◌∷◌, Option, Some, None, map, rules, sym, subst}
 use Rattle.mari_reach.specs.declared.decisions.ReachItem.{ReachItem}
 use Rattle.mari_reach_text.specs.Numbers.{item_of}
 use Rattle.mari_reach_text.proofs.Missing.{none-missing}

@@ -1,8 +1,19 @@
-use Rattle.std.proofs.Common.{◌≡◌, ◌∙◌, ◌-◌, ◌++◌, ℕ, List, length, refl, ap, arith}
+use Rattle.std.proofs.Common.{◌≡◌, ◌∙◌, ◌≤◌, ◌-◌, ◌++◌, ℕ, List, length, refl, ap, subst, arith}
+use Rattle.mari_lines.specs.Ranges.{IsAmountLine, IsMoneyLine, Listed}
+use Rattle.mari_lines.specs.declared.line.AmountLine.{AmountLine}
+use Rattle.mari_lines.specs.declared.line.MoneyLine.{MoneyLine}
+use Rattle.mari_publish.specs.declared.publication.Block.{Block}
 use Rattle.mari_publish.specs.Lines.{closing_lines_by}
+use Rattle.mari_publish.specs.Ranges.{SumsFit}
 use Rattle.mari_publish.specs.Texts.{text_of_lines}
+use Rattle.mari_progress.specs.Progress.{IsProgress}
+use Rattle.mari_progress.specs.declared.progress.Progress.{Progress}
+use Rattle.mari_progress.proofs.Sums.{provider-lines}
+use Rattle.mari_remain.specs.Accepted.{IsAccepted}
 use Rattle.mari_progress.specs.Totals.{operator_totals, provider_totals}
 use Rattle.mari_remain.specs.declared.books.Books.{Books}
+use Rattle.mari_day.specs.Dated.{IsDated}
+use Rattle.mari_day.proofs.Days.{operators-fit, providers-fit}
 use Rattle.mari_day.proofs.Framing.{made-as}
 use Rattle.mari_reach_day.specs.declared.block.ReachBlock.{ReachBlock}
 use Rattle.mari_reach_day.specs.Lines.{reach_end, reach_part_text}
@@ -15,6 +26,17 @@ use Rattle.mari_reach_day.proofs.writing.ReachSoFarDaySoFarUnit.end.Goals as goa
 end_by : (books : Books) (blocks : List ReachBlock) (first within : ℕ) → first ≡ first_in blocks → within ≡ within_in blocks
     → text_of_lines (closing_lines_by (operator_totals books (blocks_of blocks)) (provider_totals books (blocks_of blocks)) first within) ≡ reach_end books blocks
 end_by books blocks first within e f = rw (e, f) refl
+
+-- the totals are in range
+totals_fit : (books : Books) → IsAccepted books → IsDated books → (blocks : List Block) (p : Progress) → IsProgress books blocks p
+    → SumsFit (operator_totals books blocks) (provider_totals books blocks)
+totals_fit books ok dated blocks p kept =
+    let few : length blocks ≤ 1000 = omega (arith, kept.few, ok.runs.few) in
+    let Operators : List MoneyLine → Type 0 = λ ls. Listed 1 64 IsMoneyLine ls in
+    let Providers : List AmountLine → Type 0 = λ ls. Listed 0 1638400 IsAmountLine ls in (
+      subst Operators kept.totals.operators (operators-fit books ok dated blocks p.totals kept.totals few),
+      subst Providers (provider-lines books blocks p.totals kept.totals) (providers-fit books ok dated blocks p.totals kept.totals few),
+    )
 
 pub overflow_sub-within : goal.overflow_sub-within
 overflow_sub-within c =
@@ -35,6 +57,8 @@ returns c = λ blocks part keeps every.
     (record {
       blocks = blocks;
       day = record { part = part; every = every };
+      fits = keeps.fits;
+      totals = totals_fit books keeps.accepted keeps.dated (blocks_of blocks) day.progress keeps.kept;
       counted = keeps.counted;
       others = others;
       spelled = refl;

@@ -1,4 +1,6 @@
 use Rattle.std.proofs.Common.{arith}
+use Rattle.std.proofs.lemmas.List.Elements.{All-push}
+use Rattle.mari_reach_day.specs.Ranges.{ReachFits}
 use Rattle.mari_reach_day.specs.Reach.{blocks_of}
 use Rattle.mari_reach_day.proofs.Counts.{at_most_one, both_kinds, first_more}
 use Rattle.mari_reach_day.proofs.Progressing.{next_run, one_more, run_of}
@@ -36,6 +38,7 @@ returns-clause-next c = λ blocks keeps is.
         accepted = keeps.accepted;
         dated = keeps.dated;
         nodes = keeps.nodes;
+        fits = All-push ReachFits blocks run.block keeps.fits c.in_ok-block.ensures.fits;
         kept = one_more books blocks run.block _ (c.add.ensures (blocks_of blocks) run.block.block keeps.kept after adds);
         counted = omega (arith, keeps.counted, c.one_if_first.ensures, first_more blocks run.block);
       };

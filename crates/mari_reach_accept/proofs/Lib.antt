@@ -1,0 +1,6 @@
+pub mod Names
+pub mod Free
+pub mod Days
+pub mod Texts
+pub mod TreeFits
+pub mod Fits

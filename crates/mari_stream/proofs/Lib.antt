@@ -1,0 +1,5 @@
+mod Lines
+mod Stops
+mod LineByLine
+mod Paging
+mod Streaming

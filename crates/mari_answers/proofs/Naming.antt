@@ -1,5 +1,5 @@
 -- Every check by which a market file may be refused has a name.
-use Rattle.std.proofs.Common.{ℕ, [], arith, subst, sym}
+use Rattle.std.proofs.Common.{◌≡◌, ℕ, List, [], Option, Some, arith, subst, sym}
 use Rattle.std.specs.Prelude.{◌≢◌, IsSomeAnd}
 use Rattle.mari_units.specs.declared.faults.Refusal.{Refusal}
 use Rattle.mari_rows.specs.Checks.{row_check_name, row_check_number}
@@ -26,7 +26,13 @@ use Rattle.mari_day.specs.Refusals.IsCheckNumber.{OfRows, Own}
 use Rattle.mari_day.specs.declared.calendar_page.DateCheck.TheVariants as date
 use Rattle.mari_day.specs.declared.files.File.{File}
 use Rattle.mari_day.specs.declared.files.File.TheVariants.{Day, Zones, Borders, Bids, Links, Runs, Demands, Limits}
+use Rattle.mari_publish.specs.declared.fault.TextFault.{TextFault}
+use Rattle.mari_publish.specs.declared.fault.TextFault.TheVariants as text_fault
+use Rattle.mari_answers.specs.Checks.{text_check_name}
 use Rattle.mari_answers.specs.Refusals.{HasName, check_name}
+use Rattle.mari_answers.specs.Reports.{ReportsRefusal, ReportsText}
+use Rattle.mari_answers.specs.Texts.{refusal_of, text_refusal}
+use Rattle.mari_answers.specs.declared.status.Status.{Status}
 
 -- a check of a file by their numbers has a name, which isn't empty
 abbrev pub IsNamedCheck : (file number : ℕ) → Type 0
@@ -98,3 +104,34 @@ by-name refusal by =
 -- the number of a market file is one of a file that has a name
 pub named-file : (file : ℕ) → IsFileNumber file → IsNamed file
 named-file file is = (is.from_one, omega (arith, is.to_last))
+
+-- a publication whose text has a fault is refused by its file and a check that has a name
+abbrev pub IsSaid : Refusal → Type 0
+IsSaid refusal = IsNamed refusal.file × HasName refusal
+
+pub line-named : (n : ℕ) → IsSaid (text_refusal (text_fault.BadLine n))
+unfolding check_name text_check_name
+line-named n = ((omega arith, omega arith), λ e. cc e)
+
+pub order-named : (n : ℕ) → IsSaid (text_refusal (text_fault.BadOrder n))
+unfolding check_name text_check_name
+order-named n = ((omega arith, omega arith), λ e. cc e)
+
+pub end-named : (n : ℕ) → IsSaid (text_refusal (text_fault.Truncated n))
+unfolding check_name text_check_name
+end-named n = ((omega arith, omega arith), λ e. cc e)
+
+pub text-named : (fault : TextFault) (refusal : Refusal) → Some refusal ≡ refusal_of fault → IsSaid refusal
+text-named (text_fault.BadLine n) refusal e = let same : refusal ≡ text_refusal (text_fault.BadLine n) = cc in subst IsSaid (sym same) (line-named n)
+text-named (text_fault.BadOrder n) refusal e = let same : refusal ≡ text_refusal (text_fault.BadOrder n) = cc in subst IsSaid (sym same) (order-named n)
+text-named (text_fault.Truncated n) refusal e = let same : refusal ≡ text_refusal (text_fault.Truncated n) = cc in subst IsSaid (sym same) (end-named n)
+text-named text_fault.Memory refusal e = absurd cc
+
+-- the refusal of a fault of a publication's text
+pub same-refusal : (fault : TextFault) (refusal : Refusal) (before after : Option (List ℕ)) (result : Status)
+    → Some refusal ≡ refusal_of fault → ReportsRefusal refusal before after result
+    → ReportsText fault before after result
+same-refusal (text_fault.BadLine n) refusal before after result e r = let same : refusal ≡ text_refusal (text_fault.BadLine n) = cc in subst (λ x. ReportsRefusal x before after result) same r
+same-refusal (text_fault.BadOrder n) refusal before after result e r = let same : refusal ≡ text_refusal (text_fault.BadOrder n) = cc in subst (λ x. ReportsRefusal x before after result) same r
+same-refusal (text_fault.Truncated n) refusal before after result e r = let same : refusal ≡ text_refusal (text_fault.Truncated n) = cc in subst (λ x. ReportsRefusal x before after result) same r
+same-refusal text_fault.Memory refusal before after result e r = absurd cc

@@ -3,3 +3,4 @@ pub mod Lines
 pub mod Refusals
 pub mod Reports
 pub mod Status
+pub mod Texts

@@ -10,7 +10,10 @@ use Rattle.mari_day.specs.declared.reading.BooksFault.{BooksFault}
 use Rattle.mari_day.specs.declared.reading.BooksFault.TheVariants as why
 use Rattle.mari_answers.specs.declared.status.Status.{Status}
 use Rattle.mari_answers.specs.declared.status.Status.TheVariants as status
+use Rattle.mari_publish.specs.declared.fault.TextFault.{TextFault}
+use Rattle.mari_publish.specs.declared.fault.TextFault.TheVariants as text_fault
 use Rattle.mari_answers.specs.Lines.{file_line, page_status, page_word, refused_line}
+use Rattle.mari_answers.specs.Texts.{text_refusal}
 
 -- where the pages are reported, this is so of them
 abbrev pub WhereReported : Option Pages → (Pages → Type 0) → Type 0
@@ -26,6 +29,11 @@ pub data Reports (text : List ℕ) (wanted : Status) (before after : Option (Lis
 -- how a refusal is reported
 abbrev pub ReportsRefusal : Refusal → (before after : Option (List ℕ)) → Status → Type 0
 ReportsRefusal refusal before after result = Reports (refused_line refusal) (status.Refused refusal) before after result
+
+-- how a publication is reported whose text has a fault
+abbrev pub ReportsText : TextFault → (before after : Option (List ℕ)) → Status → Type 0
+ReportsText text_fault.Memory before after result = (result ≡ status.Memory) × (after ≡ before)
+ReportsText fault before after result = ReportsRefusal (text_refusal fault) before after result
 
 -- how a page that can't be had is reported
 abbrev pub ReportsNoPage : ℕ → Fetch → (before after : Option (List ℕ)) → Status → Type 0

@@ -10,9 +10,11 @@ mod lines;
 mod refusals;
 mod saying;
 mod status;
+mod texts;
 
 pub use arguments::words_of;
 pub use checks::{MigrationCheck, TextCheck};
 pub use lines::{invalid_line, page_line, pair_line, refused_line};
 pub use saying::{say, say_after, say_invalid, say_no_books, say_no_page, say_refused};
 pub use status::Status;
+pub use texts::{say_text_fault, text_refusal};

@@ -37,10 +37,11 @@ use Rattle.mari_commands.specs.declared.outcome.Outcome.{Outcome}
 use Rattle.mari_commands.specs.declared.outcome.Outcome.TheVariants.{Day, Feed as Feeds, Values, Text, Invalid, NoPage, Refused, Memory as NoMemory}
 use Rattle.mari_answers.specs.declared.status.Status.{Status}
 use Rattle.mari_answers.specs.declared.status.Status.TheVariants as status
-use Rattle.mari_commands.specs.Commands.{EndsValues, HasBooksToClear, IsFeedable, IsMigratable, IsReadable, LacksPage, RefusesFeed, RefusesFiles, RefusesText, fetch_of, publication_path, text_refusal}
+use Rattle.mari_commands.specs.Commands.{EndsValues, HasBooksToClear, IsFeedable, IsMigratable, IsReadable, LacksPage, RefusesFeed, RefusesFiles, RefusesText, fetch_of, publication_path}
+use Rattle.mari_answers.specs.Texts.{text_refusal}
 use Rattle.mari_commands.specs.Headline.{HasBudget}
-use Rattle.mari_commands.specs.Outcome.{IsDayOf, IsFeedOf, IsReportedValues, Reported, ReportsDay, ReportsFeed, ReportsParts, ReportsText, Says, day_status}
-use Rattle.mari_answers.specs.Reports.{Reports}
+use Rattle.mari_commands.specs.Outcome.{IsDayOf, IsFeedOf, IsReportedValues, Reported, ReportsDay, ReportsFeed, ReportsParts, Says, day_status}
+use Rattle.mari_answers.specs.Reports.{Reports, ReportsText}
 use Rattle.mari_answers.specs.Lines.{file_line, invalid_line, refused_line}
 use Rattle.mari_commands.specs.Program.{IsDayStatus, IsStatus, IsVerdictStatus, OrFault, gap_status}
 use Rattle.mari_commands.specs.Splits.{EndsBy, HasIslandBudget, IsSplittable}

@@ -17,7 +17,8 @@ use Rattle.mari_words.specs.Asked.{Asked}
 use Rattle.mari_words.specs.Asked.Asked.{Feed}
 use Rattle.mari_answers.specs.declared.status.Status.{Status}
 use Rattle.mari_answers.specs.declared.status.Status.TheVariants as status
-use Rattle.mari_commands.specs.Commands.{HasFeed, IsRefused, LacksPage, publication_path, text_refusal}
+use Rattle.mari_commands.specs.Commands.{HasFeed, IsRefused, LacksPage, publication_path}
+use Rattle.mari_answers.specs.Texts.{text_refusal}
 use Rattle.mari_commands.specs.Commands.IsRefused.{OfFeed as refused-feed}
 use Rattle.mari_commands.specs.Commands.LacksPage.{NoFeed as lacks-feed, LongFeed as lacks-long}
 use Rattle.mari_commands.specs.Outcome.{MayWant, ReportsFeed, ReportsParts}

@@ -1,5 +1,5 @@
 -- Every refusal that an outcome states has a name.
-use Rattle.std.proofs.Common.{◌≡◌, ℕ, Some, Result, Ok, Err, arith, inl, inr, subst, sym}
+use Rattle.std.proofs.Common.{ℕ, Result, Ok, Err, arith, inl, inr}
 use Rattle.mari_units.specs.declared.faults.Refusal.{Refusal}
 use Rattle.mari_publish.specs.declared.fault.TextFault.{TextFault}
 use Rattle.mari_publish.specs.declared.fault.TextFault.TheVariants as text_fault
@@ -20,13 +20,13 @@ use Rattle.mari_day.specs.Refusals.{RefusesByCheck}
 use Rattle.mari_day.specs.declared.reading.BooksFault.{BooksFault}
 use Rattle.mari_day.specs.declared.reading.BooksFault.TheVariants as why
 use Rattle.mari_words.specs.declared.command.FilePart.{FilePart}
-use Rattle.mari_answers.specs.Checks.{migration_check_name, text_check_name}
-use Rattle.mari_commands.specs.Commands.{already_two, text_refusal}
-use Rattle.mari_commands.specs.Outcome.{IsMigrated, IsReportable, IsSayable, no_books, refusal_of, text_outcome}
+use Rattle.mari_answers.specs.Checks.{migration_check_name}
+use Rattle.mari_commands.specs.Commands.{already_two}
+use Rattle.mari_commands.specs.Outcome.{IsMigrated, IsReportable, IsSayable, no_books, text_outcome}
 use Rattle.mari_answers.specs.Refusals.{HasName, check_name}
 use Rattle.mari_commands.specs.declared.outcome.Outcome.{Outcome}
 use Rattle.mari_commands.specs.declared.outcome.Outcome.TheVariants as outcome
-use Rattle.mari_answers.proofs.Naming.{IsNamedCheck, by-name, named-file, row-named}
+use Rattle.mari_answers.proofs.Naming.{IsNamedCheck, by-name, end-named, line-named, named-file, order-named, row-named}
 
 -- and those of blocks.csv, and of what can't be one market
 block-named : (check : BlockCheck) → IsNamedCheck BLOCKS (block_check_number check)
@@ -51,10 +51,9 @@ fault-reportable why.Memory names by = tt
 
 -- a publication whose text has a fault
 pub text-reportable : (fault : TextFault) → IsReportable (text_outcome fault)
-unfolding check_name text_check_name
-text-reportable (text_fault.BadLine n) = ((omega arith, omega arith), λ e. cc e)
-text-reportable (text_fault.BadOrder n) = ((omega arith, omega arith), λ e. cc e)
-text-reportable (text_fault.Truncated n) = ((omega arith, omega arith), λ e. cc e)
+text-reportable (text_fault.BadLine n) = line-named n
+text-reportable (text_fault.BadOrder n) = order-named n
+text-reportable (text_fault.Truncated n) = end-named n
 text-reportable text_fault.Memory = tt
 
 -- a folder that is migrated though it has limits.csv already
@@ -69,13 +68,6 @@ migrated-reportable books part (outcome.Invalid run fault) is = tt
 migrated-reportable books part (outcome.Refused refusal) is = rw is.1 already-reportable
 migrated-reportable books part outcome.Memory is = tt
 migrated-reportable books part _ is = absurd is
-
--- and so it is by its refusal
-pub refusal-named : (fault : TextFault) (refusal : Refusal) → Some refusal ≡ refusal_of fault → IsReportable (outcome.Refused refusal)
-refusal-named (text_fault.BadLine n) refusal e = let same : refusal ≡ text_refusal (text_fault.BadLine n) = cc in subst (λ r. IsReportable (outcome.Refused r)) (sym same) (text-reportable (text_fault.BadLine n))
-refusal-named (text_fault.BadOrder n) refusal e = let same : refusal ≡ text_refusal (text_fault.BadOrder n) = cc in subst (λ r. IsReportable (outcome.Refused r)) (sym same) (text-reportable (text_fault.BadOrder n))
-refusal-named (text_fault.Truncated n) refusal e = let same : refusal ≡ text_refusal (text_fault.Truncated n) = cc in subst (λ r. IsReportable (outcome.Refused r)) (sym same) (text-reportable (text_fault.Truncated n))
-refusal-named text_fault.Memory refusal e = absurd cc
 
 -- what clearing quarters gives
 file-named : (file : ℕ) → IsQuartersFile file → IsNamed file

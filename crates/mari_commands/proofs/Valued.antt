@@ -17,7 +17,8 @@ use Rattle.mari_words.specs.Asked.{Asked}
 use Rattle.mari_answers.specs.declared.status.Status.{Status}
 use Rattle.mari_answers.specs.declared.status.Status.TheVariants as status
 use Rattle.mari_answers.specs.Reports.{WhereReported}
-use Rattle.mari_commands.specs.Commands.{AsksForFiles, AsksForValues, EndsValues, StatesValues, text_refusal}
+use Rattle.mari_commands.specs.Commands.{AsksForFiles, AsksForValues, EndsValues, StatesValues}
+use Rattle.mari_answers.specs.Texts.{text_refusal}
 use Rattle.mari_commands.specs.Commands.IsInvalid.{OfValues as invalid-values}
 use Rattle.mari_commands.specs.Commands.IsRefused.{OfValues as refused-values}
 use Rattle.mari_commands.specs.Commands.LacksPage.{OfValues as lacks-values}

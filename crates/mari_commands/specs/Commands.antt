@@ -28,8 +28,8 @@ use Rattle.mari_words.specs.Asked.Asked.{Blocks, Clear, Check, Generate, Migrate
 use Rattle.mari_words.specs.declared.command.FilePart.{FilePart}
 use Rattle.mari_words.specs.declared.command.FilePart.TheVariants.{Borders, Limits}
 use Rattle.mari_answers.specs.declared.checks.MigrationCheck.TheVariants.{AlreadyTwo}
-use Rattle.mari_answers.specs.declared.checks.TextCheck.TheVariants.{BadLine, BadOrder, Truncated}
-use Rattle.mari_answers.specs.Checks.{migration_check_number, text_check_number}
+use Rattle.mari_answers.specs.Checks.{migration_check_number}
+use Rattle.mari_answers.specs.Texts.{text_refusal}
 use Rattle.mari_commands.specs.Printing.{valid_line}
 use Rattle.mari_commands.specs.Summary.{IsGenerated}
 
@@ -135,17 +135,6 @@ pub record StatesValues (asked : Option Asked) (pages : Pages) (end : ValueEnd) 
   pub books : Books
   pub gives : HasBooks pages folder books
   pub states : ValueStates books more (page_of pages (publication_path folder)) lines end
-
--- the publication is refused at a line, by the number of a check
-abbrev pub text_refusal_at : (line number : ℕ) → Refusal
-text_refusal_at line number = record { file = PUBLICATION; line = line; number = number }
-
--- the refusal of a text with this fault
-abbrev pub text_refusal : TextFault → Refusal
-text_refusal (text_fault.BadLine n) = text_refusal_at n (text_check_number BadLine)
-text_refusal (text_fault.BadOrder n) = text_refusal_at n (text_check_number BadOrder)
-text_refusal (text_fault.Truncated n) = text_refusal_at n (text_check_number Truncated)
-text_refusal text_fault.Memory = text_refusal_at 0 0
 
 -- the refusal of borders that leave their limits to limits.csv already
 abbrev pub already_two : Refusal

@@ -44,13 +44,14 @@ use Rattle.mari_commands.specs.declared.outcome.Outcome.TheVariants.{NoCommand, 
 use Rattle.mari_answers.specs.declared.status.Status.{Status}
 use Rattle.mari_answers.specs.declared.status.Status.TheVariants as status
 use Rattle.mari_words.specs.declared.command.FilePart.{FilePart}
-use Rattle.mari_commands.specs.Commands.{AsksForFiles, AsksForLines, AsksForValues, AsksToCheck, IsAlone, already_two, fetch_of, folder_of, page_of_part, publication_path, text_refusal}
+use Rattle.mari_commands.specs.Commands.{AsksForFiles, AsksForLines, AsksForValues, AsksToCheck, IsAlone, already_two, fetch_of, folder_of, page_of_part, publication_path}
 use Rattle.mari_commands.specs.Splits.{EndsBy, command_by}
 use Rattle.mari_commands.specs.Summary.{IsGenerated}
 use Rattle.mari_commands.specs.Printing.{usage_line, valid_line}
 use Rattle.mari_answers.specs.Lines.{invalid_line}
-use Rattle.mari_answers.specs.Reports.{Reports, ReportsNoPage, ReportsRefusal, WhereReported}
+use Rattle.mari_answers.specs.Reports.{Reports, ReportsNoPage, ReportsRefusal, ReportsText, WhereReported}
 use Rattle.mari_answers.specs.Refusals.{HasName}
+use Rattle.mari_answers.specs.Texts.{refusal_of, text_refusal}
 use Rattle.mari_commands.specs.Values.{value_line, value_status}
 
 -- the line of a publication that is valid
@@ -149,11 +150,6 @@ pub record ReportsDay (job : Job) (before after : Option (List ℕ)) (result : S
   pub ends : EndsBy job.way job.books job.nodes before after ended
   pub status : result ≡ day_status ended
 
--- how a publication is reported whose text has a fault
-abbrev pub ReportsText : TextFault → (before after : Option (List ℕ)) → Status → Type 0
-ReportsText text_fault.Memory before after result = (result ≡ status.Memory) × (after ≡ before)
-ReportsText fault before after result = ReportsRefusal (text_refusal fault) before after result
-
 -- how the printing of a feed is reported by how it ended: nothing more is printed; or the line of its status is
 abbrev pub ReportsFeed : {T : Type 0} → Result T FeedStop → (before after : Option (List ℕ)) → Status → Type 0
 ReportsFeed (Ok done) before after result = (result ≡ status.Done) × (after ≡ before)
@@ -235,11 +231,6 @@ abbrev pub IsSummarised : ℕ → Outcome → Type 0
 IsSummarised number (Text text) = IsGenerated number text.items
 IsSummarised number NoMemory = ⊤
 IsSummarised number _ = ⊥
-
--- the refusal of a publication whose text has a fault; none when out of memory
-abbrev pub refusal_of : TextFault → Option Refusal
-refusal_of text_fault.Memory = None
-refusal_of fault = Some (text_refusal fault)
 
 -- what comes of a publication whose text has a fault
 abbrev pub text_outcome : TextFault → Outcome

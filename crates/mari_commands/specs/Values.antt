@@ -7,7 +7,7 @@ use Rattle.mari_capacity.specs.declared.ending.ValueEnd.{ValueEnd}
 use Rattle.mari_capacity.specs.declared.ending.ValueEnd.TheVariants as values
 use Rattle.mari_answers.specs.declared.status.Status.{Status}
 use Rattle.mari_answers.specs.declared.status.Status.TheVariants as status
-use Rattle.mari_commands.specs.Commands.{text_refusal}
+use Rattle.mari_answers.specs.Texts.{text_refusal}
 use Rattle.mari_answers.specs.Lines.{file_line, invalid_line, page_status, page_word, refused_line}
 
 -- the line that stands after the lines of checked blocks; after those of a valid publication there is none

@@ -5,44 +5,19 @@ ghost use Rattle.mari_io.specs.Outside.{Counts, Pages, page_of};
 ghost use Rattle.mari_io.specs.declared.shelf.Fetch.TheVariants as fetch;
 ghost use Rattle.mari_remain.specs.Accepted.{IsAccepted};
 ghost use Rattle.mari_words.specs.Asked.Asked.{Check};
-ghost use Rattle.mari_answers.specs.Checks.{text_check_number};
-ghost use Rattle.mari_commands.specs.Commands.{publication_path as path_of, text_refusal_at};
-ghost use Rattle.mari_commands.specs.Outcome.{CheckStates, IsNoPage, IsOfWords, IsReportable, IsReportedVerdict, Says, refusal_of, text_outcome as outcome_of_text};
+ghost use Rattle.mari_commands.specs.Commands.{publication_path as path_of};
+ghost use Rattle.mari_commands.specs.Outcome.{CheckStates, IsNoPage, IsOfWords, IsReportable, IsReportedVerdict, Says, text_outcome as outcome_of_text};
 
 use crate::books::books_in;
 use crate::outcome::Outcome;
-use mari_answers::{TextCheck, pair_line};
+use mari_answers::{pair_line, text_refusal};
 use mari_check::{StreamFault, Verdict, check_stream};
 use mari_day::{PUBLICATION, file_name, path_in};
 use mari_io::Shelf;
 use mari_publish::TextFault;
 use mari_remain::Books;
-use mari_rows::FileCheck;
-use mari_units::{Memory, Refusal};
+use mari_units::Memory;
 use std::alloc::Global;
-
-/// The refusal of the publication's text at a line, by a check.
-fn refused_text(line: u32, check: TextCheck) -> Refusal
-    ensures { result ≡ text_refusal_at line (text_check_number check) }
-{
-    Refusal {
-        file: PUBLICATION,
-        line,
-        number: check.entry().0,
-    }
-}
-
-/// The refusal of a publication whose text has a fault; none when out of memory.
-pub fn text_refusal(fault: TextFault) -> Option<Refusal>
-    ensures { result ≡ refusal_of fault }
-{
-    match fault {
-        TextFault::BadLine(line) => Some(refused_text(line, TextCheck::BadLine)),
-        TextFault::BadOrder(line) => Some(refused_text(line, TextCheck::BadOrder)),
-        TextFault::Truncated(line) => Some(refused_text(line, TextCheck::Truncated)),
-        TextFault::Memory => None,
-    }
-}
 
 /// What comes of a publication whose text has a fault.
 fn text_outcome(fault: TextFault) -> Outcome

@@ -2,26 +2,13 @@
 
 ghost use Rattle.std.specs.Prelude.{◌≡◌, ◌≤◌, ◌+◌};
 ghost use Rattle.mari_io.specs.Outside.{Counts, Rose};
-ghost use Rattle.mari_commands.specs.Outcome.{AsksForOne, ReportsParts, ReportsText};
+ghost use Rattle.mari_commands.specs.Outcome.{AsksForOne, ReportsParts};
 
-use crate::checking::text_refusal;
-use mari_answers::{Status, say_no_page, say_refused};
+use mari_answers::{Status, say_no_page, say_text_fault};
 use mari_day::{PUBLICATION, file_name, path_in};
 use mari_feed::{FeedStop, print_feed};
 use mari_io::{Shelf, Sink};
-use mari_publish::TextFault;
 use std::alloc::Global;
-
-/// Writes the line of a publication whose text has a fault.
-fn say_fault<K: Sink>(alloc: Global, sink: &mut K, fault: TextFault) -> Status
-    ensures reports { ReportsText fault (K.taken sink.old) (K.taken sink.new) result }
-    ensures cause { Counts (result ≡ Status.WriteFault) (K.faults sink.old) (K.faults sink.new) }
-{
-    match text_refusal(fault) {
-        Some(refusal) => say_refused(alloc, sink, refusal),
-        None => Status::Memory,
-    }
-}
 
 /// Prints the feed of a folder's publication, which is read in pieces, and then the line of the status, where it has
 /// one. Of the folder it reads the publication alone.
@@ -45,7 +32,7 @@ pub fn fed<S: Shelf, K: Sink>(alloc: Global, shelf: &mut S, sink: &mut K, folder
     match print_feed(alloc, shelf, &path, sink) {
         Ok(()) => Status::Done,
         Err(FeedStop::Fetch(why)) => say_no_page(alloc, sink, PUBLICATION, why),
-        Err(FeedStop::Text(fault)) => say_fault(alloc, sink, fault),
+        Err(FeedStop::Text(fault)) => say_text_fault(alloc, sink, fault),
         Err(FeedStop::Sink) => Status::WriteFault,
         Err(FeedStop::Memory) => Status::Memory,
     }

@@ -11,9 +11,8 @@ ghost use Rattle.mari_answers.specs.Reports.{Reports};
 ghost use Rattle.mari_commands.specs.Values.{IsEnding, value_line, value_status};
 
 use crate::books::books_in;
-use crate::checking::text_refusal;
 use crate::outcome::Outcome;
-use mari_answers::{Status, invalid_line, page_line, refused_line, say_after};
+use mari_answers::{Status, invalid_line, page_line, refused_line, say_after, text_refusal};
 use mari_capacity::{ValueEnd, Valued, value_stream};
 use mari_day::{PUBLICATION, file_name, path_in};
 use mari_io::{Shelf, Sink};

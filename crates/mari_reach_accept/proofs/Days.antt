@@ -10,10 +10,11 @@ use Rattle.mari_remain.specs.declared.books.Books.{Books}
 use Rattle.mari_progress.specs.After.{run_after}
 use Rattle.mari_progress.specs.Totals.{operator_totals, provider_totals}
 use Rattle.mari_reach_text.specs.declared.named.NamedBlock.{NamedBlock}
-use Rattle.mari_reach_check.specs.Day.{AreReachFree, AreSums, IsReachFreeIn}
+use Rattle.mari_reach_check.specs.Verdict.{IsReachValid}
+use Rattle.mari_reach_check.specs.Day.{AreReachFree, IsReachFreeIn}
 use Rattle.mari_reach_day.specs.declared.block.ReachBlock.{ReachBlock}
-use Rattle.mari_reach_day.specs.Reach.{IsReachPart, block_of, blocks_of}
-use Rattle.mari_reach_accept.specs.Named.{all_named, named_of}
+use Rattle.mari_reach_day.specs.Reach.{IsReachDay, IsReachPart, block_of, blocks_of}
+use Rattle.mari_reach_accept.specs.Named.{all_named, named_of, publication_of}
 use Rattle.mari_reach_accept.proofs.Free.{free_in, printed_named}
 
 module _ (books : Books) (ok : IsAccepted books) (budget : ℕ) (blocks : List ReachBlock) (part : IsReachPart books budget blocks) where
@@ -31,9 +32,14 @@ module _ (books : Books) (ok : IsAccepted books) (budget : ℕ) (blocks : List R
           let own : Free (take k (all_named books blocks)) = subst Free (sym (take-map (named_of books) k blocks)) (free_in books ok budget (take k blocks) r (part.each k r f) last any) in
           subst (λ (x : NamedBlock). IsReachFreeIn books budget (take k (all_named books blocks)) x any) (same_Some (named_of books r) b g) own
 
--- the totals of the day are the sums over its blocks by names
-pub sums_of : (books : Books) (blocks : List ReachBlock) → AreSums books (all_named books blocks) (operator_totals books (blocks_of blocks)) (provider_totals books (blocks_of blocks))
-sums_of books blocks = record {
-  operators_are = ap (operator_totals books) (sym (printed_named books blocks));
-  providers_are = ap (provider_totals books) (sym (printed_named books blocks));
+-- so a whole day is valid: its totals are the sums over its blocks by names
+pub day_valid : (books : Books) → IsAccepted books → (budget : ℕ) (blocks : List ReachBlock) → IsReachDay books budget blocks → IsReachValid books (publication_of books budget blocks)
+day_valid books ok budget blocks day = record {
+  head = record { date_is = refl; quarters_is = refl };
+  blocks = all_free books ok budget blocks day.part;
+  every = length-map blocks (named_of books) ∙ day.every;
+  totals = record {
+    operators_are = ap (operator_totals books) (sym (printed_named books blocks));
+    providers_are = ap (provider_totals books) (sym (printed_named books blocks));
+  };
 }

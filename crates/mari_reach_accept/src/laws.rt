@@ -6,17 +6,22 @@ ghost use Rattle.std.specs.Prelude.{◌≡◌, ◌≤◌, ℕ, List, length};
 ghost use Rattle.mari_market.specs.Clearing.{IsBudget};
 ghost use Rattle.mari_remain.specs.Accepted.{IsAccepted};
 ghost use Rattle.mari_progress.specs.After.{run_after};
-ghost use Rattle.mari_progress.specs.Totals.{HasHead, operator_totals, provider_totals};
 ghost use Rattle.mari_day.specs.Dated.{IsDated};
 ghost use Rattle.mari_check.specs.declared.fault.Fault.{Fault as TheFault};
-ghost use Rattle.mari_reach_check.specs.Day.{AreReachFree, AreSums, IsReachFreeIn};
-ghost use Rattle.mari_reach_text.specs.Claims.{first_among, within_among};
-ghost use Rattle.mari_reach_text.specs.Texts.{IsReachText};
+ghost use Rattle.mari_stream.specs.Forms.{IsWhole};
+ghost use Rattle.mari_reach_text.specs.Order.{reach_form};
+ghost use Rattle.mari_reach_text.specs.Texts.{IsReachText, reach_parts_of};
+ghost use Rattle.mari_reach_check.specs.Day.{AreReachFree, IsReachFreeIn};
+ghost use Rattle.mari_reach_check.specs.Verdict.{IsReachValid, IsReachVerdict};
+ghost use Rattle.mari_reach_check.specs.declared.verdict.ReachVerdict.{ReachVerdict as TheVerdict};
+ghost use Rattle.mari_reach_check.specs.declared.verdict.ReachVerdict.TheVariants.{Valid};
 ghost use Rattle.mari_reach_day.specs.Days.{IsReachDayText};
 ghost use Rattle.mari_reach_day.specs.declared.block.ReachBlock.{ReachBlock as PrintedReach};
 ghost use Rattle.mari_reach_day.specs.Reach.{IsReachBlock, IsReachDay, IsReachPart, blocks_of};
 ghost use Rattle.mari_reach_accept.specs.Named.{all_named, named_of, publication_of};
 
+use mari_reach_check::valid_days_pass;
+use mari_reach_text::reach_texts_follow;
 use mari_remain::Books;
 
 /// The block of a run that is there has none of the faults, with its bids and zones by names; nor has any block of the first
@@ -32,31 +37,31 @@ pub fn printed_blocks_are_free(books: &Books)
     let _books = books;
 }
 
-/// A day has a block for every run, none of which has a fault, and its totals are the sums over them.
-pub fn printed_days_are_free(books: &Books)
+/// A day is valid: it has the head of the books, a block for every run, none of which has a fault, and their sums as totals.
+pub fn printed_days_are_valid(books: &Books)
     requires { IsAccepted books.now }
-    ensures head { HasHead books.now books.now.date books.now.quarters }
-    ensures free { (budget : ℕ) (blocks : List PrintedReach) → IsReachDay books.now budget blocks
-        → AreReachFree books.now budget (all_named books.now blocks) }
-    ensures every { (budget : ℕ) (blocks : List PrintedReach) → IsReachDay books.now budget blocks
-        → length (all_named books.now blocks) ≡ length books.now.runs.runs }
-    ensures sums { (blocks : List PrintedReach)
-        → AreSums books.now (all_named books.now blocks) (operator_totals books.now (blocks_of blocks)) (provider_totals books.now (blocks_of blocks)) }
+    ensures { (budget : ℕ) (blocks : List PrintedReach) → IsReachDay books.now budget blocks
+        → IsReachValid books.now (publication_of books.now budget blocks) }
 {
     let _books = books;
 }
 
-/// The text of a day is that of its lines with bids and zones by names, whose numbers are in range; so many of its blocks as
-/// are counted state the first activation, and so many one within a gap.
-pub fn printed_days_have_text(books: &Books)
+/// What is said of the text of a day by whoever reads it.
+pub fn printed_texts_are_accepted(books: &Books)
     requires accepted { IsAccepted books.now }
     requires dated { IsDated books.now }
+
+    // It is the text of the day's lines with bids and zones by names, whose numbers are in range, so it is whole.
     ensures text { (budget first within : ℕ) (text : List ℕ) (is : IsReachDayText books.now budget first within text) → IsBudget budget
         → IsReachText text (publication_of books.now budget is.blocks) }
-    ensures first { (budget first within : ℕ) (text : List ℕ) (is : IsReachDayText books.now budget first within text)
-        → first ≡ first_among (all_named books.now is.blocks) }
-    ensures within { (budget first within : ℕ) (text : List ℕ) (is : IsReachDayText books.now budget first within text)
-        → within ≡ within_among (all_named books.now is.blocks) }
+    ensures whole { (budget first within : ℕ) (text : List ℕ) (is : IsReachDayText books.now budget first within text) → IsBudget budget
+        → IsWhole reach_form text (reach_parts_of (publication_of books.now budget is.blocks)) }
+
+    // And a right verdict on it is that it is valid, with the numbers of runs that were reported where it was printed.
+    ensures verdict { (budget first within : ℕ) (text : List ℕ) (is : IsReachDayText books.now budget first within text) (v : TheVerdict)
+        → IsReachVerdict books.now (publication_of books.now budget is.blocks) v → v ≡ Valid first within }
 {
     let _books = books;
+    reach_texts_follow();
+    valid_days_pass();
 }

@@ -2,3 +2,6 @@ pub mod Trees
 pub mod Examining
 pub mod Showing
 pub mod Days
+pub mod Verdicts
+pub mod Parts
+pub mod Streaming

@@ -1,5 +1,5 @@
 -- The blocks of a day of the second form that were checked, and what is reported of the next one and of the whole.
-use Rattle.std.specs.Prelude.{◌≡◌, ◌≤◌, ◌<◌, ◌+◌, ℕ, List, [], ◌∷◌, Some, length, map, slice_get, take}
+use Rattle.std.specs.Prelude.{◌≡◌, ◌≤◌, ◌<◌, ◌+◌, ℕ, List, Some, length, map, slice_get, take}
 use Rattle.mari_lines.specs.declared.line.AmountLine.{AmountLine}
 use Rattle.mari_lines.specs.declared.line.MoneyLine.{MoneyLine}
 use Rattle.mari_publish.specs.declared.publication.Block.{Block}
@@ -9,8 +9,7 @@ use Rattle.mari_progress.specs.After.{also_after, market_after, run_after}
 use Rattle.mari_progress.specs.Progress.{IsProgress}
 use Rattle.mari_progress.specs.Totals.{operator_totals, provider_totals}
 use Rattle.mari_check.specs.declared.fault.Fault.{Fault}
-use Rattle.mari_reach_lines.specs.declared.line.Claim.{Claim}
-use Rattle.mari_reach_lines.specs.declared.line.Claim.TheVariants.{First, Within}
+use Rattle.mari_reach_text.specs.Claims.{first_among}
 use Rattle.mari_reach_text.specs.declared.named.NamedBlock.{NamedBlock}
 use Rattle.mari_reach_check.specs.declared.day.ReachDayCheck.{ReachDayCheck}
 use Rattle.mari_reach_check.specs.declared.day.Ending.{Ending}
@@ -33,16 +32,6 @@ IsReachFreeIn books budget before b any =
 -- none of these blocks has a fault, each after those before it
 abbrev pub AreReachFree : Books → (budget : ℕ) → List NamedBlock → Type 0
 AreReachFree books budget blocks = (k : ℕ) (b : NamedBlock) → slice_get blocks k ≡ Some b → (any : Fault) → IsReachFreeIn books budget (take k blocks) b any
-
--- a block states the first activation
-abbrev pub one_if_first : Claim → ℕ
-one_if_first First = 1
-one_if_first (Within gap) = 0
-
--- how many of the blocks do
-abbrev pub first_among : List NamedBlock → ℕ
-first_among [] = 0
-first_among (b ∷ bs) = one_if_first b.claim + first_among bs
 
 -- what is kept stands for blocks of the first runs, none of which has a fault: what a day keeps of them, and how many state
 -- the first activation

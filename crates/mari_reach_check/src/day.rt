@@ -6,8 +6,9 @@ ghost use Rattle.mari_progress.specs.After.{run_after};
 ghost use Rattle.mari_progress.specs.Totals.{HasHead};
 ghost use Rattle.mari_check.specs.Faults.{Finds};
 ghost use Rattle.mari_reach_lines.specs.Ranges.{IsClaim};
-ghost use Rattle.mari_reach_check.specs.Day.{EndsAs, IsReachChecked, IsReachFreeIn, all_printed, one_if_first};
+ghost use Rattle.mari_reach_check.specs.Day.{EndsAs, IsReachChecked, IsReachFreeIn, all_printed};
 ghost use Rattle.mari_reach_check.specs.Tested.{HeadStates, TestsReach};
+ghost use Rattle.mari_reach_text.specs.Claims.{one_if_first};
 ghost use Rattle.mari_reach_text.specs.declared.named.NamedBlock.{NamedBlock as TheBlock};
 
 use crate::block::examine_block;

@@ -1,6 +1,6 @@
-//! What a block shows that has none of the faults.
+//! What a block shows that has none of the faults, and that a valid day has one verdict.
 
-ghost use Rattle.std.specs.Prelude.{ℕ, List, Option};
+ghost use Rattle.std.specs.Prelude.{◌≡◌, ℕ, List, Option};
 ghost use Rattle.mari_units.specs.declared.numbers.Cents.{Cents as TheCents};
 ghost use Rattle.mari_check.specs.Markets.{IsMadeFor};
 ghost use Rattle.mari_check.specs.declared.fault.Fault.{Fault as TheFault};
@@ -8,7 +8,13 @@ ghost use Rattle.mari_remain.specs.Accepted.{IsAccepted};
 ghost use Rattle.mari_remain.specs.declared.market.RunMarket.{RunMarket as TheRunMarket};
 ghost use Rattle.mari_reach_check.specs.Faults.{IsReachFreeOf};
 ghost use Rattle.mari_reach_check.specs.Shown.{ShowsReach};
+ghost use Rattle.mari_remain.specs.declared.books.Books.{Books as TheBooks};
+ghost use Rattle.mari_reach_text.specs.Claims.{first_among, within_among};
+ghost use Rattle.mari_reach_text.specs.Texts.{ReachPublication as ThePublication};
 ghost use Rattle.mari_reach_text.specs.declared.named.NamedBlock.{NamedBlock as TheBlock};
+ghost use Rattle.mari_reach_check.specs.Verdict.{IsReachValid, IsReachVerdict};
+ghost use Rattle.mari_reach_check.specs.declared.verdict.ReachVerdict.{ReachVerdict as TheVerdict};
+ghost use Rattle.mari_reach_check.specs.declared.verdict.ReachVerdict.TheVariants.{Valid};
 
 use mari_remain::Books;
 
@@ -24,3 +30,10 @@ pub fn free_blocks_show(books: &Books)
 {
     let _books = books;
 }
+
+/// A day that is valid has one verdict: that it is, with its numbers of runs of either claim.
+///
+/// The call does nothing: its contract is the law.
+pub fn valid_days_pass()
+    ensures { (books : TheBooks) (p : ThePublication) (v : TheVerdict) → IsReachValid books p → IsReachVerdict books p v → v ≡ Valid (first_among p.blocks) (within_among p.blocks) }
+{}

@@ -1,10 +1,7 @@
 -- Why a folder is reported as it is: which statuses a day and a folder without books may have.
 use Rattle.std.proofs.Common.{◌≡◌, ◌∙◌, ℕ, Bool, true, false, List, Option, refl, sym}
-use Rattle.std.specs.Prelude.{◌≢◌, ◌==◌, Err, if◌then◌else◌}
-use Rattle.mari_io.specs.declared.shelf.Fetch.{Fetch}
+use Rattle.std.specs.Prelude.{◌≢◌, ◌==◌, if◌then◌else◌}
 use Rattle.mari_io.specs.declared.shelf.Fetch.TheVariants as fetch
-use Rattle.mari_remain.specs.declared.books.Books.{Books}
-use Rattle.mari_day.specs.Reading.{IsFetchFault}
 use Rattle.mari_day.specs.declared.reading.BooksFault.{BooksFault}
 use Rattle.mari_day.specs.declared.reading.BooksFault.TheVariants as why
 use Rattle.mari_reach_day.specs.declared.writing.ReachEnd.{ReachEnd}
@@ -50,32 +47,7 @@ no-page-of-usage text before after result r = (
 )
 
 module _ (before after : Option (List ℕ)) (result : Status) where
-  -- a read fault, a missing file and one that is too long are reported of such a fetch alone
-  pub read-cause : (fault : BooksFault) → ReportsNoBooks fault before after result → result ≡ status.ReadFault → IsFetchFault {T = Books} fetch.Failed (Err fault)
-  read-cause (why.Fetch file fetch.Failed) r e = refl
-  read-cause (why.Fetch file fetch.Missing) r e = let same = said _ _ _ _ _ _ read-said r e in cc
-  read-cause (why.Fetch file fetch.TooLong) r e = let same = said _ _ _ _ _ _ read-said r e in cc
-  read-cause (why.Fetch file fetch.Memory) r e = absurd (read-said.1 (sym e ∙ r.0))
-  read-cause (why.Refused refusal) r e = let same = said _ _ _ _ _ _ read-said r e in absurd cc
-  read-cause why.Memory r e = absurd (read-said.1 (sym e ∙ r.0))
-
-  pub missing-cause : (fault : BooksFault) → ReportsNoBooks fault before after result → result ≡ status.Missing → IsFetchFault {T = Books} fetch.Missing (Err fault)
-  missing-cause (why.Fetch file fetch.Failed) r e = let same = said _ _ _ _ _ _ missing-said r e in cc
-  missing-cause (why.Fetch file fetch.Missing) r e = refl
-  missing-cause (why.Fetch file fetch.TooLong) r e = let same = said _ _ _ _ _ _ missing-said r e in cc
-  missing-cause (why.Fetch file fetch.Memory) r e = absurd (missing-said.1 (sym e ∙ r.0))
-  missing-cause (why.Refused refusal) r e = let same = said _ _ _ _ _ _ missing-said r e in absurd cc
-  missing-cause why.Memory r e = absurd (missing-said.1 (sym e ∙ r.0))
-
-  pub long-cause : (fault : BooksFault) → ReportsNoBooks fault before after result → result ≡ status.TooLong → IsFetchFault {T = Books} fetch.TooLong (Err fault)
-  long-cause (why.Fetch file fetch.Failed) r e = let same = said _ _ _ _ _ _ long-said r e in cc
-  long-cause (why.Fetch file fetch.Missing) r e = let same = said _ _ _ _ _ _ long-said r e in cc
-  long-cause (why.Fetch file fetch.TooLong) r e = refl
-  long-cause (why.Fetch file fetch.Memory) r e = absurd (long-said.1 (sym e ∙ r.0))
-  long-cause (why.Refused refusal) r e = let same = said _ _ _ _ _ _ long-said r e in absurd cc
-  long-cause why.Memory r e = absurd (long-said.1 (sym e ∙ r.0))
-
-  -- and never that a day is written
+  -- a folder without books is never reported as a day that is written
   pub no-done : (fault : BooksFault) → ReportsNoBooks fault before after result → result ≡ status.Done → ⊥
   no-done (why.Fetch file fetch.Failed) r e = let same = said _ _ _ _ _ _ done-said r e in cc
   no-done (why.Fetch file fetch.Missing) r e = let same = said _ _ _ _ _ _ done-said r e in cc

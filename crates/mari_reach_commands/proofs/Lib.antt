@@ -1,3 +1,4 @@
 pub mod Budgets
 pub mod Causes
+pub mod Checks
 pub mod Promised

@@ -9,7 +9,7 @@ use Rattle.mari_progress.specs.Totals.{operator_totals}
 use Rattle.mari_day.specs.Keeps.{BlockSumsToZero}
 use Rattle.mari_day.specs.Reading.{HasBooks}
 use Rattle.mari_day.specs.declared.reading.BooksFault.{BooksFault}
-use Rattle.mari_reach_day.specs.Days.{EndsReach, IsReachDayText, WroteReachDay}
+use Rattle.mari_reach_day.specs.Days.{EndsReach, WroteReachDay}
 use Rattle.mari_reach_day.specs.Reach.{IsReachPart, blocks_of}
 use Rattle.mari_reach_day.specs.declared.block.ReachBlock.{ReachBlock}
 use Rattle.mari_reach_day.specs.declared.writing.ReachEnd.{ReachEnd}

@@ -5,10 +5,12 @@ ghost use Rattle.mari_io.specs.Outside.{Counts, Pages, Rose};
 ghost use Rattle.mari_market.specs.Clearing.{IsBudget};
 ghost use Rattle.mari_reach_commands.specs.Answers.{Answers, ReportsFolder, status_of as status_of_end};
 ghost use Rattle.mari_reach_commands.specs.Promise.{KeepsPromise};
-ghost use Rattle.mari_reach_commands.specs.Words.{Job as JobAsked, job_at};
+ghost use Rattle.mari_reach_commands.specs.Words.{Job as JobAsked, task_at};
+ghost use Rattle.mari_reach_commands.specs.Words.Task.{Clears};
 
+use crate::checking::check;
 use crate::usage::usage_line;
-use crate::words::read_job;
+use crate::words::{Task, read_task};
 use mari_answers::{Status, say, say_no_books};
 use mari_day::read_books;
 use mari_io::{Shelf, Sink};
@@ -56,9 +58,11 @@ fn clear<S: Shelf, K: Sink>(
     }
 }
 
-/// Does all that the program does, by the words after its name: `clear FOLDER [--nodes N]` answers each run of the folder's
-/// day and prints the day as it is made. A tree has at most N items, 1 to `MOST_NODES`, or `USUAL_NODES` where the words don't
-/// say.
+/// Does all that the program does, by the words after its name:
+///
+/// - `clear FOLDER [--nodes N]` answers each run of the folder's day and prints the day as it is made. A tree has at most N
+///   items, 1 to `MOST_NODES`, or `USUAL_NODES` where the words don't say.
+/// - `check FOLDER` checks the folder's publication.txt, which is read in pieces, against its market files.
 ///
 /// The market files of the folder are fetched in their order and then read in that order. It uses only calls that return.
 pub fn run_reach<S: Shelf, K: Sink>(
@@ -68,12 +72,12 @@ pub fn run_reach<S: Shelf, K: Sink>(
     sink: &mut K,
 ) -> Status
     // What each answer says of the words, of the pages and of what is printed; and the promise of a day that is printed whole.
-    ensures answers { Answers (job_at (map string_bytes words.now)) (S.pages shelf.old) (Rose (S.faults shelf.old) (S.faults shelf.new)) (K.taken sink.old) (K.taken sink.new) result }
-    ensures promise { (job : JobAsked) (reported : Pages) → job_at (map string_bytes words.now) ≡ Some job → S.pages shelf.old ≡ Some reported → KeepsPromise job reported (K.taken sink.old) (K.taken sink.new) result }
+    ensures answers { Answers (task_at (map string_bytes words.now)) (S.pages shelf.old) (Rose (S.faults shelf.old) (S.faults shelf.new)) (K.taken sink.old) (K.taken sink.new) result }
+    ensures promise { (job : JobAsked) (reported : Pages) → task_at (map string_bytes words.now) ≡ Some (Clears job) → S.pages shelf.old ≡ Some reported → KeepsPromise job reported (K.taken sink.old) (K.taken sink.new) result }
     ensures same { S.pages shelf.new ≡ S.pages shelf.old }
 
     // Where the words are no command, nothing is fetched.
-    ensures untouched { job_at (map string_bytes words.now) ≡ None → S.fetches shelf.new ≡ S.fetches shelf.old }
+    ensures untouched { task_at (map string_bytes words.now) ≡ None → S.fetches shelf.new ≡ S.fetches shelf.old }
 
     // Why a page wasn't had, or a text not written.
     ensures read_fault { Counts (result ≡ Status.ReadFault) (S.faults shelf.old) (S.faults shelf.new) }
@@ -81,8 +85,9 @@ pub fn run_reach<S: Shelf, K: Sink>(
     ensures too_long { Counts (result ≡ Status.TooLong) (S.overs shelf.old) (S.overs shelf.new) }
     ensures write_fault { Counts (result ≡ Status.WriteFault) (K.faults sink.old) (K.faults sink.new) }
 {
-    match read_job(alloc, words) {
-        Ok(job) => clear(alloc, shelf, sink, &job.folder, job.nodes),
+    match read_task(alloc, words) {
+        Ok(Task::Clear { folder, nodes }) => clear(alloc, shelf, sink, &folder, nodes),
+        Ok(Task::Check { folder }) => check(alloc, shelf, sink, &folder),
         Err(WordsFault::Usage) => say(sink, usage_line(), Status::Usage),
         Err(WordsFault::Memory) => Status::Memory,
     }

@@ -8,5 +8,5 @@ ghost use Rattle.mari_reach_commands.specs.Words.{usage_line as usage_text};
 pub fn usage_line() -> &'static [u8]
     ensures { result.now ≡ usage_text }
 {
-    b"usage: reach clear FOLDER [--nodes N]\n"
+    b"usage: reach clear FOLDER [--nodes N] | reach check FOLDER\n"
 }

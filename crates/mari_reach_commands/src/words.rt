@@ -3,18 +3,26 @@
 ghost use Rattle.std.specs.Prelude.{◌≡◌, map, option_map, string_bytes};
 ghost use Rattle.std.specs.List.{list_any};
 ghost use Rattle.mari_words.specs.Asked.{asked};
-ghost use Rattle.mari_reach_commands.specs.Words.{Reads, asked_job, job_at, job_of as job_asked, names_workers as workers_named};
+ghost use Rattle.mari_reach_commands.specs.Words.{Reads, asked_task, names_workers as workers_named, task_at, task_of as task_asked};
 
 use mari_words::{Command, WordsFault, read_words};
 use std::alloc::Global;
 
-/// A folder whose day is to be answered.
+/// What the program is to do.
 #[derive(Drop)]
-pub struct Job {
-    /// The folder.
-    pub folder: String,
-    /// How many items a tree may have, 1 to `MOST_NODES`.
-    pub nodes: u32,
+pub enum Task {
+    /// The day of a folder is to be answered.
+    Clear {
+        /// The folder.
+        folder: String,
+        /// How many items a tree may have, 1 to `MOST_NODES`.
+        nodes: u32,
+    },
+    /// The publication of a folder is to be checked.
+    Check {
+        /// The folder.
+        folder: String,
+    },
 }
 
 /// Whether a word names the option of `mari` that this program doesn't have.
@@ -37,25 +45,27 @@ fn has_workers(words: &[String]) -> bool
 }
 
 /// What a command of `mari` asks this program for.
-fn job_of(command: Command) -> Option<Job>
-    ensures { option_map asked_job result ≡ job_asked (asked command) }
+fn task_of(command: Command) -> Option<Task>
+    ensures { option_map asked_task result ≡ task_asked (asked command) }
 {
     match command {
-        Command::Clear { folder, nodes, .. } => Some(Job { folder, nodes }),
+        Command::Clear { folder, nodes, .. } => Some(Task::Clear { folder, nodes }),
+        Command::Check { folder } => Some(Task::Check { folder }),
         _ => None,
     }
 }
 
-/// What the words after the program's name ask for: those by which `mari clear` is called, without its workers.
-pub fn read_job(alloc: Global, words: &[String]) -> Result<Job, WordsFault>
-    ensures { Reads result (job_at (map string_bytes words.now)) }
+/// What the words after the program's name ask for: those by which `mari clear` is called, without its workers, or `mari
+/// check`.
+pub fn read_task(alloc: Global, words: &[String]) -> Result<Task, WordsFault>
+    ensures { Reads result (task_at (map string_bytes words.now)) }
 {
     if has_workers(words) {
         return Err(WordsFault::Usage);
     }
     match read_words(alloc, words) {
-        Ok(command) => match job_of(command) {
-            Some(job) => Ok(job),
+        Ok(command) => match task_of(command) {
+            Some(task) => Ok(task),
             None => Err(WordsFault::Usage),
         },
         Err(fault) => Err(fault),

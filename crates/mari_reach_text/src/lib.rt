@@ -9,6 +9,6 @@ mod numbers;
 mod order;
 
 pub use kept::{ReachKept, ReachPart};
-pub use laws::reach_texts_follow;
+pub use laws::{reach_texts_are_whole, reach_texts_follow};
 pub use named::{NamedBlock, NamedItem};
 pub use numbers::{gated_bids, numbered_tree};

@@ -40,7 +40,7 @@ returns-in-Err-Text-clause-reported g c =
       end = Err c.in-Err-Text.field-0;
       cause = c.in-Err-Text.ensures.failed.rose;
       states = λ reported t. let P : List ℕ → Type 0 = λ name. FeedStates {T = Unit {0}} (page_of reported name) (g.K.Sink.taken c.args.sink.now) (g.K.Sink.taken c.print_feed.new.sink) (Err c.in-Err-Text.field-0) in subst P path (c.in-Err-Text.ensures.reported reported t);
-      reports = rw c.in-Err-Text.field-0-is c.say_fault.ensures.reports;
+      reports = rw c.in-Err-Text.field-0-is c.say_text_fault.ensures.reports;
     }
 
 pub returns-in-Err-Sink-clause-reported : goal.returns-in-Err-Sink-clause-reported

@@ -8,9 +8,10 @@ usage: python3 bench/real.py [MARI] [--reach PROGRAM] [--seeds N] [--quarters N]
 The first form makes a day for each seed from 1 on and each share of indivisible bids, clears it by both programs within N
 nodes a run, and prints a table in Markdown: runs published by `clear` and by `split`; runs of which `reach` shows the first
 activation, and the gaps of the others, as a part of their welfare; times of `clear` and of `reach` by the clock. With
---solvers, as highs, cuts and cbc, it has for each solver the runs that it ends within the seconds, 15 without the option, and
-the processor seconds of these (bench/milp.py); a welfare that differs from that of a run which `reach` shows to be the first
-stops it. The second form makes one folder.
+--solvers, as highs, cuts and cbc, it makes a run for each seed instead, and the table has for `reach`, `clear` and each solver
+(bench/milp.py) the runs that it ends within the seconds, 15 without the option, the processor seconds of these, and on how
+many of them `reach` takes less; one thread each. A welfare that differs from that of a run of which `reach` shows the first
+activation stops it. The second form makes one folder.
 
 Zones and borders are the public ones of the bidding zone map. Bids, demands and limits are drawn: 20 to 150 bids a zone and
 quarter hour of 1 to 100 MW, prices about a level for each zone with a long tail, blocks, groups, parents with children;
@@ -27,6 +28,8 @@ import statistics
 import subprocess
 import tempfile
 import time
+
+import clock
 
 TOP = pathlib.Path(__file__).resolve().parent.parent
 PYTHON = "/usr/bin/python3"  # which has Debian's scipy
@@ -184,20 +187,45 @@ def firsts(text):
 
 
 def solved(solver, folder, seconds, known):
-    """How many runs of a folder a solver ends, and in how many processor seconds."""
+    """The processor seconds in which a solver ends the only run of a folder, or nothing where it doesn't."""
     words = [PYTHON, TOP / "bench/milp.py", solver, folder, "--seconds", str(seconds), "--times"]
     text = subprocess.run(words, stdout=subprocess.PIPE, check=True).stdout.decode()
-    found = re.findall(r"^run (\d+) welfare (\d+) seconds ([\d.]+)$", text, re.M)
-    for run, welfare, _ in found:
-        if known.get(run, welfare) != welfare:
-            raise SystemExit(f"real: {solver} has {welfare} of run {run}, and the first activation {known[run]}")
-    return len(found), sum(float(took) for _, _, took in found)
+    found = re.search(r"^run 1 welfare (\d+) seconds ([\d.]+)$", text, re.M)
+    if found and known.get("1", found[1]) != found[1]:
+        raise SystemExit(f"real: {solver} has {found[1]} of {folder}, and the first activation {known['1']}")
+    return float(found[2]) if found else None
+
+
+def cleared(program, folder, seconds, *options):
+    """The processor seconds in which a program ends the only run of a folder, or nothing where it doesn't, and its text."""
+    text = pathlib.Path(folder) / "text"
+    spent = clock.run_once([program, "clear", folder, "--nodes", "50000", *options], str(text))
+    return spent.processor if spent.status == 0 and spent.processor <= seconds else None, text.read_text()
+
+
+def beside(share, asked):
+    """A row of the table of one run a folder: what each program and solver ends, and in which time."""
+    spent = {name: {} for name in ("reach", "clear", *asked.solvers)}
+    with tempfile.TemporaryDirectory() as room:
+        for seed in range(1, asked.seeds + 1):
+            folder = f"{room}/{seed}"
+            write(folder, pages(seed, share, 1))
+            spent["reach"][seed], text = cleared(asked.reach, folder, asked.seconds)
+            spent["clear"][seed], _ = cleared(asked.mari, folder, asked.seconds, "--workers", "1")
+            for solver in asked.solvers:
+                spent[solver][seed] = solved(solver, folder, asked.seconds, firsts(text))
+    own, cells = spent.pop("reach"), []
+    for times in spent.values():
+        ended = {seed: took for seed, took in times.items() if took is not None}
+        less = sum(own[seed] is not None and own[seed] < took for seed, took in ended.items())
+        cells += [str(len(ended)), f"{sum(ended.values()):.1f}", str(less)]
+    ended = [took for took in own.values() if took is not None]
+    return f"| {share} % | {asked.seeds} | {len(ended)} | {sum(ended):.1f} | " + " | ".join(cells) + " |"
 
 
 def measure(share, asked):
     """A row of the table."""
     runs, published, split, first, far, items, times = 0, 0, 0, 0, [], 0, [0.0, 0.0]
-    ended = {solver: [0, 0.0] for solver in asked.solvers}
     with tempfile.TemporaryDirectory() as room:
         for seed in range(1, asked.seeds + 1):
             folder = f"{room}/{seed}"
@@ -211,13 +239,9 @@ def measure(share, asked):
             first += len(re.findall(r"^run .* first$", other, re.M))
             items += sum(map(int, re.findall(r"^tree (\d+)$", other, re.M)))
             far += gaps(other)
-            for solver, sums in ended.items():
-                count, seconds = solved(solver, folder, asked.seconds, firsts(other))
-                sums[0], sums[1] = sums[0] + count, sums[1] + seconds
     gap = f"{statistics.median(far):.5%}, {max(far):.5%}" if far else ""
     shares = f"{published / runs:.0%} | {split / runs:.0%} | {times[0]:.1f} | {first / runs:.0%}"
-    others = "".join(f" {count / runs:.0%} | {seconds:.1f} |" for count, seconds in ended.values())
-    return f"| {share} % | {runs} | {shares} | {gap} | {items / runs:.0f} | {times[1]:.1f} |{others}"
+    return f"| {share} % | {runs} | {shares} | {gap} | {items / runs:.0f} | {times[1]:.1f} |"
 
 
 def main():
@@ -237,11 +261,14 @@ def main():
     if asked.folder:
         write(asked.folder, pages(asked.seed, asked.share, asked.quarters))
         return
-    others = "".join(f" {solver} ends | {solver}, s |" for solver in asked.solvers)
-    print("| indivisible | runs | `clear` publishes | `split` | `clear`, s | `reach` first | gap: median, greatest | items a run | `reach`, s |" + others)
-    print("|---" * (9 + 2 * len(asked.solvers)) + "|")
+    if asked.solvers:
+        heads = "".join(f" {name} ends | s | `reach` faster |" for name in ("`clear`", *asked.solvers))
+        print("| indivisible | runs | `reach` ends | s |" + heads)
+    else:
+        print("| indivisible | runs | `clear` publishes | `split` | `clear`, s | `reach` first | gap: median, greatest | items a run | `reach`, s |")
+    print("|---" * (7 + 3 * len(asked.solvers) if asked.solvers else 9) + "|")
     for share in map(int, asked.shares.split(",")):
-        print(measure(share, asked), flush=True)
+        print((beside if asked.solvers else measure)(share, asked), flush=True)
 
 
 if __name__ == "__main__":

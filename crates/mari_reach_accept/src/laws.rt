@@ -8,9 +8,7 @@ ghost use Rattle.mari_remain.specs.Accepted.{IsAccepted};
 ghost use Rattle.mari_progress.specs.After.{run_after};
 ghost use Rattle.mari_day.specs.Dated.{IsDated};
 ghost use Rattle.mari_check.specs.declared.fault.Fault.{Fault as TheFault};
-ghost use Rattle.mari_stream.specs.Forms.{IsWhole};
-ghost use Rattle.mari_reach_text.specs.Order.{reach_form};
-ghost use Rattle.mari_reach_text.specs.Texts.{IsReachText, reach_parts_of};
+ghost use Rattle.mari_reach_text.specs.Texts.{IsReachText};
 ghost use Rattle.mari_reach_check.specs.Day.{AreReachFree, IsReachFreeIn};
 ghost use Rattle.mari_reach_check.specs.Verdict.{IsReachValid, IsReachVerdict};
 ghost use Rattle.mari_reach_check.specs.declared.verdict.ReachVerdict.{ReachVerdict as TheVerdict};
@@ -21,7 +19,6 @@ ghost use Rattle.mari_reach_day.specs.Reach.{IsReachBlock, IsReachDay, IsReachPa
 ghost use Rattle.mari_reach_accept.specs.Named.{all_named, named_of, publication_of};
 
 use mari_reach_check::valid_days_pass;
-use mari_reach_text::reach_texts_follow;
 use mari_remain::Books;
 
 /// The block of a run that is there has none of the faults, with its bids and zones by names; nor has any block of the first
@@ -51,17 +48,14 @@ pub fn printed_texts_are_accepted(books: &Books)
     requires accepted { IsAccepted books.now }
     requires dated { IsDated books.now }
 
-    // It is the text of the day's lines with bids and zones by names, whose numbers are in range, so it is whole.
+    // It is the text of the day's lines with bids and zones by names, whose numbers are in range.
     ensures text { (budget first within : ℕ) (text : List ℕ) (is : IsReachDayText books.now budget first within text) → IsBudget budget
         → IsReachText text (publication_of books.now budget is.blocks) }
-    ensures whole { (budget first within : ℕ) (text : List ℕ) (is : IsReachDayText books.now budget first within text) → IsBudget budget
-        → IsWhole reach_form text (reach_parts_of (publication_of books.now budget is.blocks)) }
 
     // And a right verdict on it is that it is valid, with the numbers of runs that were reported where it was printed.
     ensures verdict { (budget first within : ℕ) (text : List ℕ) (is : IsReachDayText books.now budget first within text) (v : TheVerdict)
         → IsReachVerdict books.now (publication_of books.now budget is.blocks) v → v ≡ Valid first within }
 {
     let _books = books;
-    reach_texts_follow();
     valid_days_pass();
 }

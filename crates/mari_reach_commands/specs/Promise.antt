@@ -11,7 +11,6 @@ use Rattle.mari_progress.specs.Totals.{operator_totals}
 use Rattle.mari_day.specs.Keeps.{BlockSumsToZero}
 use Rattle.mari_day.specs.Reading.{HasBooks}
 use Rattle.mari_reach_text.specs.Texts.{IsReachText, ReachPublication}
-use Rattle.mari_reach_check.specs.Streams.{IsPageOf}
 use Rattle.mari_reach_check.specs.Verdict.{IsReachValid, IsReachVerdict}
 use Rattle.mari_reach_check.specs.declared.verdict.ReachVerdict.{ReachVerdict}
 use Rattle.mari_reach_check.specs.declared.verdict.ReachVerdict.TheVariants.{Valid}
@@ -21,14 +20,13 @@ use Rattle.mari_answers.specs.declared.status.Status.{Status}
 use Rattle.mari_answers.specs.declared.status.Status.TheVariants.{Done, Unpublished}
 use Rattle.mari_reach_commands.specs.Words.{Job}
 
--- the check accepts the text: it is that of a publication of the second form, whole, with its numbers in range. By the books
--- the publication is valid: it has their first line and a block for each run, no block has a fault, and the totals are the sums
--- of the blocks. And whoever judges it rightly finds it valid, with so many runs that have the first activation, and so many
--- that have one within a gap
+-- the check accepts the text: it is that of a publication of the second form with its numbers in range. By the books the
+-- publication is valid: it has their first line and a block for each run, no block has a fault, and the totals are the sums of
+-- the blocks. And whoever judges it rightly finds it valid, with so many runs that have the first activation, and so many that
+-- have one within a gap
 pub record AcceptsText (books : Books) (text : List ℕ) (first within : ℕ) : Type 0 where
   pub publication : ReachPublication
   pub spelled : IsReachText text publication
-  pub whole : IsPageOf text publication
   pub valid : IsReachValid books publication
   pub verdict : (v : ReachVerdict) → IsReachVerdict books publication v → v ≡ Valid first within
 

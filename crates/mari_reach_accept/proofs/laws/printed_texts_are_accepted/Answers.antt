@@ -13,19 +13,6 @@ returns-clause-text c = λ budget first within text is nodes.
       is = is.spelled ∙ text_same books budget is.blocks;
     }
 
-pub returns-clause-whole : goal.returns-clause-whole
-returns-clause-whole c = λ budget first within text is nodes.
-    let books = c.args.books.now in
-    let p = publication_of books budget is.blocks in
-    let read = c.reach_texts_follow.ensures.follows p (has_text books c.requires.accepted c.requires.dated budget is.blocks is.day is.fits nodes is.totals) in
-    record {
-      lines = _;
-      kept = read.0;
-      is = is.spelled ∙ text_same books budget is.blocks;
-      follow = read.1;
-      done = read.2;
-    }
-
 pub returns-clause-verdict : goal.returns-clause-verdict
 returns-clause-verdict c = λ budget first within text is v right.
     let books = c.args.books.now in

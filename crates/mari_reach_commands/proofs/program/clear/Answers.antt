@@ -57,7 +57,6 @@ returns-in-Ok-clause-promise g c = λ reported e.
     (λ first within text is. record {
       publication = publication_of c.in-Ok.books _ is.blocks;
       spelled = c.printed_texts_are_accepted.ensures.text _ first within text is c.requires;
-      whole = c.printed_texts_are_accepted.ensures.whole _ first within text is c.requires;
       valid = c.printed_days_are_valid.ensures _ is.blocks is.day;
       verdict = c.printed_texts_are_accepted.ensures.verdict _ first within text is;
     })

@@ -15,7 +15,7 @@ ghost use Rattle.mari_reached.specs.Answer.{IsAnswer, IsWithinBudget};
 use crate::checks::{best_of_word, holds_at, is_first_by, is_within_budget};
 use mari_market::{Activation, Attained, Market, Prefix, Prices};
 use mari_reach::{MOST_VALUE, ReachItem, ReachLeaf, by_tree, root_value};
-use mari_seek::{End, Sought, seek};
+use mari_seek::{SearchEnd, Sought, seek};
 use mari_units::{Cents, Items, Memory, Quarters};
 use mari_workers::first_of;
 use std::alloc::Global;
@@ -237,8 +237,8 @@ pub fn answer_of(
         potentials,
     } = sought;
     let answer = match end {
-        End::Whole => first_answer(alloc, market, budget, &word, tree, &closed)?,
-        End::Open(top) => within_answer(alloc, market, budget, &word, tree, top, &closed)?,
+        SearchEnd::Whole => first_answer(alloc, market, budget, &word, tree, &closed)?,
+        SearchEnd::Open(top) => within_answer(alloc, market, budget, &word, tree, top, &closed)?,
     };
     match answer {
         Some(answer) => Ok(answer),

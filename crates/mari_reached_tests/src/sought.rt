@@ -6,7 +6,7 @@ use crate::small::{CHEAPER, FAMILY, MarketRow, market_of};
 use mari_market::{Market, Prefix, Prices};
 use mari_reach::{Choice, MOST_VALUE, ReachItem, ReachLeaf};
 use mari_reached::answer_of;
-use mari_seek::{End, Sought};
+use mari_seek::{SearchEnd, Sought};
 use mari_units::{Cents, Items, Quarters};
 use std::alloc::{AllocError, Global};
 use std::test::Fail;
@@ -26,7 +26,7 @@ struct Case {
     name: &'static str,
     market: MarketRow,
     budget: u32,
-    end: End,
+    end: SearchEnd,
     bits: u64,
     tree: &'static [ItemRow],
     potentials: &'static [i64],
@@ -54,7 +54,7 @@ const CASES: &[Case] = &[
         name: "a tree that holds for its word",
         market: CHEAPER,
         budget: 1,
-        end: End::Whole,
+        end: SearchEnd::Whole,
         bits: 2,
         tree: &[ItemRow::Bound(&[3000, 3000])],
         potentials: &[3000, 3000],
@@ -68,7 +68,7 @@ const CASES: &[Case] = &[
         name: "the same tree for a word of less welfare",
         market: CHEAPER,
         budget: 1,
-        end: End::Whole,
+        end: SearchEnd::Whole,
         bits: 0,
         tree: &[ItemRow::Bound(&[3000, 3000])],
         potentials: &[3000, 3000],
@@ -78,7 +78,7 @@ const CASES: &[Case] = &[
         name: "a false leaf",
         market: CHEAPER,
         budget: 1,
-        end: End::Whole,
+        end: SearchEnd::Whole,
         bits: 2,
         tree: &[ItemRow::Void],
         potentials: &[3000, 3000],
@@ -88,7 +88,7 @@ const CASES: &[Case] = &[
         name: "no item",
         market: CHEAPER,
         budget: 1,
-        end: End::Whole,
+        end: SearchEnd::Whole,
         bits: 2,
         tree: &[],
         potentials: &[3000, 3000],
@@ -98,7 +98,7 @@ const CASES: &[Case] = &[
         name: "a tree of the budget's size",
         market: CHEAPER,
         budget: 3,
-        end: End::Whole,
+        end: SearchEnd::Whole,
         bits: 2,
         tree: &[
             ItemRow::Gate(0),
@@ -116,7 +116,7 @@ const CASES: &[Case] = &[
         name: "a tree that is larger than the budget",
         market: CHEAPER,
         budget: 2,
-        end: End::Whole,
+        end: SearchEnd::Whole,
         bits: 2,
         tree: &[
             ItemRow::Gate(0),
@@ -130,7 +130,7 @@ const CASES: &[Case] = &[
         name: "a number at which the tree holds",
         market: CHEAPER,
         budget: 1,
-        end: End::Open(Quarters(1_470_000)),
+        end: SearchEnd::Open(Quarters(1_470_000)),
         bits: 2,
         tree: &[ItemRow::Bound(&[3000, 3000])],
         potentials: &[3000, 3000],
@@ -147,7 +147,7 @@ const CASES: &[Case] = &[
         name: "a quarter-cent less than one at which it does",
         market: CHEAPER,
         budget: 1,
-        end: End::Open(Quarters(1_459_999)),
+        end: SearchEnd::Open(Quarters(1_459_999)),
         bits: 2,
         tree: &[ItemRow::Bound(&[3000, 3000])],
         potentials: &[3000, 3000],
@@ -157,7 +157,7 @@ const CASES: &[Case] = &[
         name: "a number that no dual value reaches",
         market: CHEAPER,
         budget: 1,
-        end: End::Open(Quarters(MOST_VALUE as i128 + 1)),
+        end: SearchEnd::Open(Quarters(MOST_VALUE as i128 + 1)),
         bits: 2,
         tree: &[ItemRow::Bound(&[3000, 3000])],
         potentials: &[3000, 3000],
@@ -167,7 +167,7 @@ const CASES: &[Case] = &[
         name: "a word that opens two of a group, and 80.00 for 30 MW",
         market: FAMILY,
         budget: 1,
-        end: End::Open(Quarters(240_000)),
+        end: SearchEnd::Open(Quarters(240_000)),
         bits: 3,
         tree: &[ItemRow::Bound(&[9000])],
         potentials: &[9000],
@@ -184,7 +184,7 @@ const CASES: &[Case] = &[
         name: "no potentials, and 1000.00 for 15 MW at the price 0",
         market: CHEAPER,
         budget: 1,
-        end: End::Whole,
+        end: SearchEnd::Whole,
         bits: 2,
         tree: &[],
         potentials: &[],

@@ -22,4 +22,4 @@ mod tree;
 mod view;
 mod words;
 
-pub use sought::{End, Sought, seek};
+pub use sought::{SearchEnd, Sought, seek};

@@ -12,7 +12,7 @@ use std::alloc::Global;
 
 /// How a search ended, and so at what its tree is to hold.
 #[derive(Clone, Copy, Debug, Drop, PartialEq, Eq)]
-pub enum End {
+pub enum SearchEnd {
     /// Nothing is left: at the welfare of the best activation of the gate word, for that word.
     Whole,
     /// Some nodes are left: at this number of quarter-cents, which no activation is said to exceed.
@@ -23,7 +23,7 @@ pub enum End {
 #[derive(Drop)]
 pub struct Sought {
     /// How it ended.
-    pub end: End,
+    pub end: SearchEnd,
     /// The gate word of the best activation that was found.
     pub word: Prefix,
     /// The tree, or no items where the search couldn't begin.
@@ -37,7 +37,7 @@ fn nothing(alloc: Global, market: &Market) -> Sought
     requires { IsValid market.now }
 {
     Sought {
-        end: End::Open(Quarters(0)),
+        end: SearchEnd::Open(Quarters(0)),
         word: closed(market.gates.as_slice().len() as u32),
         tree: Items::of(Vec::new(alloc)),
         potentials: Prices {
@@ -54,10 +54,13 @@ pub fn seek(alloc: Global, market: &Market, budget: u32) -> Result<Sought, Memor
         return Ok(nothing(alloc, market));
     };
     let (end, cutoff) = match search.run(alloc, market, budget)? {
-        Stop::Done => (End::Whole, Cutoff::Best),
+        Stop::Done => (SearchEnd::Whole, Cutoff::Best),
         Stop::Left => {
             let top = search.top();
-            (End::Open(Quarters(i128::from(top))), Cutoff::Value(top))
+            (
+                SearchEnd::Open(Quarters(i128::from(top))),
+                Cutoff::Value(top),
+            )
         }
     };
     let tree = search.tree(alloc, market, cutoff)?;

@@ -13,5 +13,4 @@ mod writing;
 
 pub use block::ReachBlock;
 pub use laws::reach_days_keep;
-pub use mari_reach_lines::Claim;
 pub use writing::{ReachEnd, reach_day};

@@ -1,6 +1,6 @@
 -- How a text, a refusal, a page that can't be had and a folder without books are reported: what a sink takes, and the
 -- status.
-use Rattle.std.specs.Prelude.{ℕ, ◌≡◌, List, Option, Some}
+use Rattle.std.specs.Prelude.{ℕ, ◌≡◌, ◌⊎◌, List, Option, Some}
 use Rattle.mari_units.specs.declared.faults.Refusal.{Refusal}
 use Rattle.mari_io.specs.Outside.{Pages}
 use Rattle.mari_io.specs.Taken.{TookPart, then_took}
@@ -12,12 +12,18 @@ use Rattle.mari_answers.specs.declared.status.Status.{Status}
 use Rattle.mari_answers.specs.declared.status.Status.TheVariants as status
 use Rattle.mari_publish.specs.declared.fault.TextFault.{TextFault}
 use Rattle.mari_publish.specs.declared.fault.TextFault.TheVariants as text_fault
+use Rattle.mari_publish.specs.Streams.{AsksForPage}
 use Rattle.mari_answers.specs.Lines.{file_line, page_status, page_word, refused_line}
 use Rattle.mari_answers.specs.Texts.{text_refusal}
 
 -- where the pages are reported, this is so of them
 abbrev pub WhereReported : Option Pages → (Pages → Type 0) → Type 0
 WhereReported pages IsSo = (reported : Pages) → pages ≡ Some reported → IsSo reported
+
+-- so many calls that they may be for one page in pieces: none; or one, and then at most one for each byte that was
+-- given, and one
+abbrev pub AsksForOne : (before now given : ℕ) → Type 0
+AsksForOne before now given = (now ≡ before) ⊎ AsksForPage ⊥ before now given
 
 -- how a text is reported with a status: it is printed whole; or a write failed, and a first part of it was taken; or
 -- memory ran out, and nothing was taken

@@ -34,7 +34,6 @@ use Rattle.mari_capacity.specs.declared.ending.Valued.{Valued}
 use Rattle.mari_capacity.specs.Ends.{IsEndOf}
 use Rattle.mari_capacity.specs.Streams.{EndsAs, IsPageEnd, IsWrapped, ValueStates}
 use Rattle.mari_market.specs.Clearing.{IsBudget, IsWorkerCount}
-use Rattle.mari_publish.specs.Streams.{AsksForPage}
 use Rattle.mari_commands.specs.declared.outcome.Job.{Job}
 use Rattle.mari_commands.specs.declared.outcome.JointJob.{JointJob}
 use Rattle.mari_commands.specs.declared.outcome.Way.{Way}
@@ -109,11 +108,6 @@ IsOwn _ = ⊥
 abbrev pub AreQuarters : Outcome → Type 0
 AreQuarters (Joins quarters) = ⊤
 AreQuarters _ = ⊥
-
--- so many calls that they may be for one page in pieces: none; or one, and then at most one for each byte that was
--- given, and one
-abbrev pub AsksForOne : (before now given : ℕ) → Type 0
-AsksForOne before now given = (now ≡ before) ⊎ AsksForPage ⊥ before now given
 
 -- a job that can be done: its books are a folder's, and its numbers are within their limits
 pub record IsReady (job : Job) : Type 0 where

@@ -2,7 +2,8 @@
 
 ghost use Rattle.std.specs.Prelude.{◌≡◌, ◌≤◌, ◌+◌};
 ghost use Rattle.mari_io.specs.Outside.{Counts, Rose};
-ghost use Rattle.mari_commands.specs.Outcome.{AsksForOne, ReportsParts};
+ghost use Rattle.mari_answers.specs.Reports.{AsksForOne};
+ghost use Rattle.mari_commands.specs.Outcome.{ReportsParts};
 
 use mari_answers::{Status, say_no_page, say_text_fault};
 use mari_day::{PUBLICATION, file_name, path_in};
@@ -12,7 +13,7 @@ use std::alloc::Global;
 
 /// Prints the feed of a folder's publication, which is read in pieces, and then the line of the status, where it has
 /// one. Of the folder it reads the publication alone.
-#[tactic(auto, using(crate::proofs::Asking::one_page))]
+#[tactic(auto, using(mari_answers::proofs::Asking::one_page))]
 pub fn fed<S: Shelf, K: Sink>(alloc: Global, shelf: &mut S, sink: &mut K, folder: &str) -> Status
     ensures same { S.pages shelf.new ≡ S.pages shelf.old }
     ensures fetched { AsksForOne (S.fetches shelf.old) (S.fetches shelf.new) (S.given shelf.new) }

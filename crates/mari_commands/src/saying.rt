@@ -2,7 +2,8 @@
 
 ghost use Rattle.std.specs.Prelude.{◌≡◌, ◌≤◌, ◌+◌};
 ghost use Rattle.mari_io.specs.Outside.{Counts, Rose};
-ghost use Rattle.mari_commands.specs.Outcome.{AreQuarters, AsksForOne, IsOwn, IsReportable, Reported};
+ghost use Rattle.mari_answers.specs.Reports.{AsksForOne};
+ghost use Rattle.mari_commands.specs.Outcome.{AreQuarters, IsOwn, IsReportable, Reported};
 
 use crate::clearing::clear_alone;
 use crate::feeding::fed;

@@ -1,8 +1,7 @@
 -- A page that is read piece by piece.
-use Rattle.std.proofs.Common.{◌≡◌, ◌∙◌, ℕ, true, List, [], ◌∷◌, ◌++◌, take, drop, Option, Some, None, Ok, Err, sym, subst, ap, append_assoc}
+use Rattle.std.proofs.Common.{◌≡◌, ◌∙◌, ℕ, true, List, [], ◌∷◌, ◌++◌, Option, Some, None, Ok, Err, sym, subst}
 use Rattle.std.specs.List.{AllByRecursion}
-use Rattle.std.proofs.lemmas.List.{append-nil, take-append-drop}
-use Rattle.mari_io.specs.Outside.{most_given}
+use Rattle.std.proofs.lemmas.List.{append-nil}
 use Rattle.mari_io.specs.declared.shelf.Fetch.TheVariants as fetch
 use Rattle.mari_units.specs.declared.faults.Memory.{Memory as NoRoom}
 use Rattle.mari_publish.specs.declared.fault.TextFault.{TextFault}
@@ -11,9 +10,8 @@ use Rattle.mari_publish.specs.declared.stream.ReadStop.{ReadStop}
 use Rattle.mari_publish.specs.declared.stream.ReadStop.TheVariants as read
 use Rattle.mari_remain.specs.declared.books.Books.{Books}
 use Rattle.mari_check.specs.Streams.{stream_fault}
-use Rattle.mari_stream.specs.Forms.{Follow, IsLineFault, IsTextFault, IsWhole, text_by}
+use Rattle.mari_stream.specs.Forms.{Follow, IsWhole}
 use Rattle.mari_stream.specs.Streams.{IsReportedFault, ReadStates, ReadStops}
-use Rattle.mari_stream.specs.Streams.IsReportedFault.{OfPage, OfGiven}
 use Rattle.mari_reach_lines.specs.declared.line.ReachLine.{ReachLine}
 use Rattle.mari_reach_text.specs.Order.{ClaimFits, reach_form}
 use Rattle.mari_reach_text.specs.Texts.{IsReachText, ReachPublication, reach_parts_of}
@@ -51,39 +49,6 @@ fault-stops rest_of calls page shelf (read.Text fault.Memory) h = tt
 fault-stops rest_of calls page shelf (read.Part none) h = tt
 fault-stops rest_of calls page shelf read.Memory h = tt
 
--- ---- a fault of a line stays where more is after it
-
-longer : (before here after more : List ℕ) → (before ++ (here ++ 10 ∷ after)) ++ more ≡ before ++ (here ++ 10 ∷ (after ++ more))
-longer before here after more = append_assoc before (here ++ 10 ∷ after) more ∙ ap (λ (t : List ℕ). before ++ t) (append_assoc here (10 ∷ after) more)
-
-line-stays : (text more : List ℕ) (f : TextFault) → IsLineFault reach_form text f → IsTextFault reach_form (text ++ more) f
-line-stays text more (fault.BadLine n) h = record {
-  before = h.before;
-  parts = h.parts;
-  kept = h.kept;
-  here = h.here;
-  after = h.after ++ more;
-  is = ap (λ (t : List ℕ). t ++ more) h.is ∙ longer (text_by reach_form h.before) h.here h.after more;
-  whole = h.whole;
-  follow = h.follow;
-  number = h.number;
-  formless = h.formless;
-}
-line-stays text more (fault.BadOrder n) h = record {
-  before = h.before;
-  parts = h.parts;
-  kept = h.kept;
-  here = h.here;
-  after = h.after ++ more;
-  is = ap (λ (t : List ℕ). t ++ more) h.is ∙ longer (text_by reach_form h.before) (reach_form.spelled h.here) h.after more;
-  follow = h.follow;
-  number = h.number;
-  in_range = h.in_range;
-  misplaced = h.misplaced;
-}
-line-stays text more (fault.Truncated n) h = absurd h
-line-stays text more fault.Memory h = absurd h
-
 -- ---- the verdict
 
 -- the laws of texts that are used below
@@ -91,15 +56,9 @@ pub record Laws : Type 0 where
   pub day : (text : List ℕ) (parts : List ReachPart) → IsWhole reach_form text parts → (p : ReachPublication) × IsReachText text p × (parts ≡ reach_parts_of p)
   pub whole : (text : List ℕ) (p : ReachPublication) → IsReachText text p → IsWhole reach_form text (reach_parts_of p)
   pub same : (text : List ℕ) (parts others : List ReachPart) → IsWhole reach_form text parts → IsWhole reach_form text others → parts ≡ others
-  pub no_fault : (text : List ℕ) (parts : List ReachPart) (f : TextFault) → IsWhole reach_form text parts → IsTextFault reach_form text f → ⊥
+  pub reported : (page : List ℕ) (parts : List ReachPart) (f : TextFault) → IsWhole reach_form page parts → IsReportedFault reach_form page f → ⊥
 
 module _ (laws : Laws) where
-  no-reported : (page : List ℕ) (p : ReachPublication) (f : TextFault) → IsReachText page p → IsReportedFault reach_form page f → ⊥
-  no-reported page p f is (OfPage short h) = laws.no_fault page (reach_parts_of p) f (laws.whole page p is) h
-  no-reported page p f is (OfGiven long h) =
-      let page_is : take most_given page ++ drop most_given page ≡ page = take-append-drop most_given page in
-      laws.no_fault page (reach_parts_of p) f (laws.whole page p is) (subst (λ (t : List ℕ). IsTextFault reach_form t f) page_is (line-stays (take most_given page) (drop most_given page) f h))
-
   module _ (books : Books) (now : VerdictSoFar) (Breaks : List ReachPart → ReachPart → NoRoom → Type 0) (page : Option (List ℕ)) where
     pub verdict-states : (done : Unit {0}) (v : ReachVerdict) → now.found ≡ Some v → ReadStates reach_form (λ parts. KeepsVerdict books parts now) Breaks page (Ok done) → VerdictStates books page v
     verdict-states done v e h = by page h
@@ -126,7 +85,7 @@ module _ (laws : Laws) where
     says-fault (read.Fetch f) h text p is page_of_p = tt
     says-fault (read.Text f) h text p is page_of_p =
         let own = subst (λ (o : Option (List ℕ)). ReadStates reach_form (λ parts. KeepsVerdict books parts now) Breaks o (Err (read.Text f))) is h in
-        no-reported text p f page_of_p own.0
+        laws.reported text (reach_parts_of p) f (laws.whole text p page_of_p) own.0
     says-fault (read.Part none) h text p is page_of_p = tt
     says-fault read.Memory h text p is page_of_p = tt
 

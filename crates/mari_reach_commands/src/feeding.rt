@@ -2,6 +2,7 @@
 
 ghost use Rattle.std.specs.Prelude.{◌≡◌, ◌≤◌, ◌+◌};
 ghost use Rattle.mari_io.specs.Outside.{Counts, Rose};
+ghost use Rattle.mari_answers.specs.Reports.{AsksForOne};
 ghost use Rattle.mari_reach_commands.specs.Answers.{ReportsFeed};
 
 use mari_answers::{Status, say_no_page, say_text_fault};
@@ -13,10 +14,13 @@ use std::alloc::Global;
 
 /// Prints the feed of a folder's publication, which is read in pieces, and then the line of the status, where it has one. Of
 /// the folder it reads the publication alone.
+#[tactic(auto, using(mari_answers::proofs::Asking::one_page))]
 pub fn feed<S: Shelf, K: Sink>(alloc: Global, shelf: &mut S, sink: &mut K, folder: &str) -> Status
     ensures same { S.pages shelf.new ≡ S.pages shelf.old }
-    ensures one { S.named shelf.new ≤ S.named shelf.old + 1 }
-    ensures reports { ReportsFeed (S.pages shelf.old) (Rose (S.faults shelf.old) (S.faults shelf.new)) folder.now (K.taken sink.old) (K.taken sink.new) result }
+    ensures fetched { AsksForOne (S.fetches shelf.old) (S.fetches shelf.new) (S.given shelf.new) }
+    ensures named { S.named shelf.new ≤ S.named shelf.old + 1 }
+    ensures reports { ReportsFeed (S.pages shelf.old) (Rose (S.faults shelf.old) (S.faults shelf.new))
+        folder.now (K.taken sink.old) (K.taken sink.new) result }
 
     // Why the page wasn't had, or a text not written.
     ensures read_fault { Counts (result ≡ Status.ReadFault) (S.faults shelf.old) (S.faults shelf.new) }

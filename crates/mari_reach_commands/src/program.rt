@@ -3,6 +3,7 @@
 ghost use Rattle.std.specs.Prelude.{◌≡◌, ◌≤◌, ◌+◌, ℕ, List, Some, None, map, string_bytes};
 ghost use Rattle.mari_io.specs.Outside.{Counts, Pages, Rose};
 ghost use Rattle.mari_market.specs.Clearing.{IsBudget};
+ghost use Rattle.mari_answers.specs.Reports.{AsksForOne};
 ghost use Rattle.mari_reach_commands.specs.Answers.{Answers, ReportsFolder, status_of as status_of_end};
 ghost use Rattle.mari_reach_commands.specs.Promise.{KeepsPromise};
 ghost use Rattle.mari_reach_commands.specs.Words.{Job as JobAsked, task_at};
@@ -89,8 +90,12 @@ pub fn run_reach<S: Shelf, K: Sink>(
     // Where the words are no command, nothing is fetched.
     ensures untouched { task_at (map string_bytes words.now) ≡ None → S.fetches shelf.new ≡ S.fetches shelf.old }
 
-    // For a feed one page is named.
-    ensures one { (folder : List ℕ) → task_at (map string_bytes words.now) ≡ Some (Feeds folder) → S.named shelf.new ≤ S.named shelf.old + 1 }
+    // For a feed at most one page is asked for: one call names it, and each further one is for a piece, at most one for each
+    // byte that was given, and one.
+    ensures alone { (folder : List ℕ) → task_at (map string_bytes words.now) ≡ Some (Feeds folder)
+        → AsksForOne (S.fetches shelf.old) (S.fetches shelf.new) (S.given shelf.new) }
+    ensures named { (folder : List ℕ) → task_at (map string_bytes words.now) ≡ Some (Feeds folder)
+        → S.named shelf.new ≤ S.named shelf.old + 1 }
 
     // Why a page wasn't had, or a text not written.
     ensures read_fault { Counts (result ≡ Status.ReadFault) (S.faults shelf.old) (S.faults shelf.new) }

@@ -4,7 +4,7 @@ use Rattle.mari_reach_lines.specs.declared.line.Claim.{Claim}
 use Rattle.mari_reach_lines.specs.declared.line.Claim.TheVariants.{First, Within}
 use Rattle.mari_reach_text.specs.declared.named.NamedBlock.{NamedBlock}
 
--- a block states the first activation of its market, or one within a gap: 1 for the one, and for the other
+-- 1 where a block states the first activation of its market, 0 where one within a gap; and the other way round
 abbrev pub one_if_first : Claim → ℕ
 one_if_first First = 1
 one_if_first (Within gap) = 0

@@ -17,7 +17,8 @@ ghost use Rattle.mari_reach_text.specs.declared.kept.ReachPart.{ReachPart as Any
 pub fn reach_texts_follow()
     ensures begins { (lines : List AnyLine) (parts : List AnyPart) (kept : AnyKept) → Follow reach_form lines parts kept
         → (p : ReachPublication) × (more : List AnyPart) × (reach_parts_of p ≡ parts ++ more) }
-    ensures claims { (lines : List AnyLine) (parts : List AnyPart) (kept : AnyKept) → Follow reach_form lines parts kept → AllByRecursion ClaimFits parts }
+    ensures claims { (lines : List AnyLine) (parts : List AnyPart) (kept : AnyKept) → Follow reach_form lines parts kept
+        → AllByRecursion ClaimFits parts }
     ensures whole { (lines : List AnyLine) (parts : List AnyPart) (kept : AnyKept) → Follow reach_form lines parts kept → reach_form.is_done kept ≡ true
         → (p : ReachPublication) × (parts ≡ reach_parts_of p) }
     ensures text { (lines : List AnyLine) (parts : List AnyPart) (kept : AnyKept) (p : ReachPublication)
@@ -31,6 +32,7 @@ pub fn reach_texts_follow()
 ///
 /// The call does nothing: its contract is the law.
 pub fn reach_texts_are_whole()
-    ensures publication { (text : List ℕ) (parts : List AnyPart) → IsWhole reach_form text parts → (p : ReachPublication) × IsReachText text p × (parts ≡ reach_parts_of p) }
+    ensures publication { (text : List ℕ) (parts : List AnyPart) → IsWhole reach_form text parts
+        → (p : ReachPublication) × IsReachText text p × (parts ≡ reach_parts_of p) }
     ensures whole { (text : List ℕ) (p : ReachPublication) → IsReachText text p → IsWhole reach_form text (reach_parts_of p) }
 {}

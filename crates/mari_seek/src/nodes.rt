@@ -1,4 +1,4 @@
-//! Nodes of the search: their states, their relaxed optima, and how they stand.
+//! Nodes of the search: where they are in the tree, their relaxed optima, and how they stand.
 
 use crate::lists::{at, number_of, set};
 use crate::solver::Optimum;

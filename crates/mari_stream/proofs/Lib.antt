@@ -1,5 +1,6 @@
 mod Lines
 mod Stops
+mod Reported
 mod LineByLine
 mod Paging
 mod Streaming

@@ -102,7 +102,8 @@ SomeStates form Took Breaks (Err NoMemory) = (text : List ℕ) × TookFirst form
 
 -- a fault of a line was answered as soon as it had come: one call on the shelf, the last, gave the piece that brought
 -- it. No whole line of what was read before has a fault, the fault is that of what was read and the piece, and all that
--- stands after these on the page is left. What is left and how many calls were made, the shelf states
+-- stands after these on the page is left. What is left and how many calls were made, the shelf states; since nothing else is
+-- known of a shelf, its state before can only be the one from which that call was made
 pub record StopsAtFault {K L P S : Type 0} (form : Form K L P) (rest : S → Option (List ℕ)) (calls : S → ℕ) (page : List ℕ) (fault : TextFault)
     (shelf : S) : Type 0 where
   pub read : List ℕ

@@ -16,7 +16,7 @@ pub returns-in-Ok-read_text_parts-clause-reported : goal.returns-in-Ok-read_text
 returns-in-Ok-read_text_parts-clause-reported g c = λ reported e.
     let texts = c.reach_texts_are_whole.ensures in
     let answers = c.texts_have_one_answer.ensures in
-    let laws : Laws = record { day = texts.publication; whole = texts.whole; same = answers.parts; no_fault = answers.whole } in
+    let laws : Laws = record { day = texts.publication; whole = texts.whole; same = answers.parts; reported = answers.reported } in
     verdict-states laws c.args.books.now c.read_text_parts.new.so_far (λ parts x stop. ⊤) (page_of reported c.args.name.now) (tt {0})
     c.unwrap.result c.unwrap.ensures (c.in-Ok-read_text_parts.ensures.reported reported e)
 
@@ -24,7 +24,7 @@ pub returns-in-Ok-read_text_parts-clause-whole : goal.returns-in-Ok-read_text_pa
 returns-in-Ok-read_text_parts-clause-whole g c = λ reported page p e is whole.
     let texts = c.reach_texts_are_whole.ensures in
     let answers = c.texts_have_one_answer.ensures in
-    let laws : Laws = record { day = texts.publication; whole = texts.whole; same = answers.parts; no_fault = answers.whole } in
+    let laws : Laws = record { day = texts.publication; whole = texts.whole; same = answers.parts; reported = answers.reported } in
     says-verdict laws c.args.books.now c.read_text_parts.new.so_far (λ parts x stop. ⊤) (page_of reported c.args.name.now) (tt {0})
     c.unwrap.result c.unwrap.ensures (c.in-Ok-read_text_parts.ensures.reported reported e) page p is whole
 
@@ -41,6 +41,6 @@ pub returns-clause-whole : goal.returns-clause-whole
 returns-clause-whole g c = λ reported page p e is whole.
     let texts = c.reach_texts_are_whole.ensures in
     let answers = c.texts_have_one_answer.ensures in
-    let laws : Laws = record { day = texts.publication; whole = texts.whole; same = answers.parts; no_fault = answers.whole } in
+    let laws : Laws = record { day = texts.publication; whole = texts.whole; same = answers.parts; reported = answers.reported } in
     rw c.fault_of.ensures (says-fault laws c.args.books.now c.read_text_parts.new.so_far (λ parts x stop. ⊤) (page_of reported c.args.name.now)
         c.in-Err-read_text_parts.stop (c.in-Err-read_text_parts.ensures.reported reported e) page p is whole)

@@ -1,4 +1,4 @@
-use Rattle.std.proofs.Common.{◌≡◌, Global, Option, Some, map, subst, arith, refl}
+use Rattle.std.proofs.Common.{◌≡◌, Global, Option, Some, map, subst, arith, inl, refl}
 use Rattle.std.specs.Prelude.{string_bytes}
 use Rattle.mari_reach_commands.proofs.Budgets.{budget-asked}
 use Rattle.mari_reach_commands.specs.Answers.Answers.{OfCheck, OfFeed, OfFolder, OfUsage, Starved}
@@ -42,20 +42,20 @@ returns-in-Ok-Feed-clause-promise g c = λ job reported is e. let there = rw c.i
 pub returns-in-Ok-Feed-clause-untouched : goal.returns-in-Ok-Feed-clause-untouched
 returns-in-Ok-Feed-clause-untouched g c = λ none. let there = rw c.in-Ok-Feed.field-0-is at c.in-Ok-Feed.ensures in absurd cc
 
-pub returns-in-Ok-Clear-clause-one : goal.returns-in-Ok-Clear-clause-one
-returns-in-Ok-Clear-clause-one g c = λ folder is. let there = rw c.in-Ok-Clear.field-0-is at c.in-Ok-Clear.ensures in absurd cc
+pub returns-in-Ok-Clear-clause-named : goal.returns-in-Ok-Clear-clause-named
+returns-in-Ok-Clear-clause-named g c = λ folder is. let there = rw c.in-Ok-Clear.field-0-is at c.in-Ok-Clear.ensures in absurd cc
 
-pub returns-in-Ok-Check-clause-one : goal.returns-in-Ok-Check-clause-one
-returns-in-Ok-Check-clause-one g c = λ folder is. let there = rw c.in-Ok-Check.field-0-is at c.in-Ok-Check.ensures in absurd cc
+pub returns-in-Ok-Check-clause-named : goal.returns-in-Ok-Check-clause-named
+returns-in-Ok-Check-clause-named g c = λ folder is. let there = rw c.in-Ok-Check.field-0-is at c.in-Ok-Check.ensures in absurd cc
 
-pub returns-in-Ok-Feed-clause-one : goal.returns-in-Ok-Feed-clause-one
-returns-in-Ok-Feed-clause-one g c = λ folder is. c.feed.ensures.one
+pub returns-in-Ok-Feed-clause-named : goal.returns-in-Ok-Feed-clause-named
+returns-in-Ok-Feed-clause-named g c = λ folder is. c.feed.ensures.named
 
-pub returns-in-Err-Usage-clause-one : goal.returns-in-Err-Usage-clause-one
-returns-in-Err-Usage-clause-one g c = λ folder is. let none = rw c.in-Err-Usage.field-0-is at c.in-Err-Usage.ensures in absurd cc
+pub returns-in-Err-Usage-clause-named : goal.returns-in-Err-Usage-clause-named
+returns-in-Err-Usage-clause-named g c = λ folder is. let none = rw c.in-Err-Usage.field-0-is at c.in-Err-Usage.ensures in absurd cc
 
-pub returns-in-Err-Memory-clause-one : goal.returns-in-Err-Memory-clause-one
-returns-in-Err-Memory-clause-one g c = λ folder is. omega arith
+pub returns-in-Err-Memory-clause-named : goal.returns-in-Err-Memory-clause-named
+returns-in-Err-Memory-clause-named g c = λ folder is. omega arith
 
 pub returns-in-Err-Usage-clause-answers : goal.returns-in-Err-Usage-clause-answers
 returns-in-Err-Usage-clause-answers g c = OfUsage (rw c.in-Err-Usage.field-0-is at c.in-Err-Usage.ensures) (rw c.usage_line.ensures at c.say.ensures.reports)
@@ -77,3 +77,18 @@ clear-requires g c = budget-asked (map (string_bytes {Z = Global}) c.args.words.
 
 pub returns-in-Err-Memory-clause-answers : goal.returns-in-Err-Memory-clause-answers
 returns-in-Err-Memory-clause-answers g c = Starved refl refl
+
+pub returns-in-Ok-Clear-clause-alone : goal.returns-in-Ok-Clear-clause-alone
+returns-in-Ok-Clear-clause-alone g c = λ folder is. let there = rw c.in-Ok-Clear.field-0-is at c.in-Ok-Clear.ensures in absurd cc
+
+pub returns-in-Ok-Check-clause-alone : goal.returns-in-Ok-Check-clause-alone
+returns-in-Ok-Check-clause-alone g c = λ folder is. let there = rw c.in-Ok-Check.field-0-is at c.in-Ok-Check.ensures in absurd cc
+
+pub returns-in-Ok-Feed-clause-alone : goal.returns-in-Ok-Feed-clause-alone
+returns-in-Ok-Feed-clause-alone g c = λ folder is. c.feed.ensures.fetched
+
+pub returns-in-Err-Usage-clause-alone : goal.returns-in-Err-Usage-clause-alone
+returns-in-Err-Usage-clause-alone g c = λ folder is. inl refl
+
+pub returns-in-Err-Memory-clause-alone : goal.returns-in-Err-Memory-clause-alone
+returns-in-Err-Memory-clause-alone g c = λ folder is. inl refl

@@ -83,9 +83,6 @@ pub record TakesSome (Took : List Part → Type 0) (reader : ReaderState) (text 
   pub taken : HasTaken Took text parts reader.come
   pub none : NoPart text parts
 
-pub takes-none : (Took : List Part → Type 0) (reader : ReaderState) → ComesFrom reader.come [] [] → Took [] → TakesSome Took reader []
-takes-none Took reader stands took = record { parts = []; taken = record { stands = stands; took = took }; none = nothing-held }
-
 module _ (Took : List Part → Type 0) (page rest : Option (List ℕ)) (given : ℕ) (old : ReaderState) (u : Under (TakesSome Took old) page rest given) where
   pub some-taken : TookFirst Took u.text
   some-taken = took-first Took u.text u.known.parts old.come u.known.taken

@@ -163,11 +163,6 @@ pub claim_word : (x : Claim) (word gap : List ℕ) → claim_fields x ≡ word �
 claim_word First word gap e = let none : words_of gap ≡ [] = cc in absurd (some_words 32 gap none)
 claim_word (Within g) word gap e = (g, refl, cc, cc)
 
--- the one of one word is another
-pub lone_claim : (x : Claim) (text : List ℕ) → claim_fields x ≡ text ∷ [] → text ≡ codes "first"
-lone_claim First text e = cc
-lone_claim (Within g) text e = absurd cc
-
 some_claim : (x : Claim) → claim_fields x ≡ [] → ⊥
 some_claim First e = absurd cc
 some_claim (Within g) e = absurd cc

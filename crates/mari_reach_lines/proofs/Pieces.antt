@@ -95,7 +95,8 @@ pub record FirstAfter (rest : List ℕ) : Type 0 where
   pub after : rest ≡ 50 ∷ 32 ∷ text
   pub first : InRange (line.Head date quarters budget) × (spelling (line.Head date quarters budget) ≡ codes "mari 1 " ++ text)
 
-first_after : (date : List ℕ) (quarters budget : ℕ) (rest : List ℕ) → ReachInRange (reach.Head date quarters budget) → reach_spelling (reach.Head date quarters budget) ≡ codes "mari " ++ rest → FirstAfter rest
+first_after : (date : List ℕ) (quarters budget : ℕ) (rest : List ℕ)
+    → ReachInRange (reach.Head date quarters budget) → reach_spelling (reach.Head date quarters budget) ≡ codes "mari " ++ rest → FirstAfter rest
 unfolding spelling
 first_after date quarters budget rest r e = record {
   date = date;

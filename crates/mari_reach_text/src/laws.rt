@@ -31,6 +31,7 @@ pub fn reach_texts_follow()
 ///
 /// The call does nothing: its contract is the law.
 pub fn reach_texts_are_whole()
-    ensures publication { (text : List ℕ) (parts : List AnyPart) → IsWhole reach_form text parts → (p : ReachPublication) × IsReachText text p × (parts ≡ reach_parts_of p) }
+    ensures publication { (text : List ℕ) (parts : List AnyPart) → IsWhole reach_form text parts
+        → (p : ReachPublication) × IsReachText text p × (parts ≡ reach_parts_of p) }
     ensures whole { (text : List ℕ) (p : ReachPublication) → IsReachText text p → IsWhole reach_form text (reach_parts_of p) }
 {}

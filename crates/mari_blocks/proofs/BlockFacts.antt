@@ -55,7 +55,8 @@ module _ (bids : BidBook) (links : LinkBook) (first last : ℕ) where
     of-block : (bid block : ℕ) → block_at (block_book bids rows) bid ≡ Some block → IsOfBlock bids links first last (length (names_of rows)) bid block
     of-block bid block e = elim (cases_lt bid (length bids.ids)) [
       | inl l ↦ of-line bid block (find (λ row. bid_at bids row == bid) rows) refl (sym (get_or-map-range_with_len (block_in bids rows) 0 (length bids.ids) bid bid None l (zero-add bid)) ∙ e)
-      | inr past ↦ absurd (never (sym (get_or_past (map (block_in bids rows) (range_with_len 0 (length bids.ids))) bid None (rw (length-map-range_with_len (block_in bids rows) 0 (length bids.ids)) past)) ∙ e))
+      | inr past ↦ absurd
+          (never (sym (get_or_past (map (block_in bids rows) (range_with_len 0 (length bids.ids))) bid None (rw (length-map-range_with_len (block_in bids rows) 0 (length bids.ids)) past)) ∙ e))
     ]
       where
         never : None ≡ Some block → ⊥

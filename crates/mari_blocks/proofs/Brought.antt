@@ -33,7 +33,10 @@ module _ (books : Books) (first quarter : ℕ) (parts after : JointParts) (made 
       let longer : quarter + 1 - first ≡ (quarter - first) + 1 = omega (arith, low) in
       let here : first + (quarter - first) ≡ quarter = omega (arith, low) in
       record {
-        offered = offered ∙ rw (holds.offered, is) (sym (flat-more (bids_brought books) first (quarter - first) quarter here)) ∙ ap (λ n. flat_map (bids_brought books) (range_with_len first n)) (sym longer);
-        borders = borders ∙ rw (holds.borders, is, following) (sym (flat-more (borders_brought books first) first (quarter - first) quarter here)) ∙ ap (λ n. flat_map (borders_brought books first) (range_with_len first n)) (sym longer);
-        demands = demands ∙ rw (holds.demands, is, following, demands-last books run) (sym (flat-more (demands_brought books first) first (quarter - first) quarter here)) ∙ ap (λ n. flat_map (demands_brought books first) (range_with_len first n)) (sym longer);
+        offered = offered
+            ∙ rw (holds.offered, is) (sym (flat-more (bids_brought books) first (quarter - first) quarter here)) ∙ ap (λ n. flat_map (bids_brought books) (range_with_len first n)) (sym longer);
+        borders = borders ∙ rw (holds.borders, is, following) (sym (flat-more (borders_brought books first) first (quarter - first) quarter here))
+            ∙ ap (λ n. flat_map (borders_brought books first) (range_with_len first n)) (sym longer);
+        demands = demands ∙ rw (holds.demands, is, following, demands-last books run) (sym (flat-more (demands_brought books first) first (quarter - first) quarter here))
+            ∙ ap (λ n. flat_map (demands_brought books first) (range_with_len first n)) (sym longer);
       }

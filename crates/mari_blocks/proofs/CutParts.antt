@@ -80,7 +80,8 @@ module _ (books : Books) (ok : IsAccepted books) (blocks : BlockBook) (first las
     pub bids : at.bids + length q.bids ≤ 4608
     pub demands : at.demands + length q.demands ≤ 4608
 
-  module _ (quarter : ℕ) (at : Place) (q : QuarterBlock) (low : first ≤ quarter) (high : quarter ≤ last) (is : Places quarter at) (there : IsThere books joint a priced quarter at) (cut : IsCutOut books joint a priced quarter at q) where
+  module _ (quarter : ℕ) (at : Place) (q : QuarterBlock) (low : first ≤ quarter) (high : quarter ≤ last) (is : Places quarter at) (there : IsThere books joint a priced quarter at)
+      (cut : IsCutOut books joint a priced quarter at q) where
     bids-long : length q.bids ≡ length (bids_of books joint.bids quarter)
     bids-long =
         as-many (λ (l : BidLine). l.id) q.bids _ cut.names.bids ∙ length-map (piece at.bids (length (bids_of books joint.bids quarter)) joint.bids)
@@ -101,7 +102,8 @@ module _ (books : Books) (ok : IsAccepted books) (blocks : BlockBook) (first las
     is-quarter : IsQuarterBlock books joint q
     is-quarter =
         let same : piece at.bids (length (bids_of books joint.bids quarter)) joint.bids ≡ bids_of books joint.bids q.quarter =
-        ap (λ n. piece n (length (bids_of books joint.bids quarter)) joint.bids) is.bids ∙ bids-piece books blocks first last joint made ok quarter low high ∙ ap (bids_of books joint.bids) (sym cut.of_quarter) in
+        ap (λ n. piece n (length (bids_of books joint.bids quarter)) joint.bids) is.bids
+        ∙ bids-piece books blocks first last joint made ok quarter low high ∙ ap (bids_of books joint.bids) (sym cut.of_quarter) in
         record {
           lines = subst (λ numbers. NameLines books numbers q.zones q.borders q.bids) same cut.names;
           demands = demands-long ∙ ap (demand_count books) (sym cut.of_quarter);
@@ -129,23 +131,29 @@ module _ (books : Books) (ok : IsAccepted books) (blocks : BlockBook) (first las
       next-place = record {
         zones = let more = one-more-times (quarter - first) (length books.zones.zones) in next.zones ∙ rw (longer, is.zones) (sym more);
         borders = let more = one-more-times (quarter - first) (length books.borders.borders) in next.borders ∙ rw (longer, is.borders) (sym more);
-        bids = next.bids ∙ rw (bids-long, is.bids, longer, length-more own first (quarter - first) quarter here) (ap (λ n. length (flat_map own (range_with_len first (quarter - first))) + n) (ap length (bids-of books blocks first last joint made ok quarter low high)));
-        demands = next.demands ∙ rw (demands-long, is.demands, longer, length-more (demands_brought books first) first (quarter - first) quarter here) (ap (λ n. length (flat_map (demands_brought books first) (range_with_len first (quarter - first))) + n) (sym (brought-count books blocks first last joint made quarter)));
+        bids = next.bids ∙ rw (bids-long, is.bids, longer, length-more own first (quarter - first) quarter here)
+            (ap (λ n. length (flat_map own (range_with_len first (quarter - first))) + n) (ap length (bids-of books blocks first last joint made ok quarter low high)));
+        demands = next.demands ∙ rw (demands-long, is.demands, longer, length-more (demands_brought books first) first (quarter - first) quarter here)
+            (ap (λ n. length (flat_map (demands_brought books first) (range_with_len first (quarter - first))) + n) (sym (brought-count books blocks first last joint made quarter)));
       }
 
       pub one-more : (quarters : List QuarterBlock) → AreCutOut books joint a priced first quarter quarters at → AreCutOut books joint a priced first (quarter + 1) (quarters ++ q ∷ []) after
       one-more quarters so_far = record {
-        numbers = map-append (λ (q : QuarterBlock). q.quarter) quarters (q ∷ []) ∙ rw (so_far.numbers, cut.of_quarter) (sym (range-more first (quarter - first) quarter here)) ∙ ap (range_with_len first) (sym longer);
+        numbers = map-append (λ (q : QuarterBlock). q.quarter) quarters (q ∷ [])
+            ∙ rw (so_far.numbers, cut.of_quarter) (sym (range-more first (quarter - first) quarter here)) ∙ ap (range_with_len first) (sym longer);
         each = All-push (IsQuarterBlock books joint) quarters q so_far.each is-quarter;
         fit = All-push QuarterFits quarters q so_far.fit fits;
         prices = item-more (λ q. q.zones) (λ (l : ZoneLine). l.price) priced.pricing.published.cents at.zones (length books.zones.zones) after.zones quarters q so_far.prices cut.prices next.zones;
         least = item-more (λ q. q.zones) (λ (l : ZoneLine). l.least) priced.pricing.least.cents at.zones (length books.zones.zones) after.zones quarters q so_far.least cut.least next.zones;
-        greatest = item-more (λ q. q.zones) (λ (l : ZoneLine). l.greatest) priced.pricing.greatest.cents at.zones (length books.zones.zones) after.zones quarters q so_far.greatest cut.greatest next.zones;
+        greatest =
+            item-more (λ q. q.zones) (λ (l : ZoneLine). l.greatest) priced.pricing.greatest.cents at.zones (length books.zones.zones) after.zones quarters q so_far.greatest cut.greatest next.zones;
         areas = item-more (λ q. q.zones) (λ (l : ZoneLine). l.area) priced.areas.items at.zones (length books.zones.zones) after.zones quarters q so_far.areas cut.areas next.zones;
         flow = item-more (λ q. q.borders) (λ (l : BorderLine). l.flow) a.flow at.borders (length books.borders.borders) after.borders quarters q so_far.flow cut.flow next.borders;
         rents = item-more (λ q. q.borders) (λ (l : BorderLine). l.rent) priced.rents at.borders (length books.borders.borders) after.borders quarters q so_far.rents cut.rents next.borders;
-        ids = line-more (λ q. q.bids) (λ (l : BidLine). l.id) (name_at books.bids.ids) joint.bids at.bids (length (bids_of books joint.bids quarter)) after.bids quarters q so_far.ids cut.names.bids (next.bids ∙ ap (λ n. at.bids + n) bids-long);
-        mw = item-more (λ q. q.bids) (λ (l : BidLine). l.mw) a.mw at.bids (length (bids_of books joint.bids quarter)) after.bids quarters q so_far.mw cut.mw (next.bids ∙ ap (λ n. at.bids + n) bids-long);
+        ids = line-more (λ q. q.bids) (λ (l : BidLine). l.id) (name_at books.bids.ids) joint.bids at.bids (length (bids_of books joint.bids quarter)) after.bids quarters q so_far.ids cut.names.bids
+            (next.bids ∙ ap (λ n. at.bids + n) bids-long);
+        mw = item-more (λ q. q.bids) (λ (l : BidLine). l.mw) a.mw at.bids (length (bids_of books joint.bids quarter)) after.bids quarters q so_far.mw cut.mw
+            (next.bids ∙ ap (λ n. at.bids + n) bids-long);
         demands =
             printed-more (λ q. q.demands) quarters q
             ∙ rw (so_far.demands, cut.demands, ← drop-drop at.demands (length joint.bids) a.mw) (piece-more at.demands (demand_count books quarter) (drop (length joint.bids) a.mw))
@@ -160,7 +168,8 @@ module _ (books : Books) (ok : IsAccepted books) (blocks : BlockBook) (first las
       let zones : at.zones ≡ (last + 1 - first) * length books.zones.zones = is.zones ∙ ap (λ n. n * length books.zones.zones) all in
       let borders : at.borders ≡ (last + 1 - first) * length books.borders.borders = is.borders ∙ ap (λ n. n * length books.borders.borders) all in
       let bids : at.bids ≡ length joint.bids = is.bids ∙ ap (λ n. length (flat_map own (range_with_len first n))) all ∙ ap length (sym (bids-are books blocks first last joint made)) in
-      let demands : at.demands ≡ joint.demands = is.demands ∙ ap (λ n. length (flat_map (demands_brought books first) (range_with_len first n))) all ∙ sym (demands-are books blocks first last joint made) in
+      let demands : at.demands ≡ joint.demands =
+      is.demands ∙ ap (λ n. length (flat_map (demands_brought books first) (range_with_len first n))) all ∙ sym (demands-are books blocks first last joint made) in
       let rest : take at.demands (drop (length joint.bids) a.mw) ≡ drop (length joint.bids) a.mw = take_all at.demands _ (omega (arith, demands, length-drop (length joint.bids) a.mw, shapes.mw)) in
       let mw = cut.mw ∙ ap (λ n. take n a.mw) bids in
       let flow = cut.flow ∙ take_all at.borders a.flow (omega (arith, borders, shapes.flow)) in

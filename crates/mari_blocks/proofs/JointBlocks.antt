@@ -14,7 +14,8 @@ use Rattle.mari_blocks.specs.declared.text.JointBlock.{JointBlock}
 
 module _ (books : Books) (first last : ℕ) (joint : Joint) (clearing : Clearing) (priced : Priced) (b : JointBlock) (is : IsPriced books first joint clearing.activation priced)
     (printed : ArePrinted books joint clearing.activation priced first last b.quarters) where
-  prices-printed : AreJointPrices books first joint.market (activation_printed b.quarters) (prices_printed b.quarters) (least_printed b.quarters) (greatest_printed b.quarters) (areas_printed b.quarters)
+  prices-printed : AreJointPrices books first joint.market (activation_printed b.quarters) (prices_printed b.quarters) (least_printed b.quarters) (greatest_printed b.quarters)
+      (areas_printed b.quarters)
   prices-printed =
       let A : Activation → Type 0 = λ x. AreJointPrices books first joint.market x (prices_printed b.quarters) (least_printed b.quarters) (greatest_printed b.quarters) (areas_printed b.quarters) in
       let P : List Cents → Type 0 = λ x. AreJointPrices books first joint.market clearing.activation x (least_printed b.quarters) (greatest_printed b.quarters) (areas_printed b.quarters) in
@@ -35,5 +36,6 @@ module _ (books : Books) (first last : ℕ) (joint : Joint) (clearing : Clearing
         bids = printed.ids;
         clearing = subst (IsClearing joint.market budget) (sym same) clears;
         prices = prices-printed;
-        rents = printed.rents ∙ is.rents ∙ ap (λ (x : Activation). rents_of joint.market x priced.pricing.published.cents) (sym printed.activation) ∙ ap (rents_of joint.market (activation_printed b.quarters)) (sym printed.prices);
+        rents = printed.rents ∙ is.rents ∙ ap (λ (x : Activation). rents_of joint.market x priced.pricing.published.cents) (sym printed.activation)
+            ∙ ap (rents_of joint.market (activation_printed b.quarters)) (sym printed.prices);
       }

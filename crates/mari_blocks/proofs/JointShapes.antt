@@ -90,7 +90,8 @@ module _ (books : Books) (blocks : BlockBook) (first last : ℕ) (joint : Joint)
     bids-of quarter low high =
         ap (filter (λ bid. quarter_at books.bids bid == quarter)) bids-are
         ∙ own-items own (quarter_at books.bids) first count (λ j from to.
-        All-filter (stays books blocks first last) (λ bid. quarter_at books.bids bid ≡ j) (bids_brought books j) (own-offered books ok first last made.runs j from (omega (arith, from, to)))) quarter low (omega (arith, low, high))
+        All-filter (stays books blocks first last) (λ bid. quarter_at books.bids bid ≡ j) (bids_brought books j)
+        (own-offered books ok first last made.runs j from (omega (arith, from, to)))) quarter low (omega (arith, low, high))
 
     -- they stand after those of the quarters before it
     pub bids-piece : (quarter : ℕ) → first ≤ quarter → quarter ≤ last

@@ -60,7 +60,8 @@ module _ (own_gate : ℕ → Option JointGate) where
   pub gate-there : (bid : ℕ) (gate : JointGate) → own_gate bid ≡ Some gate → (numbers : List ℕ) → is_one_of numbers bid ≡ true → list_any (is_same_gate gate) (gates_in numbers) ≡ true
   gate-there bid gate e numbers there = there-once is_same_gate same-itself same-equal gate (filter_map own_gate numbers) (gate-listed bid gate e numbers there)
 
-  module _ (parent_of : ℕ → Option ℕ) (up : (bid parent : ℕ) → parent_of bid ≡ Some parent → own_gate parent ≡ Some (OfBid parent)) (own : (bid other : ℕ) → own_gate bid ≡ Some (OfBid other) → bid ≡ other) where
+  module _ (parent_of : ℕ → Option ℕ) (up : (bid parent : ℕ) → parent_of bid ≡ Some parent → own_gate parent ≡ Some (OfBid parent))
+      (own : (bid other : ℕ) → own_gate bid ≡ Some (OfBid other) → bid ≡ other) where
     -- the gate of a bid's parent stands before the bid's own
     abbrev pub HaveParents : List JointGate → Type 0
     HaveParents gates = (g bid parent : ℕ) (d : JointGate) → g < length gates → get_or gates g d ≡ OfBid bid → parent_of bid ≡ Some parent

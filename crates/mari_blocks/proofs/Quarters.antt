@@ -67,7 +67,8 @@ run-of books quarter some = by (position (is_scheduled quarter) books.runs.runs)
         record {
           first = omega arith;
           last = omega (arith, found.0);
-          own_quarter = rw same (eqb-true (get_or books.runs.runs place no_run).quarter quarter (and_parts ((get_or books.runs.runs place no_run).quarter == quarter) (not (get_or books.runs.runs place no_run).direct) found.1).0);
+          own_quarter = rw same (eqb-true (get_or books.runs.runs place no_run).quarter quarter
+              (and_parts ((get_or books.runs.runs place no_run).quarter == quarter) (not (get_or books.runs.runs place no_run).direct) found.1).0);
         }
 
 module _ (books : Books) (ok : IsAccepted books) (first last : ℕ) (all : lacks_run books first last ≡ false) where

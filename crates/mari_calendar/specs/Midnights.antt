@@ -75,7 +75,8 @@ day_after day = if int_lt day (pos 2932896) then Ok (day +ℤ pos 1) else Err Ou
 
 -- the number of quarter hours in z seconds, from 1 to `MOST_QUARTERS`
 abbrev pub whole_quarters : ℤ → Result ℕ CalendarFault
-whole_quarters z = if int_le (pos 900) z && int_le z (pos (900 * MOST_QUARTERS)) && unsigned_abs z % 900 == 0 then Ok (unsigned_abs z / 900) else Err NotWholeQuarters
+whole_quarters z =
+    if int_le (pos 900) z && int_le z (pos (900 * MOST_QUARTERS)) && unsigned_abs z % 900 == 0 then Ok (unsigned_abs z / 900) else Err NotWholeQuarters
 
 -- the quarter hours from a day's midnight to the next one
 abbrev pub quarters_on : TzText → ℤ → Result ℕ CalendarFault

@@ -109,7 +109,8 @@ module _ (books : Books) (budget : ℕ) (blocks : List Block) (x : Block) (b : F
   pub published-lines : (more : ℕ) (made : RunMarket) (text now : List ℕ) (ws : List BorderWorth) → made ≡ market_after books blocks → IsValueText books more blocks text
       → AreWorths made.market (activation_of b) (prices_of b) more ws → now ≡ text ++ run_lines b ws → IsValueText books more (blocks ++ x ∷ []) now
   published-lines more made text now ws after lines worths put =
-      let own : AreWorths (market_after books blocks).market (activation_of b) (prices_of b) more ws = subst (λ (o : RunMarket). AreWorths o.market (activation_of b) (prices_of b) more ws) after worths in
+      let own : AreWorths (market_after books blocks).market (activation_of b) (prices_of b) more ws =
+      subst (λ (o : RunMarket). AreWorths o.market (activation_of b) (prices_of b) more ws) after worths in
       let P : Block → Type 0 = λ y. IsValueText books more (blocks ++ y ∷ []) now in
       let Q : List ℕ → Type 0 = λ t. IsValueText books more (blocks ++ block.Published b ∷ []) t in
       subst P (sym is) (subst Q (sym put) (OfPublished blocks text b ws lines own))

@@ -75,7 +75,8 @@ module _ (books : Books) (page : List ℕ) where
 
   both-valid : (a b c d : ℕ) → IsValidPage books page a b → IsValidPage books page c d → Valid a b ≡ Valid c d
   both-valid a b c d v w =
-      let own : IsVerdict books w.publication (verdict.Valid a b) = subst (λ (o : Publication). IsVerdict books o (verdict.Valid a b)) (one_text page v.publication w.publication v.is_text w.is_text) v.valid in
+      let own : IsVerdict books w.publication (verdict.Valid a b) =
+      subst (λ (o : Publication). IsVerdict books o (verdict.Valid a b)) (one_text page v.publication w.publication v.is_text w.is_text) v.valid in
       same-valid a b c d (own.1 ∙ sym w.valid.1) (own.2 ∙ sym w.valid.2)
 
   pub one-end : (a b : ValueEnd) → IsEndOf books (Some page) a → IsEndOf books (Some page) b → a ≡ b

@@ -129,7 +129,8 @@ module _ (books : Books) (n : ℕ) (now : ValuesSoFar) where
     stop-lines _ (Ok v) is h = absurd is
 
     -- out of memory is said as such
-    pub stop-never : (stop : ReadStop ValueStop) (r : Result Valued E) → StopsValues stop now.lines.items r → SomeStates Took Breaks (Ends stop) → (reading.IsWrapped (Ends stop) → ⊥) → IfOk r (λ v. IsWrapped v.end → ⊥)
+    pub stop-never : (stop : ReadStop ValueStop) (r : Result Valued E) → StopsValues stop now.lines.items r → SomeStates Took Breaks (Ends stop) → (reading.IsWrapped (Ends stop) → ⊥)
+        → IfOk r (λ v. IsWrapped v.end → ⊥)
     stop-never stop (Err e) is h never = tt
     stop-never (read.Unopened f) (Ok v) is h never = rw is.1 never
     stop-never (read.Fetch f) (Ok v) is h never = rw is.1 never
@@ -138,7 +139,8 @@ module _ (books : Books) (n : ℕ) (now : ValuesSoFar) where
     stop-never _ (Ok v) is h never = absurd is
 
     -- it ends by a fault of the shelf where the reading does
-    pub stop-fetch : (g : Fetch) (stop : ReadStop ValueStop) (r : Result Valued E) → StopsValues stop now.lines.items r → SomeStates Took Breaks (Ends stop) → IsPageFault g r → IsReadFetch g (Ends stop)
+    pub stop-fetch : (g : Fetch) (stop : ReadStop ValueStop) (r : Result Valued E) → StopsValues stop now.lines.items r → SomeStates Took Breaks (Ends stop) → IsPageFault g r
+        → IsReadFetch g (Ends stop)
     stop-fetch g stop (Err e) is h w = absurd w
     stop-fetch g (read.Unopened f) (Ok v) is h w = subst (λ (e : ValueEnd). IsPageEnd g e) is.1 w
     stop-fetch g (read.Fetch f) (Ok v) is h w = subst (λ (e : ValueEnd). IsPageEnd g e) is.1 w
@@ -147,7 +149,8 @@ module _ (books : Books) (n : ℕ) (now : ValuesSoFar) where
     stop-fetch g _ (Ok v) is h w = absurd is
 
     -- a page that is missing wasn't opened
-    pub stop-missing : (stop : ReadStop ValueStop) (r : Result Valued E) → StopsValues stop now.lines.items r → SomeStates Took Breaks (Ends stop) → IsPageFault fetch.Missing r → IsUnopened (Ends stop)
+    pub stop-missing : (stop : ReadStop ValueStop) (r : Result Valued E)
+        → StopsValues stop now.lines.items r → SomeStates Took Breaks (Ends stop) → IsPageFault fetch.Missing r → IsUnopened (Ends stop)
     stop-missing stop r is h w = by stop h (stop-fetch fetch.Missing stop r is h w)
       where
         by : (s : ReadStop ValueStop) → SomeStates Took Breaks (Ends s) → IsReadFetch fetch.Missing (Ends s) → IsUnopened (Ends s)
@@ -165,10 +168,12 @@ module _ (first : ValuesSoFar) (books : Books) (n : ℕ) (now : ValuesSoFar) (bo
   pub reads-as : (page : Option (List ℕ)) (r : Result (Unit {0}) (ReadStop ValueStop)) → ReadStates (Took first.books.now first.more now) (Breaks first.books.now first.more now) page r
       → ReadStates (Took books n now) (Breaks books n now) page r
   reads-as page r h =
-      let by_books : ReadStates (Took books first.more now) (Breaks books first.more now) page r = subst (λ (b : Books). ReadStates (Took b first.more now) (Breaks b first.more now) page r) books_are h in
+      let by_books : ReadStates (Took books first.more now) (Breaks books first.more now) page r =
+      subst (λ (b : Books). ReadStates (Took b first.more now) (Breaks b first.more now) page r) books_are h in
       subst (λ (m : ℕ). ReadStates (Took books m now) (Breaks books m now) page r) more_is by_books
 
-  pub some-as : (r : Result (Unit {0}) (ReadStop ValueStop)) → SomeStates (Took first.books.now first.more now) (Breaks first.books.now first.more now) r → SomeStates (Took books n now) (Breaks books n now) r
+  pub some-as : (r : Result (Unit {0}) (ReadStop ValueStop)) → SomeStates (Took first.books.now first.more now) (Breaks first.books.now first.more now) r
+      → SomeStates (Took books n now) (Breaks books n now) r
   some-as r h =
       let by_books : SomeStates (Took books first.more now) (Breaks books first.more now) r = subst (λ (b : Books). SomeStates (Took b first.more now) (Breaks b first.more now) r) books_are h in
       subst (λ (m : ℕ). SomeStates (Took books m now) (Breaks books m now) r) more_is by_books

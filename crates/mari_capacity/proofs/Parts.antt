@@ -176,7 +176,8 @@ module _ (books : Books) (more : ℕ) (parts : List Part) (old new : ValuesSoFar
 -- ---- what a part comes to
 
 module _ (books : Books) (more : ℕ) (parts : List Part) (old new : ValuesSoFar) (x : Part) (t : HasTaken books more parts old) (c : Comes parts x) where
-  module _ (date : List ℕ) (quarters budget : ℕ) (is : x ≡ part.Head date quarters budget) (stated : new.day.budget ≡ budget) (checked : IsChecked books [] new.day) (found : new.found ≡ old.found) (lines : new.lines ≡ old.lines) (same : new.more ≡ old.more) where
+  module _ (date : List ℕ) (quarters budget : ℕ) (is : x ≡ part.Head date quarters budget) (stated : new.day.budget ≡ budget) (checked : IsChecked books [] new.day) (found : new.found ≡ old.found)
+      (lines : new.lines ≡ old.lines) (same : new.more ≡ old.more) where
     pub head-goes-on : {T : Type 0} (number : Option ℕ) (r : Res T ValueStop) → FindsHead (HasHead books date quarters) number → IsStopAt 0 (Ok number) r
         → OnOk r (HasTaken books more (parts ++ x ∷ []) new)
     head-goes-on None (Ok done) finds stop = head-taken books more parts old new x t c date quarters budget is finds checked stated found lines same

@@ -61,9 +61,16 @@ rises-bound books ok budget blocks free k b there more ws are = λ border forth 
     let few = few-blocks books budget blocks free in
     let l = slice_get_within blocks k (block.Published b) there in
     let made : IsMarketOf books (market_after books before) = made-is books (run_after before) (market_after books before) ok
-    (record { blocks = before_of books before; first = sound.up books ok blocks few each k (omega (arith, l)); from_one = omega arith; there = sound.after books ok blocks few each k l; made_of = refl }) in
+    (record {
+      blocks = before_of books before;
+      first = sound.up books ok blocks few each k (omega (arith, l));
+      from_one = omega arith;
+      there = sound.after books ok blocks few each k l;
+      made_of = refl;
+    }) in
     let m = (market_after books before).market in
     let own = free k (block.Published b) there in
-    let most = at-most-rise m made.valid (activation_of b) (own fault.Infeasible).1 (prices_of b) (own fault.Inconsistent).1 (record { border = border; forth = forth; more = more }) inside other within in
+    let most =
+    at-most-rise m made.valid (activation_of b) (own fault.Infeasible).1 (prices_of b) (own fault.Inconsistent).1 (record { border = border; forth = forth; more = more }) inside other within in
     let rise = rise-on m (activation_of b) (prices_of b) more border (get_or ws border no_worth) forth (are.each border inside) in
     omega (arith, ints, most, rise, (own fault.Welfare).1)

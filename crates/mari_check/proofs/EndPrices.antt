@@ -35,7 +35,11 @@ module _ (m : Market) (a : Activation) (v : IsValid m) (f : IsFeasible m a) wher
   pub lower-height : (z : ℕ) (c : ℤ) (n : ℕ) → pos n ≡ c +ℤ CAP → IsLowerBound m a z c → IsBoundBy Least m.orders a.mw z n
   lower-height z c n e (inl h) = inl (omega (arith, ints, e, h))
   lower-height z c n e (inr s) = inr (AnyZip-with (OneStanding m a) (SetsLowerAt (is_open m a) z c) (SetsAt Least z n)
-      (λ o q is h. record { zone = h.zone; height = omega (arith, ints, e, h.price); sets = subst (λ (s : Standing). SetsLower s o.side o.greatest q) (sym is) h.sets }) m.orders a.mw (one_standing m a v f) s)
+      (λ o q is h. record {
+        zone = h.zone;
+        height = omega (arith, ints, e, h.price);
+        sets = subst (λ (s : Standing). SetsLower s o.side o.greatest q) (sym is) h.sets;
+      }) m.orders a.mw (one_standing m a v f) s)
 
   pub lower-from : (z n : ℕ) → IsBoundBy Least m.orders a.mw z n → IsLowerBound m a z (pos n -ℤ CAP)
   lower-from z n (inl h) = inl (omega (arith, ints, h))
@@ -45,7 +49,11 @@ module _ (m : Market) (a : Activation) (v : IsValid m) (f : IsFeasible m a) wher
   pub upper-height : (z : ℕ) (c : ℤ) (n : ℕ) → pos n ≡ CAP -ℤ c → IsUpperBound m a z c → IsBoundBy Greatest m.orders a.mw z n
   upper-height z c n e (inl h) = inl (omega (arith, ints, e, h))
   upper-height z c n e (inr s) = inr (AnyZip-with (OneStanding m a) (SetsUpperAt (is_open m a) z c) (SetsAt Greatest z n)
-      (λ o q is h. record { zone = h.zone; height = omega (arith, ints, e, h.price); sets = subst (λ (s : Standing). SetsUpper s o.side o.greatest q) (sym is) h.sets }) m.orders a.mw (one_standing m a v f) s)
+      (λ o q is h. record {
+        zone = h.zone;
+        height = omega (arith, ints, e, h.price);
+        sets = subst (λ (s : Standing). SetsUpper s o.side o.greatest q) (sym is) h.sets;
+      }) m.orders a.mw (one_standing m a v f) s)
 
   pub upper-from : (z n : ℕ) → IsBoundBy Greatest m.orders a.mw z n → IsUpperBound m a z (CAP -ℤ pos n)
   upper-from z n (inl h) = inl (omega (arith, ints, h))
@@ -106,7 +114,13 @@ module _ (m : Market) (a : Activation) (v : IsValid m) (f : IsFeasible m a) wher
           let high : pos n ≡ c +ℤ CAP = omega (arith, ints, c_price.low) in
           omega (arith, ints, (t z (omega (arith, l, long))).tightest n (lower-height z c n high b), s.above z, p.each z (omega (arith, l, long, s.one_each)), high);
       upper = λ z c l b.
-          omega (arith, ints, no-lower qs agrees bounds vs z t (s.source z (omega (arith, l, long))), upper_kept m a qs z c (price_in_cap m qs agrees.prices z) agrees.orders b, p.each z (omega (arith, l, long, s.one_each)));
+          omega (
+            arith,
+            ints,
+            no-lower qs agrees bounds vs z t (s.source z (omega (arith, l, long))),
+            upper_kept m a qs z c (price_in_cap m qs agrees.prices z) agrees.orders b,
+            p.each z (omega (arith, l, long, s.one_each)),
+          );
       rises = λ y z k l r. omega (arith, ints, s.rises y z r, p.each y (omega (arith, k, long, s.one_each)), p.each z (omega (arith, l, long, s.one_each)));
     }
 
@@ -114,7 +128,13 @@ module _ (m : Market) (a : Activation) (v : IsValid m) (f : IsFeasible m a) wher
     greatest-keeps t s p = record {
       one_each = omega (arith, p.one_each, s.one_each, long);
       lower = λ z c l b.
-          omega (arith, ints, no-higher qs agrees bounds vs z t (s.source z (omega (arith, l, long))), lower_kept m a qs z c (price_in_cap m qs agrees.prices z) agrees.orders b, p.each z (omega (arith, l, long, s.one_each)));
+          omega (
+            arith,
+            ints,
+            no-higher qs agrees bounds vs z t (s.source z (omega (arith, l, long))),
+            lower_kept m a qs z c (price_in_cap m qs agrees.prices z) agrees.orders b,
+            p.each z (omega (arith, l, long, s.one_each)),
+          );
       upper = λ z c l b.
           let c_price = upper-price z c b in
           let n : ℕ = unsigned_abs (CAP -ℤ c) in

@@ -68,7 +68,10 @@ module _ (books : Books) (blocks : List Block) (ledger : Ledger) (sums : AreTota
     pub both-totals : lines ≡ true → (amounts : Bool) → (amounts ≡ true) ↔ (providers ≡ map (amount_line books.bids.providers ledger.providers) (range_with_len 0 (length books.bids.providers)))
         → (amounts ≡ true) ↔ HasTotals books p
     both-totals right amounts also = (
-      λ t. record { operators = first ∙ test.0 right ∙ sums.operators ∙ sym (ap (operator_totals books) same); providers = second ∙ also.0 t ∙ provider-lines books blocks ledger sums ∙ sym (ap (provider_totals books) same) },
+      λ t. record {
+        operators = first ∙ test.0 right ∙ sums.operators ∙ sym (ap (operator_totals books) same);
+        providers = second ∙ also.0 t ∙ provider-lines books blocks ledger sums ∙ sym (ap (provider_totals books) same);
+      },
       λ h. also.1 (sym second ∙ h.providers ∙ ap (provider_totals books) same ∙ sym (provider-lines books blocks ledger sums)),
     )
 

@@ -25,7 +25,8 @@ use Rattle.mari_check.proofs.Least.{last-passes, least-is}
 use Rattle.mari_check.proofs.Providers.{run-of, states-is}
 
 -- the ledger of the run, as it was tested
-module _ (books : Books) (made : RunMarket) (also : Option (List Cents)) (b : FullBlock) (ledger : Ledger) (a : Activation) (ps : Prices) (reported : a ≡ activation_of b) (priced : ps.cents ≡ prices_of b)
+module _ (books : Books) (made : RunMarket) (also : Option (List Cents)) (b : FullBlock) (ledger : Ledger) (a : Activation) (ps : Prices) (reported : a ≡ activation_of b)
+    (priced : ps.cents ≡ prices_of b)
     (rents : ledger.rents ≡ rents_of made.market a ps.cents) (operators : ledger.operators ≡ operator_lines books.zones made.market a ps.cents)
     (providers : ledger.providers ≡ provider_amounts books.bids made.bids a ps.cents (scheduled_or ps.cents also)) (places : List ℕ) (listed : places ≡ providers_among books.bids.bids made.bids)
     (held : Bool) (test : (held ≡ true) ↔ StatesLedger books b ledger places) where

@@ -110,4 +110,5 @@ module _ (m : Market) (b : FullBlock) (h : HasIntervals m b) where
       let low : at.low ≡ price_at (least_reported b) z = one_least m (activation_of b) z at.low (price_at (least_reported b) z) at.least (h.least.each z there) in
       let high : at.high ≡ price_at (greatest_reported b) z = one_greatest m (activation_of b) z at.high (price_at (greatest_reported b) z) at.greatest (h.greatest.each z there) in
       subst (IsNearestLine m.reference) (get_or_default b.zones z no_line d l)
-      (read-nearest at.low (line z).least.0 at.high (line z).greatest.0 m.reference.0 (price_at (prices_of b) z) (line z).price.0 (low ∙ sym (least-at z there)) (high ∙ sym (greatest-at z there)) (sym (price-is z there)) at.nearest)
+      (read-nearest at.low (line z).least.0 at.high (line z).greatest.0 m.reference.0 (price_at (prices_of b) z) (line z).price.0 (low ∙ sym (least-at z there)) (high ∙ sym (greatest-at z there))
+      (sym (price-is z there)) at.nearest)

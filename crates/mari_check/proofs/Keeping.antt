@@ -34,7 +34,13 @@ module _ (books : Books) (ok : IsAccepted books) (p : Publication) (valid : IsVa
       let l = slice_get_within p.blocks k (block.Published b) e in
       let before = take k p.blocks in
       shows-run books ok (run_after before) (market_after books before) (also_after books before) (Some p.budget) b
-      (record { blocks = before_of books before; first = sound.up books ok p.blocks few each k (omega (arith, l)); from_one = omega arith; there = sound.after books ok p.blocks few each k l; made_of = refl })
+      (record {
+        blocks = before_of books before;
+        first = sound.up books ok p.blocks few each k (omega (arith, l));
+        from_one = omega arith;
+        there = sound.after books ok p.blocks few each k l;
+        made_of = refl;
+      })
       (λ any. (valid.blocks k (block.Published b) e any).1)
 
   pub totals-balance : net_sum p.operators ≡ pos 0

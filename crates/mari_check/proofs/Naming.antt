@@ -64,7 +64,8 @@ module _ (books : Books) (made : RunMarket) (b : FullBlock) where
   names-of zones borders bids demands = record {
     lines = record {
       zones = zip-to NamesZone (λ (l : ZoneLine). l.name) (λ (n : List ℕ). n) (λ l n e. e) b.zones books.zones.zones zones ∙ map-itself books.zones.zones;
-      from = zip-to (NamesEnds books.zones.zones) (λ (l : BorderLine). l.from) (λ (ends : BorderEnds). name_at books.zones.zones ends.from) (λ l ends e. e.from) b.borders books.borders.borders borders;
+      from =
+          zip-to (NamesEnds books.zones.zones) (λ (l : BorderLine). l.from) (λ (ends : BorderEnds). name_at books.zones.zones ends.from) (λ l ends e. e.from) b.borders books.borders.borders borders;
       to = zip-to (NamesEnds books.zones.zones) (λ (l : BorderLine). l.to) (λ (ends : BorderEnds). name_at books.zones.zones ends.to) (λ l ends e. e.to) b.borders books.borders.borders borders;
       bids = zip-to (NamesBid books.bids.ids) (λ (l : BidLine). l.id) (name_at books.bids.ids) (λ l n e. e) b.bids made.bids bids;
     };

@@ -26,7 +26,8 @@ use Rattle.mari_check.specs.Verdicts.{IsVerdict}
 
 -- ---- why there is no verdict
 
-pub fault-states : (Took : List Part → Type 0) (Breaks : List Part → Part → NoRoom → Type 0) (page : Option (List ℕ)) (stop : ReadStop NoRoom) → ReadStates Took Breaks page (Err stop) → FaultStates page (stream_fault stop)
+pub fault-states : (Took : List Part → Type 0) (Breaks : List Part → Part → NoRoom → Type 0) (page : Option (List ℕ)) (stop : ReadStop NoRoom) → ReadStates Took Breaks page (Err stop)
+    → FaultStates page (stream_fault stop)
 fault-states Took Breaks None (read.Unopened fetch.Failed) h = tt
 fault-states Took Breaks None (read.Unopened fetch.Missing) h = tt
 fault-states Took Breaks None read.Memory h = tt
@@ -38,7 +39,8 @@ fault-states Took Breaks (Some page) (read.Part none) h = tt
 fault-states Took Breaks (Some page) read.Memory h = tt
 fault-states Took Breaks _ _ h = absurd h
 
-pub fault-stops : {S : Type 0} (rest_of : S → Option (List ℕ)) (calls : S → ℕ) (page : List ℕ) (shelf : S) (stop : ReadStop NoRoom) → ReadStops rest_of calls page shelf stop → FaultStops rest_of calls page shelf (stream_fault stop)
+pub fault-stops : {S : Type 0} (rest_of : S → Option (List ℕ)) (calls : S → ℕ) (page : List ℕ) (shelf : S) (stop : ReadStop NoRoom) → ReadStops rest_of calls page shelf stop
+    → FaultStops rest_of calls page shelf (stream_fault stop)
 fault-stops rest_of calls page shelf (read.Unopened f) h = tt
 fault-stops rest_of calls page shelf (read.Fetch f) h = tt
 fault-stops rest_of calls page shelf (read.Text (fault.BadLine n)) h = h

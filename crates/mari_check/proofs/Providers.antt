@@ -33,7 +33,8 @@ rents-from lines rents e =
     zip-from StatesRent (λ (l : BorderLine). l.rent) (λ (l : BorderLine). l.rent) (λ (q : Quarters). q) (λ (q : Quarters). q) (λ l q e f. e) lines rents all all
 
 -- the ledger that a block states is the run's where it is this one
-module _ (books : Books) (made : RunMarket) (also : Option (List Cents)) (b : FullBlock) (ledger : Ledger) (places : List ℕ) (a : Activation) (ps : List Cents) (reported : a ≡ activation_of b) (priced : ps ≡ prices_of b) where
+module _ (books : Books) (made : RunMarket) (also : Option (List Cents)) (b : FullBlock) (ledger : Ledger) (places : List ℕ) (a : Activation) (ps : List Cents) (reported : a ≡ activation_of b)
+    (priced : ps ≡ prices_of b) where
   same2 : {Z : Type 0} (f : Activation → List Cents → Z) → f a ps ≡ f (activation_of b) (prices_of b)
   same2 f = ap (λ x. f x ps) reported ∙ ap (f (activation_of b)) priced
 
@@ -66,7 +67,8 @@ run-of books made also b ledger a ps reported priced of agrees h rents operators
   providers = providers ∙ same2 books made also b ledger [] a ps.cents reported priced (λ x qs. provider_amounts books.bids made.bids x qs (scheduled_or qs also));
   one_each = ap length operators ∙ length-map-range_with_len _ 0 (length books.zones.operators);
   rents =
-      let many : length (map_along (λ (x : Border) f. record { 0 = rent_of (prices_of b) x f }) made.market.borders (activation_of b).flow) ≡ length made.market.borders = along-length _ made.market.borders (activation_of b).flow (AllZip-long _ made.market.borders (activation_of b).flow agrees.borders) in
+      let many : length (map_along (λ (x : Border) f. record { 0 = rent_of (prices_of b) x f }) made.market.borders (activation_of b).flow) ≡ length made.market.borders =
+      along-length _ made.market.borders (activation_of b).flow (AllZip-long _ made.market.borders (activation_of b).flow agrees.borders) in
       ap length (rents ∙ same2 books made also b ledger [] a ps.cents reported priced (rents_of made.market)) ∙ many ∙ of.borders;
   balanced = balanced;
 }

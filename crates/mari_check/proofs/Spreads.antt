@@ -102,7 +102,8 @@ both-ways-over along b f g read on back old mid new first second lf lt small on_
           let same : new ≡ old = t.same none.1 ∙ s.same none.0 in (
             same,
             subst (λ (vs : List ℕ). IsClosedOver along vs b f) (sym same)
-                (closed-over along b f old (λ l. s.closed none.0 (is_on (subst (LeadsOn along b) (sym read) l))) (λ l. subst (λ (vs : List ℕ). get_or vs b.to 0 ≤ get_or vs b.from 0) (s.same none.0) (t.closed none.1 (is_back (subst (LeadsBack along b) (sym read) l))))),
+                (closed-over along b f old (λ l. s.closed none.0 (is_on (subst (LeadsOn along b) (sym read) l)))
+                (λ l. subst (λ (vs : List ℕ). get_or vs b.to 0 ≤ get_or vs b.from 0) (s.same none.0) (t.closed none.1 (is_back (subst (LeadsBack along b) (sym read) l))))),
           );
       less = λ e. by first second e s.less t.less (room-spreads lead old mid small s.spreads) (room-spreads lead mid new small_mid t.spreads);
     }
@@ -170,7 +171,8 @@ pub going-more : (along : Along) (bs : List Border) (fs : List ℤ) (d : Border)
     → Going along bs fs initial old i was → Over along (get_or bs i d) f old new changed → (changed ≡ true → now ≡ true) → (changed ≡ false → now ≡ was) → Going along bs fs initial new (i + 1) now
 going-more along bs fs d f i initial old new was now true small l k e g o up kept =
     let lead = LeadsTo along bs fs in
-    let there : (y z : ℕ) → LeadsOver along y z (get_or bs i d) f → lead y z = λ y z h. AnyZip-at (LeadsOver along y z) bs fs i d (pos 0) l k (subst (λ (x : ℤ). LeadsOver along y z (get_or bs i d) x) e h) in
+    let there : (y z : ℕ) → LeadsOver along y z (get_or bs i d) f
+    → lead y z = λ y z h. AnyZip-at (LeadsOver along y z) bs fs i d (pos 0) l k (subst (λ (x : ℤ). LeadsOver along y z (get_or bs i d) x) e h) in
     record {
       spreads = spreads-on lead initial old new g.spreads (spreads-wider (λ y z. LeadsOver along y z (get_or bs i d) f) lead there old new o.spreads);
       settled = λ h. absurd (let is : now ≡ true = up refl in cc);

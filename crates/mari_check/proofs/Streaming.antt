@@ -62,7 +62,8 @@ comes text parts x h =
 
 -- ---- what is settled stays so
 
-pub settled-stays : (books : Books) (parts : List Part) (x : Part) (day : DayCheck) (found : Option Verdict) → is_some found ≡ true → IsVerdictSoFar books parts day found → IsVerdictSoFar books (parts ++ x ∷ []) day found
+pub settled-stays : (books : Books) (parts : List Part) (x : Part) (day : DayCheck) (found : Option Verdict) → is_some found ≡ true → IsVerdictSoFar books parts day found
+    → IsVerdictSoFar books (parts ++ x ∷ []) day found
 settled-stays books parts x day None e h = absurd cc
 settled-stays books parts x day (Some v) e h = λ p more same. h p (x ∷ more) (same ∙ append_assoc parts (x ∷ []) more)
 
@@ -98,7 +99,8 @@ pub first-checked : (books : Books) (parts : List Part) (day : DayCheck) (x : Pa
     → x ≡ part.Head date quarters budget → IsOpen books parts day → Comes parts x → IsChecked books [] day
 first-checked books parts day x date quarters budget is o c = subst (λ (ps : List Part). IsOpen books ps day) (first books parts day date quarters budget o (subst (Comes parts) is c)) o
 
-module _ (books : Books) (parts : List Part) (old : DayCheck) (fine : IsOpen books parts old) (x : Part) (c : Comes parts x) (date : List ℕ) (quarters budget : ℕ) (is : x ≡ part.Head date quarters budget)
+module _ (books : Books) (parts : List Part) (old : DayCheck) (fine : IsOpen books parts old) (x : Part) (c : Comes parts x) (date : List ℕ) (quarters budget : ℕ)
+    (is : x ≡ part.Head date quarters budget)
     (found : Option Verdict) (states : (p : Publication) → p.date ≡ date → p.quarters ≡ quarters → HeadStates books p found) where
   alone : parts ++ x ∷ [] ≡ part.Head date quarters budget ∷ []
   alone = ap (λ (ps : List Part). ps ++ x ∷ []) (first books parts old date quarters budget fine (subst (Comes parts) is c)) ∙ ap (λ (y : Part). y ∷ []) is
@@ -113,7 +115,13 @@ module _ (books : Books) (parts : List Part) (old : DayCheck) (fine : IsOpen boo
       let p = c.whole in
       let s = starts p date quarters budget c.more (c.are ∙ sym (append_assoc parts (x ∷ []) c.more) ∙ ap (λ (ps : List Part). ps ++ c.more) alone) in
       let right = head-clear books p found e (states p s.date_is s.quarters_is) in
-      let now : IsFaultlessSoFar books date quarters budget [] new = record { head = record { date_is = sym s.date_is ∙ right.date_is; quarters_is = sym s.quarters_is ∙ right.quarters_is }; budget_is = sym b; blocks = []; are = refl; checked = checked } in
+      let now : IsFaultlessSoFar books date quarters budget [] new = record {
+        head = record { date_is = sym s.date_is ∙ right.date_is; quarters_is = sym s.quarters_is ∙ right.quarters_is };
+        budget_is = sym b;
+        blocks = [];
+        are = refl;
+        checked = checked;
+      } in
       subst (λ (ps : List Part). IsOpen books ps new) (sym alone) now
 
   pub head-found : (new : DayCheck) → IsChecked books [] new → new.budget ≡ budget → IsVerdictSoFar books (parts ++ x ∷ []) new found

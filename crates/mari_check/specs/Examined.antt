@@ -28,7 +28,8 @@ IsReportedLedger books made also b a ps (Some ledger) =
 -- before the tree is looked at, the least fault is reported where it is one of those before the tree's; or that none of these
 -- is there, with the activation and the prices that the block states
 abbrev pub FindsBeforeTree : Books → (run : ℕ) → RunMarket → (also : Option (List Cents)) → (budget : Option ℕ) → FullBlock → BeforeTree → Type 0
-FindsBeforeTree books run made also budget b (before.Faulty least) = IsLeast (IsFreeOf books run made also budget b) least × (fault_number least < fault_number fault.Tree)
+FindsBeforeTree books run made also budget b (before.Faulty least) =
+    IsLeast (IsFreeOf books run made also budget b) least × (fault_number least < fault_number fault.Tree)
 FindsBeforeTree books run made also budget b (before.Sound a ps) =
     NoneBelow (IsFreeOf books run made also budget b) (fault_number fault.Tree) × (a ≡ activation_of b) × (ps.cents ≡ prices_of b)
 

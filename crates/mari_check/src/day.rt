@@ -213,8 +213,10 @@ impl DayCheck {
     ) -> Result<Option<u8>, Memory>
         requires accepted { IsAccepted books.now }
         requires stands { (blocks : List PrintedBlock) × IsChecked books.now blocks self.old }
-        ensures finds { (blocks : List PrintedBlock) → IsChecked books.now blocks self.old → IfOk result (FindsNumber (IsFreeIn books.now self.old.budget blocks block.now)) }
-        ensures stands { (blocks : List PrintedBlock) → IsChecked books.now blocks self.old → result ≡ Ok None → IsChecked books.now (blocks ++ block.now ∷ []) self.new }
+        ensures finds { (blocks : List PrintedBlock) → IsChecked books.now blocks self.old
+            → IfOk result (FindsNumber (IsFreeIn books.now self.old.budget blocks block.now)) }
+        ensures stands { (blocks : List PrintedBlock) → IsChecked books.now blocks self.old → result ≡ Ok None
+            → IsChecked books.now (blocks ++ block.now ∷ []) self.new }
         ensures budget { self.new.budget ≡ self.old.budget }
 
         // Out of memory, what is kept is as before.

@@ -117,14 +117,17 @@ pub fn check_stream<S: Shelf>(
 
     // What it says of the page, where pages are reported; and that nothing else is said of that page, whole.
     ensures reported { (reported : Pages) → S.pages shelf.old ≡ Some reported → StreamStates books.now (page_of reported name.now) result }
-    ensures whole { (reported : Pages) (page : List ℕ) (answer : Res ThePublication TheTextFault) → S.pages shelf.old ≡ Some reported → page_of reported name.now ≡ Some page → IsOutcome page answer → SameAsRead books.now answer result }
+    ensures whole { (reported : Pages) (page : List ℕ) (answer : Res ThePublication TheTextFault)
+        → S.pages shelf.old ≡ Some reported → page_of reported name.now ≡ Some page → IsOutcome page answer → SameAsRead books.now answer result }
 
     // After a fault of a line nothing more is read.
-    ensures stops { (reported : Pages) (page : List ℕ) → S.pages shelf.old ≡ Some reported → page_of reported name.now ≡ Some page → IfErr result (FaultStops S.rest S.fetches page shelf.new) }
+    ensures stops { (reported : Pages) (page : List ℕ) → S.pages shelf.old ≡ Some reported → page_of reported name.now ≡ Some page
+        → IfErr result (FaultStops S.rest S.fetches page shelf.new) }
 
     // The shelf is asked for no other page: one call names a page, and each further one is for a piece, at most one for
     // each byte that was given, and one. Where there is no memory for the check, it isn't asked.
-    ensures fetched { (S.fetches shelf.new ≡ S.fetches shelf.old) ⊎ AsksForPage (IsStreamFetch fetch.Missing result) (S.fetches shelf.old) (S.fetches shelf.new) (S.given shelf.new) }
+    ensures fetched { (S.fetches shelf.new ≡ S.fetches shelf.old)
+        ⊎ AsksForPage (IsStreamFetch fetch.Missing result) (S.fetches shelf.old) (S.fetches shelf.new) (S.given shelf.new) }
     ensures named { S.named shelf.new ≤ S.named shelf.old + 1 }
 
     // Why there is no verdict. Out of memory is reported as such.

@@ -50,7 +50,8 @@ pub fn has_totals(
 ) -> bool
     requires accepted { IsAccepted books.now }
     requires stands { (blocks : List PrintedBlock) × (length blocks ≤ length books.now.runs.runs) × AreTotals books.now blocks totals.now }
-    ensures { (p : ThePublication) → AreTotals books.now p.blocks totals.now → p.operators ≡ operators.now → p.providers ≡ providers.now → (IsTrue result ↔ HasTotals books.now p) }
+    ensures { (p : ThePublication) → AreTotals books.now p.blocks totals.now → p.operators ≡ operators.now → p.providers ≡ providers.now
+        → (IsTrue result ↔ HasTotals books.now p) }
 {
     let sums = totals.operators.as_slice();
     if !are_money_lines(operators, &books.zones.operators, sums) {
@@ -69,7 +70,8 @@ impl DayCheck {
     pub fn end(&self, books: &Books, operators: &[MoneyLine], providers: &[AmountLine]) -> Verdict
         requires accepted { IsAccepted books.now }
         requires stands { (blocks : List PrintedBlock) × IsChecked books.now blocks self.now }
-        ensures { (p : ThePublication) → HasHead books.now p.date p.quarters → p.budget ≡ self.now.budget → IsChecked books.now p.blocks self.now → p.operators ≡ operators.now → p.providers ≡ providers.now
+        ensures { (p : ThePublication) → HasHead books.now p.date p.quarters
+            → p.budget ≡ self.now.budget → IsChecked books.now p.blocks self.now → p.operators ≡ operators.now → p.providers ≡ providers.now
             → IsVerdict books.now p result }
     {
         let runs = run_count(books);

@@ -163,10 +163,20 @@ module _ (asked : Option Asked) (pages : Pages) where
 
   pub gap-comes : (o : Outcome) (number : ℕ) (gap : Gap) → Says asked pages o → LacksPage asked pages number gap → IsOfFiles number gap o
   gap-comes o number gap s (lacks-book folder r h) = inl (gap-of-books o folder number gap h (of-folder asked pages o folder r s))
-  gap-comes o number gap s (lacks-publication folder books c h none n is) = inl (elim (checked-comes o folder books s c h)
-      [ inl states ↦ (let P : Option (List ℕ) → Type 0 = λ x. CheckStates books x o in let Q : Gap → Type 0 = λ x. Comes (IsGapOf x) o in subst Q (sym is) (not-held o books (subst P none states))) | inr e ↦ inr e ])
-  gap-comes o number gap s (lacks-long books page has long n is) = inl (elim (checked-comes o has.folder books s has.check has.gives)
-      [ inl states ↦ (let P : Option (List ℕ) → Type 0 = λ x. CheckStates books x o in let Q : Gap → Type 0 = λ x. Comes (IsGapOf x) o in subst Q (sym is) (too-long o books page (subst P has.held states) long)) | inr e ↦ inr e ])
+  gap-comes o number gap s (lacks-publication folder books c h none n is) = inl (elim (checked-comes o folder books s c h) [
+    | inl states ↦ (
+        let P : Option (List ℕ) → Type 0 = λ x. CheckStates books x o in
+        let Q : Gap → Type 0 = λ x. Comes (IsGapOf x) o in
+        subst Q (sym is) (not-held o books (subst P none states)))
+    | inr e ↦ inr e
+  ])
+  gap-comes o number gap s (lacks-long books page has long n is) = inl (elim (checked-comes o has.folder books s has.check has.gives) [
+    | inl states ↦ (
+        let P : Option (List ℕ) → Type 0 = λ x. CheckStates books x o in
+        let Q : Gap → Type 0 = λ x. Comes (IsGapOf x) o in
+        subst Q (sym is) (too-long o books page (subst P has.held states) long))
+    | inr e ↦ inr e
+  ])
   gap-comes o number gap s (lacks-feed folder feed none n is) =
       let P : Option (List ℕ) → Type 0 = λ x. IsFeedGap x NotHeld in
       let Q : Gap → Type 0 = λ x. IsFeedGap (page_of pages (publication_path folder)) x in

@@ -205,7 +205,8 @@ module _ (shown : Option Pages) (late : Type 0) (before after : Option (List ℕ
   module _ (asked : Option Asked) (pages : Pages) (is_shown : shown ≡ Some pages) (o : Outcome) (says : Says asked pages o) (reported : Reported shown late o before after result) where
     -- what is said of the publication that is printed as a feed
     fed-by : (Q : Status → Type 0) (folder : List ℕ) → asked ≡ Some (Feed folder)
-        → ((between : Option (List ℕ)) (end : Result (Unit {0}) FeedStop) → FeedStates (page_of pages (publication_path folder)) before between end → ReportsFeed end between after result → OrFault Q result)
+        → ((between : Option (List ℕ)) (end : Result (Unit {0}) FeedStop) → FeedStates (page_of pages (publication_path folder)) before between end
+        → ReportsFeed end between after result → OrFault Q result)
         → OrFault Q result
     fed-by Q folder feed ends = let P : Option Asked → Type 0 = λ a. Says a pages o in by o (subst P feed says) reported
       where

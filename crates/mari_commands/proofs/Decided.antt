@@ -100,7 +100,8 @@ abbrev StatesOf : Pages → Asked → Result JointText BooksFault → Type 0
 StatesOf pages (Blocks folder first last nodes workers) given = QuartersReport pages folder first last nodes given
 StatesOf pages _ given = ⊤
 
-module _ (shown : Option Pages) (late : Type 0) (before after : Option (List ℕ)) (result : Status) (asked : Option Asked) (pages : Pages) (is_shown : shown ≡ Some pages) (o : Outcome) (says : Says asked pages o) (reported : Reported shown late o before after result) where
+module _ (shown : Option Pages) (late : Type 0) (before after : Option (List ℕ)) (result : Status) (asked : Option Asked) (pages : Pages) (is_shown : shown ≡ Some pages) (o : Outcome)
+    (says : Says asked pages o) (reported : Reported shown late o before after result) where
   by-quarters : (Q : Status → Type 0) (folder : List ℕ) (first last nodes workers : ℕ) → asked ≡ Some (Blocks folder first last nodes workers)
       → ((given : Result JointText BooksFault) → QuartersReport pages folder first last nodes given → ReportsQuarters given before after result → OrFault Q result) → OrFault Q result
   by-quarters Q folder first last nodes workers words ends = let P : Option Asked → Type 0 = λ a. Says a pages o in by o (subst P words says) reported

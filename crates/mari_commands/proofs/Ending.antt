@@ -88,15 +88,19 @@ module _ (asked : Option Asked) where
       taken = w.taken;
     }
 
-    module _ (job : Job) (folder : List ℕ) (clear : asked ≡ Some (Clear folder job.nodes job.workers)) (ready : IsReady job) (is : WhereReported pages (λ reported. AreCleared asked reported job.books job.nodes)) where
+    module _ (job : Job) (folder : List ℕ) (clear : asked ≡ Some (Clear folder job.nodes job.workers)) (ready : IsReady job)
+        (is : WhereReported pages (λ reported. AreCleared asked reported job.books job.nodes)) where
       clears-it : AsksToClear asked
       clears-it = (folder, job.nodes, job.workers, clear)
 
       of-done : (published unpublished : ℕ) (whole : Bool)
           → WroteWholeDay job.books job.nodes published unpublished before after → (unpublished == 0) ≡ whole
           → Ends (if whole then status.Done else status.Unpublished)
-      of-done published unpublished true w e =
-          (λ reported t. done-cleared (wrote reported job published unpublished true ready (is reported t) w e), no-summary asked before after Whole folder job.nodes job.workers clear, no-verdict asked before after Whole folder job.nodes job.workers clear)
+      of-done published unpublished true w e = (
+        λ reported t. done-cleared (wrote reported job published unpublished true ready (is reported t) w e),
+        no-summary asked before after Whole folder job.nodes job.workers clear,
+        no-verdict asked before after Whole folder job.nodes job.workers clear,
+      )
       of-done published unpublished false w e = inl (clears-it, λ reported t. wrote reported job published unpublished false ready (is reported t) w e)
 
       of-end : (ended : DayEnd) → EndsDay job.books job.nodes before after ended → Ends (day_status ended)
@@ -126,15 +130,19 @@ module _ (asked : Option Asked) where
       taken = w.taken;
     }
 
-    module _ (job : Job) (folder : List ℕ) (split : asked ≡ Some (Split folder job.nodes job.workers)) (ready : IsReady job) (is : WhereReported pages (λ reported. AreSplit asked reported job.books job.nodes)) where
+    module _ (job : Job) (folder : List ℕ) (split : asked ≡ Some (Split folder job.nodes job.workers)) (ready : IsReady job)
+        (is : WhereReported pages (λ reported. AreSplit asked reported job.books job.nodes)) where
       splits-it : AsksToSplit asked
       splits-it = (folder, job.nodes, job.workers, split)
 
       of-split-done : (published unpublished : ℕ) (whole : Bool)
           → WroteSplitDay job.books job.nodes published unpublished before after → (unpublished == 0) ≡ whole
           → Ends (if whole then status.Done else status.Unpublished)
-      of-split-done published unpublished true w e =
-          (λ reported t. done-split (wrote-split reported job published unpublished true ready (is reported t) w e), no-summary asked before after Islands folder job.nodes job.workers split, no-verdict asked before after Islands folder job.nodes job.workers split)
+      of-split-done published unpublished true w e = (
+        λ reported t. done-split (wrote-split reported job published unpublished true ready (is reported t) w e),
+        no-summary asked before after Islands folder job.nodes job.workers split,
+        no-verdict asked before after Islands folder job.nodes job.workers split,
+      )
       of-split-done published unpublished false w e = inr (splits-it, λ reported t. wrote-split reported job published unpublished false ready (is reported t) w e)
 
       of-split-end : (ended : DayEnd) → EndsSplit job.books job.nodes before after ended → Ends (day_status ended)
@@ -171,13 +179,21 @@ module _ (asked : Option Asked) where
         result r
     by-outcome other late later (Text text) result says words ready cause r =
         of-line (text-no-feed asked text.items words) text.items status.Done result r
-        (λ p. (λ reported t. done-printed text.items (text-prints asked reported text words (says reported t)) p, summary-is asked before after text.items words p, verdict-is asked before after text.items words p))
+        (λ p. (
+          λ reported t. done-printed text.items (text-prints asked reported text words (says reported t)) p,
+          summary-is asked before after text.items words p,
+          verdict-is asked before after text.items words p,
+        ))
         (part-of-text asked before after text.items words)
         (λ reported t. line-text (text-prints asked reported text words (says reported t)))
     by-outcome other late later (Invalid run number) result says words ready cause r =
         let alone = check-alone asked PUBLICATION words in
         of-line (check-no-feed asked words) (invalid_line run number) (status.Invalid run number) result r
-        (λ p. (inl words, (λ reported t. invalid-is asked reported run number words (says reported t)), plain-line asked pages PUBLICATION TookAll (IsInvalidEnd run number) (invalid_line run number) before after alone p))
+        (λ p. (
+          inl words,
+          (λ reported t. invalid-is asked reported run number words (says reported t)),
+          plain-line asked pages PUBLICATION TookAll (IsInvalidEnd run number) (invalid_line run number) before after alone p,
+        ))
         (λ p. part-of-folder asked before after (check-reads asked words)) (λ reported t. line-invalid run number (invalid-is asked reported run number words (says reported t)) alone refl)
     by-outcome other late later (NoPage k fetch.Failed) result says words ready cause r =
         let none = files-no-feed asked words.0 in
@@ -190,20 +206,41 @@ module _ (asked : Option Asked) where
         let none = files-no-feed asked words.0 in
         let text = file_line (codes "missing") k in
         of-line none text status.Missing result r
-        (λ p. (inl words.0, record { file = k; wanted = words.1; first = λ reported t. lacks-is asked reported k NotHeld words.0 (says reported t); line = plain-line asked pages k TookFirst (IsGapEnd NotHeld) text before after words.2 p }))
+        (λ p. (
+          inl words.0,
+          record {
+            file = k;
+            wanted = words.1;
+            first = λ reported t. lacks-is asked reported k NotHeld words.0 (says reported t);
+            line = plain-line asked pages k TookFirst (IsGapEnd NotHeld) text before after words.2 p;
+          },
+        ))
         (λ p. part-of-folder asked before after words.0) (λ reported t. line-missing k (lacks-is asked reported k NotHeld words.0 (says reported t)) words.2 refl)
     by-outcome other late later (NoPage k fetch.TooLong) result says words ready cause r =
         let none = files-no-feed asked words.0 in
         let text = file_line (codes "toolong") k in
         of-line none text status.TooLong result r
-        (λ p. (inl words.0, record { file = k; wanted = words.1; first = λ reported t. lacks-is asked reported k OverLimit words.0 (says reported t); line = plain-line asked pages k TookFirst (IsGapEnd OverLimit) text before after words.2 p }))
+        (λ p. (
+          inl words.0,
+          record {
+            file = k;
+            wanted = words.1;
+            first = λ reported t. lacks-is asked reported k OverLimit words.0 (says reported t);
+            line = plain-line asked pages k TookFirst (IsGapEnd OverLimit) text before after words.2 p;
+          },
+        ))
         (λ p. part-of-folder asked before after words.0) (λ reported t. line-too-long k (lacks-is asked reported k OverLimit words.0 (says reported t)) words.2 refl)
     by-outcome other late later (NoPage k fetch.Memory) result says words ready cause r = of-nothing result r.0 r.1
     by-outcome other late later (Refused refusal) result says words ready cause r =
         let none = files-no-feed asked words.0 in
         let text = refused_line refusal in
         of-line none text (status.Refused refusal) result r
-        (λ p. (inl words.0, (λ reported t. refused-is asked reported refusal words.0 (says reported t)), plain-line asked pages refusal.file TookAll (IsRefusedEnd refusal) text before after words.1 p, ready.1))
+        (λ p. (
+          inl words.0,
+          (λ reported t. refused-is asked reported refusal words.0 (says reported t)),
+          plain-line asked pages refusal.file TookAll (IsRefusedEnd refusal) text before after words.1 p,
+          ready.1,
+        ))
         (λ p. part-of-folder asked before after words.0)
         (λ reported t. line-refusal refusal (refused-is asked reported refusal words.0 (says reported t)) words.1 refl)
     by-outcome other late later NoMemory result says words ready cause r = of-nothing result r.0 r.1
@@ -213,4 +250,6 @@ module _ (asked : Option Asked) where
         → (late → failed) → (o : Outcome) (result : Status) → WhereReported pages (λ reported. Says asked reported o)
         → IsOfWords asked o → IsReportable o → (IsNoPage fetch.Failed o → failed)
         → Reported shown late o before after result → Ends result
-    answers other shown same late later o result says words ready cause r = let P : Option Pages → Type 0 = λ ps. Reported ps late o before after result in by-outcome other late later o result says words ready cause (subst P same r)
+    answers other shown same late later o result says words ready cause r =
+        let P : Option Pages → Type 0 = λ ps. Reported ps late o before after result in
+        by-outcome other late later o result says words ready cause (subst P same r)

@@ -123,10 +123,27 @@ module _ (asked : Option Asked) (pages : Option Pages) (failed : Type 0) (before
   -- a call of the shelf failed
   of-failed : (result : Status) → failed → States (Err (stop.Fetch fetch.Failed)) → Reports (file_line (codes "readfault") PUBLICATION) status.ReadFault between after result → Ends result
   of-failed result why states (Printed e p) =
-      subst Ends (sym e)
-      (inr (inl (folder, feed)), (PUBLICATION, wanted, record { between = between; ahead = lines-ahead folder feed refl (λ reported t. ahead-failed (page_in reported) (states reported t)); took = p }))
+      subst Ends (sym e) (
+        inr (inl (folder, feed)),
+        (
+          PUBLICATION,
+          wanted,
+          record {
+            between = between;
+            ahead = lines-ahead folder feed refl (λ reported t. ahead-failed (page_in reported) (states reported t));
+            took = p;
+          },
+        ),
+      )
   of-failed result why states (CutOff e p) =
-      let cut : Ends status.WriteFault = (λ reported t. cut-fault why (folder, feed) (record { between = between; ahead = lines-ahead folder feed refl (only (λ x. TookOf TookFirst (page_in x) before between) reported (ahead-failed (page_in reported) (states reported t))); began = p }), first-part) in
+      let cut : Ends status.WriteFault = (
+        λ reported t. cut-fault why (folder, feed) (record {
+          between = between;
+          ahead = lines-ahead folder feed refl (only (λ x. TookOf TookFirst (page_in x) before between) reported (ahead-failed (page_in reported) (states reported t)));
+          began = p;
+        }),
+        first-part,
+      ) in
       subst Ends (sym e) cut
   of-failed result why states (Starved e p) = subst Ends (sym e) (starves (λ reported t. ahead-failed (page_in reported) (states reported t)) p)
 
@@ -143,7 +160,8 @@ module _ (asked : Option Asked) (pages : Option Pages) (failed : Type 0) (before
   long-gap reported None is t = absurd t
   long-gap reported (Some page) is t = lacks-long page (fed reported page is) t.0 refl refl
 
-  gap-ends : (gap : Gap) (line : WhereReported pages (λ reported. LacksPage asked reported PUBLICATION gap)) (took : WhereReported pages (λ reported. TookOf TookFirst (page_in reported) before between))
+  gap-ends : (gap : Gap) (line : WhereReported pages (λ reported. LacksPage asked reported PUBLICATION gap))
+      (took : WhereReported pages (λ reported. TookOf TookFirst (page_in reported) before between))
       → after ≡ then_took between (file_line (gap_word gap) PUBLICATION) → Ends (gap_status gap)
   gap-ends NotHeld line took p =
       (inr (inl (folder, feed)), record { file = PUBLICATION; wanted = wanted; first = line; line = record { between = between; ahead = lines-ahead folder feed refl took; took = p } })
@@ -155,7 +173,14 @@ module _ (asked : Option Asked) (pages : Option Pages) (failed : Type 0) (before
       → Reports (file_line (gap_word gap) PUBLICATION) (gap_status gap) between after result → Ends result
   of-gap gap result line took (Printed e p) = subst Ends (sym e) (gap-ends gap line took p)
   of-gap gap result line took (CutOff e p) =
-      let cut : Ends status.WriteFault = (λ reported t. cut-gap gap (line reported t) (record { between = between; ahead = lines-ahead folder feed refl (only (λ x. TookOf TookFirst (page_in x) before between) reported (took reported t)); began = p }), first-part) in
+      let cut : Ends status.WriteFault = (
+        λ reported t. cut-gap gap (line reported t) (record {
+          between = between;
+          ahead = lines-ahead folder feed refl (only (λ x. TookOf TookFirst (page_in x) before between) reported (took reported t));
+          began = p;
+        }),
+        first-part,
+      ) in
       subst Ends (sym e) cut
   of-gap gap result line took (Starved e p) = subst Ends (sym e) (starves took p)
 
@@ -174,13 +199,25 @@ module _ (asked : Option Asked) (pages : Option Pages) (failed : Type 0) (before
 
   of-fault : (f : TextFault) (result : Status) → HasName (text_refusal f) → States (Err (stop.Text f)) → ReportsRefusal (text_refusal f) between after result → Ends result
   of-fault f result name states (Printed e p) =
-      subst Ends (sym e)
-      (inr (inl (folder, feed)), (λ reported t. fault-refused f reported (page_in reported) refl (states reported t)), record { between = between; ahead = lines-ahead folder feed (text-file f) (λ reported t. ahead-fault f (page_in reported) (states reported t)); took = p }, name)
+      subst Ends (sym e) (
+        inr (inl (folder, feed)),
+        (λ reported t. fault-refused f reported (page_in reported) refl (states reported t)),
+        record {
+          between = between;
+          ahead = lines-ahead folder feed (text-file f) (λ reported t. ahead-fault f (page_in reported) (states reported t));
+          took = p;
+        },
+        name,
+      )
   of-fault f result name states (CutOff e p) =
       let cut : Ends status.WriteFault = (
         λ reported t.
             cut-refused (text_refusal f) (fault-refused f reported (page_in reported) refl (states reported t))
-            (record { between = between; ahead = lines-ahead folder feed refl (only (λ x. TookOf TookAll (page_in x) before between) reported (ahead-fault f (page_in reported) (states reported t))); began = p }),
+            (record {
+              between = between;
+              ahead = lines-ahead folder feed refl (only (λ x. TookOf TookAll (page_in x) before between) reported (ahead-fault f (page_in reported) (states reported t)));
+              began = p;
+            }),
         first-part,
       ) in
       subst Ends (sym e) cut

@@ -73,7 +73,8 @@ module _ (q : JointJob) (pages : Option Pages) (failed : Type 0) (before after :
 module _ (pages : Option Pages) (failed : Type 0) (before after : Option (List ℕ)) (result : Status) (late : Type 0) (later : late → failed) where
   of-quarters : (x : Asked) (q : JointJob) → Some x ≡ Some (joint_command q) → ReportsBlocks pages late q before after result → AnswersOf (Some x) pages failed before after result
   of-quarters x q e r =
-      let ends : AnswersOf (Some (joint_command q)) pages failed before after result = by-given q pages failed before after r.given result r.states r.file r.sayable (λ h. later (r.cause h)) r.reports in
+      let ends : AnswersOf (Some (joint_command q)) pages failed before after result =
+      by-given q pages failed before after r.given result r.states r.file r.sayable (λ h. later (r.cause h)) r.reports in
       subst (λ (o : Option Asked). AnswersOf o pages failed before after result) (sym e) ends
 
   blocks-answers : (folder : List ℕ) (first last nodes workers : ℕ) (o : Outcome) → IsOfWords (Some (Blocks folder first last nodes workers)) o → Reported pages late o before after result
@@ -101,7 +102,8 @@ is_blocks _ = false
 no-blocks : (asked : Option Asked) → is_blocks asked ≡ false → AsksForBlocks asked → ⊥
 no-blocks asked n (folder, first, last, nodes, workers, e) = let both : false ≡ true = sym n ∙ ap is_blocks e in cc
 
-module _ (pages : Option Pages) (failed : Type 0) (before after : Option (List ℕ)) (shown : Option Pages) (same : shown ≡ pages) (late : Type 0) (later : late → failed) (o : Outcome) (result : Status) where
+module _ (pages : Option Pages) (failed : Type 0) (before after : Option (List ℕ)) (shown : Option Pages) (same : shown ≡ pages) (late : Type 0) (later : late → failed)
+    (o : Outcome) (result : Status) where
   pub answers-of : (asked : Option Asked) → WhereReported pages (λ reported. Says asked reported o)
       → IsOfWords asked o → IsReportable o → (IsNoPage fetch.Failed o → failed)
       → Reported shown late o before after result → AnswersOf asked pages failed before after result

@@ -184,8 +184,10 @@ grown_preorder nodes x n w may e leaf p =
       preorder = record {
         walk = walk_grows nodes (grown_by nodes x w may) x (own_numbers (length nodes) may) (others_keep nodes x w may)
             (option_of nodes x (Some n) e ∙ leaf_has_none n.state leaf) (x_has_children nodes x n w may e) (new_leaves nodes x n w may e) (0 ∷ []) p.numbers once p.preorder.walk;
-        once = λ z. occurs-insert_after x (own_numbers (length nodes) may) p.numbers z (omega (arith, once)) ∙ ap (λ (i : ℕ). i + occurs z (own_numbers (length nodes) may)) (p.preorder.once z) ∙ counted z (length nodes) w may ∙ ap (λ (i : ℕ). if nat_lt z i then 1 else 0) (sym (length-grown_by nodes x w may));
-        all = omega (arith, length-insert_after x (own_numbers (length nodes) may) p.numbers (omega (arith, once)), p.preorder.all, length-own_numbers (length nodes) w may, length-grown_by nodes x w may);
+        once = λ z. occurs-insert_after x (own_numbers (length nodes) may) p.numbers z (omega (arith, once)) ∙ ap (λ (i : ℕ). i + occurs z (own_numbers (length nodes) may)) (p.preorder.once z)
+            ∙ counted z (length nodes) w may ∙ ap (λ (i : ℕ). if nat_lt z i then 1 else 0) (sym (length-grown_by nodes x w may));
+        all = omega
+            (arith, length-insert_after x (own_numbers (length nodes) may) p.numbers (omega (arith, once)), p.preorder.all, length-own_numbers (length nodes) w may, length-grown_by nodes x w may);
       };
     }
 
@@ -205,7 +207,9 @@ still_crowded : (g : Grown) (x : ℕ) (n : TreeNode) (may : Bool) → may_open g
 still_crowded g x n may opens e fits c = record {
   number = c.number;
   node = c.node;
-  there = get_front (with_state (made_state g n may) g.nodes x) (map new_node (child_words n.word may)) c.number (omega (arith, length-with_state (made_state g n may) g.nodes x, slice_get_within g.nodes c.number c.node c.there)) ∙ changed_other (in_state (made_state g n may)) g.nodes x c.number (λ same. apart same) ∙ c.there;
+  there = get_front (with_state (made_state g n may) g.nodes x) (map new_node (child_words n.word may)) c.number
+      (omega (arith, length-with_state (made_state g n may) g.nodes x, slice_get_within g.nodes c.number c.node c.there))
+      ∙ changed_other (in_state (made_state g n may)) g.nodes x c.number (λ same. apart same) ∙ c.there;
   leaf = c.leaf;
   crowded = record { undecided = c.crowded.undecided; promising = c.crowded.promising; more = omega (arith, c.crowded.more, length-grown_by g.nodes x n.word may) };
 }
@@ -214,7 +218,8 @@ still_crowded g x n may opens e fits c = record {
     apart same =
         let there : slice_get g.nodes x ≡ Some c.node = ap (λ (i : ℕ). slice_get g.nodes i) (sym same) ∙ c.there in
         let one : n ≡ c.node = cc in
-        let count : length (child_words n.word may) ≡ length (children g.market.gates c.node.word) = ap (λ (b : Bool). length (child_words n.word b)) (sym opens) ∙ ap (λ (i : TreeNode). length (children g.market.gates i.word)) one in
+        let count : length (child_words n.word may) ≡ length (children g.market.gates c.node.word) =
+        ap (λ (b : Bool). length (child_words n.word b)) (sym opens) ∙ ap (λ (i : TreeNode). length (children g.market.gates i.word)) one in
         omega (arith, c.crowded.more, fits, count)
 
 -- a leaf among the nodes branches where its children fit
@@ -225,25 +230,31 @@ grown_kept : (g : Grown) (x : ℕ) (n : TreeNode) (may : Bool) → may_open g.ma
 grown_kept g x n may opens k e leaf u promising fits = record {
   valid = k.valid;
   budget_is = k.budget_is;
-  nodes_are = subst (λ (ws : List (List Bool)). AreNodes g.market ws) (ap (λ (b : Bool). words_of g.nodes ++ child_words n.word b) opens ∙ sym (words-grown_by g.nodes x n.word may)) (nodes_with_children g x n k e leaf u promising);
-  root = ap (λ (ws : List (List Bool)). slice_get ws 0) (words-grown_by g.nodes x n.word may) ∙ get_front (words_of g.nodes) (child_words n.word may) 0 (omega (arith, slice_get_within (words_of g.nodes) 0 [] k.root)) ∙ k.root;
+  nodes_are = subst (λ (ws : List (List Bool)). AreNodes g.market ws) (ap (λ (b : Bool). words_of g.nodes ++ child_words n.word b) opens ∙ sym (words-grown_by g.nodes x n.word may))
+      (nodes_with_children g x n k e leaf u promising);
+  root = ap (λ (ws : List (List Bool)). slice_get ws 0) (words-grown_by g.nodes x n.word may)
+      ∙ get_front (words_of g.nodes) (child_words n.word may) 0 (omega (arith, slice_get_within (words_of g.nodes) 0 [] k.root)) ∙ k.root;
   within_budget = omega (arith, length-grown_by g.nodes x n.word may, fits);
   have_children = subst (λ (ws : List (List Bool)). All (λ (j : TreeNode). HasChildren g.market ws j.word j.state) (grown_by g.nodes x n.word may)) (sym (words-grown_by g.nodes x n.word may))
-      (All-append (λ (j : TreeNode). HasChildren g.market (words_of g.nodes ++ child_words n.word may) j.word j.state) (with_state (made_state g n may) g.nodes x) (map new_node (child_words n.word may))
-      (all_changed (λ (j : TreeNode). HasChildren g.market (words_of g.nodes) j.word j.state) (λ (j : TreeNode). HasChildren g.market (words_of g.nodes ++ child_words n.word may) j.word j.state) (in_state (made_state g n may)) g.nodes x k.have_children
+      (All-append (λ (j : TreeNode). HasChildren g.market (words_of g.nodes ++ child_words n.word may) j.word j.state) (with_state (made_state g n may) g.nodes x)
+      (map new_node (child_words n.word may))
+      (all_changed (λ (j : TreeNode). HasChildren g.market (words_of g.nodes) j.word j.state) (λ (j : TreeNode). HasChildren g.market (words_of g.nodes ++ child_words n.word may) j.word j.state)
+      (in_state (made_state g n may)) g.nodes x k.have_children
       (λ y j d there h. more_children g.market (words_of g.nodes) (child_words n.word may) j.word j.state h)
       (λ j there h. let one : n ≡ j = cc in subst (λ (i : TreeNode). HasChildren g.market (words_of g.nodes ++ child_words n.word may) i.word (made_state g n may)) one
       (made_children g.market (words_of g.nodes) n.word (length g.nodes) may opens (sym (length-map g.nodes (λ (i : TreeNode). i.word))) u)))
       (all_new (λ (j : TreeNode). HasChildren g.market (words_of g.nodes ++ child_words n.word may) j.word j.state) n.word may (λ b. tt)));
   have_parents = All-append (λ (j : TreeNode). (j.word ≡ []) ⊎ HasParent (grown_by g.nodes x n.word may) j.word) (with_state (made_state g n may) g.nodes x) (map new_node (child_words n.word may))
-      (all_changed (λ (j : TreeNode). (j.word ≡ []) ⊎ HasParent g.nodes j.word) (λ (j : TreeNode). (j.word ≡ []) ⊎ HasParent (grown_by g.nodes x n.word may) j.word) (in_state (made_state g n may)) g.nodes x k.have_parents
+      (all_changed (λ (j : TreeNode). (j.word ≡ []) ⊎ HasParent g.nodes j.word) (λ (j : TreeNode). (j.word ≡ []) ⊎ HasParent (grown_by g.nodes x n.word may) j.word)
+      (in_state (made_state g n may)) g.nodes x k.have_parents
       (λ y j d there h. more_parents (with_state (made_state g n may) g.nodes x) (map new_node (child_words n.word may)) j.word (parent_stays (made_state g n may) g.nodes x n e leaf j.word h))
       (λ j there h. more_parents (with_state (made_state g n may) g.nodes x) (map new_node (child_words n.word may)) j.word (parent_stays (made_state g n may) g.nodes x n e leaf j.word h)))
       (all_new (λ (j : TreeNode). (j.word ≡ []) ⊎ HasParent (grown_by g.nodes x n.word may) j.word) n.word may (λ b. inr (record {
         number = x;
         node = in_state (made_state g n may) n;
         last = b;
-        there = get_front (with_state (made_state g n may) g.nodes x) (map new_node (child_words n.word may)) x (omega (arith, length-with_state (made_state g n may) g.nodes x, slice_get_within g.nodes x n e)) ∙ changed_same (in_state (made_state g n may)) g.nodes x n e;
+        there = get_front (with_state (made_state g n may) g.nodes x) (map new_node (child_words n.word may)) x
+            (omega (arith, length-with_state (made_state g n may) g.nodes x, slice_get_within g.nodes x n e)) ∙ changed_same (in_state (made_state g n may)) g.nodes x n e;
         child = refl;
         branched_is = branches (length g.nodes) n.word may;
       })));

@@ -120,7 +120,8 @@ distinct_with words w true d new =
     earlier : (k : ℕ) (e : List Bool) → k < length (words ++ (w ++ false ∷ []) ∷ []) → get_or (words ++ (w ++ false ∷ []) ∷ []) k e ≡ w ++ true ∷ [] → ⊥
     earlier k e l same = elim (cases_eq k (length words)) [
       | inl last ↦ apart_at_end w (sym (sym (get_last words (w ++ false ∷ []) k e last) ∙ same))
-      | inr other ↦ let front : k < length words = omega (arith, other, l, length-append words ((w ++ false ∷ []) ∷ [])) in new k e true front (sym (get_or_append_left words ((w ++ false ∷ []) ∷ []) e k front) ∙ same)
+      | inr other ↦ let front : k < length words =
+          omega (arith, other, l, length-append words ((w ++ false ∷ []) ∷ [])) in new k e true front (sym (get_or_append_left words ((w ++ false ∷ []) ∷ []) e k front) ∙ same)
     ]
 
 are_nodes : (m : Market) (w : List Bool) (may : Bool) → may_open m.gates w (length w) ≡ may → IsNode m w → IsPromising m w → length w < length m.gates → All (IsNode m) (child_words w may)

@@ -195,7 +195,8 @@ branch_entry g x next w may items grows waits can kids fits is =
       grows = entry_kept_by g (Branch can.actor x can.cutoff) items grows (can.may, fits) same;
       next_is = subst (λ (ns : List TreeNode). IsNext ns next) (sym is)
           (next_with_new (with_state (branch_of (length g.nodes) (child_words w may)) g.nodes x) w may next
-          (next_stays (Taken can.actor) (branch_of (length g.nodes) (child_words w may)) g.nodes x next (λ e. absurd (cc)) (branch_waits (length g.nodes) w may) can.may.taken (within_nodes g.nodes x (Taken can.actor) can.may.taken) waits));
+          (next_stays (Taken can.actor) (branch_of (length g.nodes) (child_words w may)) g.nodes x next (λ e. absurd (cc)) (branch_waits (length g.nodes) w may) can.may.taken
+          (within_nodes g.nodes x (Taken can.actor) can.may.taken) waits));
       nodes_are = same;
     }
 
@@ -215,7 +216,8 @@ pub both_pushed : (nodes reserved states : List TreeNode) (x first : ℕ) (opene
     → (states ++ new_node closed_word ∷ []) ++ new_node open_word ∷ [] ≡ with_state (branch_of (length nodes) (child_words w true)) nodes x ++ map new_node (child_words w true)
 both_pushed nodes reserved states x first opened w closed_word open_word same count made is f h =
     two_pushed states (with_state (branch_of (length nodes) (child_words w true)) nodes x) (new_node closed_word) (new_node open_word) (new_node (w ++ false ∷ [])) (new_node (w ++ true ∷ []))
-    (is ∙ ap (λ (ns : List TreeNode). with_state (Branched first opened) ns x) same ∙ ap (λ (o : Option ℕ). with_state (Branched first o) nodes x) made ∙ ap (λ (i : ℕ). with_state (Branched i (Some (i + 1))) nodes x) count)
+    (is ∙ ap (λ (ns : List TreeNode). with_state (Branched first opened) ns x) same ∙ ap (λ (o : Option ℕ). with_state (Branched first o) nodes x) made
+    ∙ ap (λ (i : ℕ). with_state (Branched i (Some (i + 1))) nodes x) count)
     (ap new_node f) (ap new_node h)
 
 pub closed_pushed : (nodes reserved states : List TreeNode) (x first : ℕ) (opened : Option ℕ) (w closed_word : List Bool)
@@ -224,7 +226,8 @@ pub closed_pushed : (nodes reserved states : List TreeNode) (x first : ℕ) (ope
     → states ++ new_node closed_word ∷ [] ≡ with_state (branch_of (length nodes) (child_words w false)) nodes x ++ map new_node (child_words w false)
 closed_pushed nodes reserved states x first opened w closed_word same count made is f =
     one_pushed states (with_state (branch_of (length nodes) (child_words w false)) nodes x) (new_node closed_word) (new_node (w ++ false ∷ []))
-    (is ∙ ap (λ (ns : List TreeNode). with_state (Branched first opened) ns x) same ∙ ap (λ (o : Option ℕ). with_state (Branched first o) nodes x) made ∙ ap (λ (i : ℕ). with_state (Branched i None) nodes x) count)
+    (is ∙ ap (λ (ns : List TreeNode). with_state (Branched first opened) ns x) same ∙ ap (λ (o : Option ℕ). with_state (Branched first o) nodes x) made
+    ∙ ap (λ (i : ℕ). with_state (Branched i None) nodes x) count)
     (ap new_node f)
 
 -- ---- reading a node

@@ -69,7 +69,8 @@ settle_event : (s : Machine) (k x : ℕ) (finding : Finding) → KeepsFacts s �
 settle_event s k x finding h proper p =
     let seen : seen_by (slice_get s.actors k) ≡ p.actor.seen = ap seen_by p.there in
     let above : IsCutoff s.tree.market (seen_by (slice_get s.actors k)) = subst (IsCutoff s.tree.market) (sym seen) (seen_is_cutoff s k p.actor h p.there) in
-    let may : IfSome (slice_get s.tree.nodes x) (MaySettle s.tree.market (seen_by (slice_get s.actors k)) finding) = subst (λ (w : ℕ). IfSome (slice_get s.tree.nodes x) (MaySettle s.tree.market w finding)) (sym seen) (may_settle_by s k x p.actor finding p.there proper) in
+    let may : IfSome (slice_get s.tree.nodes x) (MaySettle s.tree.market (seen_by (slice_get s.actors k)) finding) =
+    subst (λ (w : ℕ). IfSome (slice_get s.tree.nodes x) (MaySettle s.tree.market w finding)) (sym seen) (may_settle_by s k x p.actor finding p.there proper) in
     let below : seen_by (slice_get s.actors k) ≤ s.incumbent = subst (λ (w : ℕ). w ≤ s.incumbent) (sym seen) (actor_at s k p.actor h p.there).below in
     entry_event s (settling s.tree k x (seen_by (slice_get s.actors k)) finding) h
     (settle_allowed s.tree k x (seen_by (slice_get s.actors k)) finding h.tree above may (return_passes k (state_at s.tree.nodes x) p.none))

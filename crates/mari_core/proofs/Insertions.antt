@@ -60,8 +60,10 @@ walk_without nodes nodes' x h [] [] e w = tt
 walk_without nodes nodes' x h [] (y ∷ ys) e w = absurd w
 walk_without nodes nodes' x h (v ∷ waiting) [] e w = absurd w
 walk_without nodes nodes' x h (v ∷ waiting) (y ∷ ys) e w =
-    let other : y ≡ x → ⊥ = λ same. absurd (omega (arith, occurs_here x ys, e, ap (λ (i : ℕ). occurs x (i ∷ ys)) same)) in
-    (w.0, subst (λ (zs : List ℕ). IsWalk nodes' (zs ++ waiting) ys) (sym (h y other)) (walk_without nodes nodes' x h (children_of nodes y ++ waiting) ys (omega (arith, occurs_later x y ys other, e)) w.1))
+    let other : y ≡ x → ⊥ = λ same. absurd (omega (arith, occurs_here x ys, e, ap (λ (i : ℕ). occurs x (i ∷ ys)) same)) in (
+      w.0,
+      subst (λ (zs : List ℕ). IsWalk nodes' (zs ++ waiting) ys) (sym (h y other)) (walk_without nodes nodes' x h (children_of nodes y ++ waiting) ys (omega (arith, occurs_later x y ys other, e)) w.1),
+    )
 
 -- each of these has no children
 abbrev pub AreLeaves : List TreeNode → List ℕ → Type 0
@@ -90,6 +92,9 @@ walk_grows nodes nodes' x kids h before after l (v ∷ waiting) (y ∷ ys) e w =
       subst (λ (zs : List ℕ). IsWalk nodes' (v ∷ waiting) zs) (sym first)
       (w.0, subst (λ (zs : List ℕ). IsWalk nodes' (zs ++ waiting) (kids ++ ys)) (sym here) (walk_leaves nodes' kids waiting ys l (walk_without nodes nodes' x h waiting ys none rest)))
   | inr other ↦
-      subst (λ (zs : List ℕ). IsWalk nodes' (v ∷ waiting) zs) (sym (insert_later x y kids ys other))
-      (w.0, subst (λ (zs : List ℕ). IsWalk nodes' (zs ++ waiting) (insert_after x kids ys)) (sym (h y other)) (walk_grows nodes nodes' x kids h before after l (children_of nodes y ++ waiting) ys (omega (arith, occurs_later x y ys other, e)) w.1))
+      subst (λ (zs : List ℕ). IsWalk nodes' (v ∷ waiting) zs) (sym (insert_later x y kids ys other)) (
+        w.0,
+        subst (λ (zs : List ℕ). IsWalk nodes' (zs ++ waiting) (insert_after x kids ys)) (sym (h y other))
+            (walk_grows nodes nodes' x kids h before after l (children_of nodes y ++ waiting) ys (omega (arith, occurs_later x y ys other, e)) w.1),
+      )
 ]

@@ -308,7 +308,8 @@ clearing_by s c h a w t l =
     let welfare : welfare_of s.tree.market c.activation ≡ pos c.welfare = ap (welfare_of s.tree.market) a ∙ best.attained.welfare ∙ ap pos best.welfare_is ∙ ap pos (sym w) in
     let holds : TreeHolds s.tree.market (pos c.welfare) c.tree = subst (λ (v : ℕ). TreeHolds s.tree.market (pos v) c.tree) (sym w) t in
     record {
-      optimal = optimal_by_tree s.tree.market c.activation c.tree h.tree.valid (subst (IsAdmissible s.tree.market) (sym a) best.attained.admissible) (subst (λ (v : ℤ). TreeHolds s.tree.market v c.tree) (sym welfare) holds);
+      optimal = optimal_by_tree s.tree.market c.activation c.tree h.tree.valid (subst (IsAdmissible s.tree.market) (sym a) best.attained.admissible)
+          (subst (λ (v : ℤ). TreeHolds s.tree.market v c.tree) (sym welfare) holds);
       welfare = welfare;
       tree = holds;
       within_budget = l;

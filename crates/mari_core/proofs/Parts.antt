@@ -70,7 +70,8 @@ node_of g x k l =
       is_node = subst (IsNode g.market) (sym word) (all_get (IsNode g.market) (words_of g.nodes) x n.word k.nodes_are.nodes (word_of_number g.nodes x n there));
       state = state_of_node g.nodes x n there;
       word = word;
-      children = subst (λ (w : List Bool). HasChildren g.market (words_of g.nodes) w n.state) (sym word) (all_get (λ (j : TreeNode). HasChildren g.market (words_of g.nodes) j.word j.state) g.nodes x n k.have_children there);
+      children = subst (λ (w : List Bool). HasChildren g.market (words_of g.nodes) w n.state) (sym word)
+          (all_get (λ (j : TreeNode). HasChildren g.market (words_of g.nodes) j.word j.state) g.nodes x n k.have_children there);
       holds = subst (λ (w : List Bool). HoldsAtCutoff g.market w n.state) (sym word) (all_get (λ (j : TreeNode). HoldsAtCutoff g.market j.word j.state) g.nodes x n k.hold there);
     }
 
@@ -100,7 +101,8 @@ walk_parts g k [] (x ∷ xs) within w = absurd w
 walk_parts g k (v ∷ waiting) [] within w = absurd w
 walk_parts g k (v ∷ waiting) (x ∷ xs) within w =
     let at : NodeAt g x = node_of g x k (All-head (λ y. y < length g.nodes) x xs within) in
-    let rest : ArePartsOfSearch g.market (words_at g.nodes (children_of g.nodes x ++ waiting)) (map (λ y. part_item (state_at g.nodes y)) xs) = walk_parts g k (children_of g.nodes x ++ waiting) xs (All-tail (λ y. y < length g.nodes) x xs within) w.1 in
+    let rest : ArePartsOfSearch g.market (words_at g.nodes (children_of g.nodes x ++ waiting)) (map (λ y. part_item (state_at g.nodes y)) xs) =
+    walk_parts g k (children_of g.nodes x ++ waiting) xs (All-tail (λ y. y < length g.nodes) x xs within) w.1 in
     let split : ArePartsOfSearch g.market (words_at g.nodes (child_numbers at.node.state) ++ words_at g.nodes waiting) (map (λ y. part_item (state_at g.nodes y)) xs) =
     subst (λ (ws : List (List Bool)). ArePartsOfSearch g.market ws (map (λ y. part_item (state_at g.nodes y)) xs))
     (map-append (word_at g.nodes) (children_of g.nodes x) waiting ∙ ap (λ (o : Option NodeState). words_at g.nodes (numbers_below o) ++ words_at g.nodes waiting) at.state) rest in
@@ -220,9 +222,11 @@ walk_tree g cutoff k cut (v ∷ waiting) (x ∷ xs) within done w =
     subst (λ (ws : List (List Bool)). AreParts g.market (LeafHolds g.market (pos cutoff)) ws (map (λ y. tree_item (state_at g.nodes y)) xs))
     (map-append (word_at g.nodes) (children_of g.nodes x) waiting ∙ ap (λ (o : Option NodeState). words_at g.nodes (numbers_below o) ++ words_at g.nodes waiting) at.state) rest in
     subst (λ (y : ℕ). AreParts g.market (LeafHolds g.market (pos cutoff)) (word_at g.nodes y ∷ words_at g.nodes waiting) (map (λ z. tree_item (state_at g.nodes z)) (x ∷ xs))) (sym w.0)
-    (subst (λ (o : Option NodeState). AreParts g.market (LeafHolds g.market (pos cutoff)) (word_at g.nodes x ∷ words_at g.nodes waiting) (tree_item o ∷ map (λ z. tree_item (state_at g.nodes z)) xs)) (sym at.state)
+    (subst (λ (o : Option NodeState). AreParts g.market (LeafHolds g.market (pos cutoff)) (word_at g.nodes x ∷ words_at g.nodes waiting) (tree_item o ∷ map (λ z. tree_item (state_at g.nodes z)) xs))
+    (sym at.state)
     (tree_step g.market g.nodes cutoff at.node.state (word_at g.nodes x) (words_at g.nodes waiting) (map (λ y. tree_item (state_at g.nodes y)) xs)
-    (all_get (λ (n : TreeNode). IsCutAt cutoff n.state) g.nodes x at.node cut at.there) at.children at.holds (ap is_done (sym at.state) ∙ All-head (λ y. is_done (state_at g.nodes y) ≡ true) x xs done) split))
+    (all_get (λ (n : TreeNode). IsCutAt cutoff n.state) g.nodes x at.node cut at.there) at.children at.holds
+    (ap is_done (sym at.state) ∙ All-head (λ y. is_done (state_at g.nodes y) ≡ true) x xs done) split))
 
 -- where every node is branched or closed, the tree holds at what no cutoff exceeds
 pub tree_holds : (g : Grown) (items : List TreeItem) (cutoff : ℕ) → IsGrowth g → IsTree g.nodes items → AreCutAt cutoff g.nodes → TreeHolds g.market (pos cutoff) items
@@ -243,7 +247,8 @@ shapes_done : (nodes : List TreeNode) (ns : List ℕ) → All (λ x. is_done (st
 shapes_done nodes [] d = refl
 shapes_done nodes (x ∷ xs) d =
     let here : shape_of (tree_item (state_at nodes x)) ≡ part_item (state_at nodes x) = shape_done (state_at nodes x) (All-head (λ y. is_done (state_at nodes y) ≡ true) x xs d) in
-    let rest : map shape_of (map (λ y. tree_item (state_at nodes y)) xs) ≡ map (λ y. part_item (state_at nodes y)) xs = shapes_done nodes xs (All-tail (λ y. is_done (state_at nodes y) ≡ true) x xs d) in
+    let rest : map shape_of (map (λ y. tree_item (state_at nodes y)) xs) ≡ map (λ y. part_item (state_at nodes y)) xs =
+    shapes_done nodes xs (All-tail (λ y. is_done (state_at nodes y) ≡ true) x xs d) in
     ap (λ (p : PartItem). p ∷ map shape_of (map (λ y. tree_item (state_at nodes y)) xs)) here ∙ ap (λ (ps : List PartItem). part_item (state_at nodes x) ∷ ps) rest
 
 -- and it is a part of the search tree, of all nodes

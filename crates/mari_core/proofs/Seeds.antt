@@ -39,8 +39,10 @@ seed_grows m budget v b = record {
   };
   root = refl;
   within_budget = b.0;
-  have_children = All-cons (λ (n : TreeNode). HasChildren m (words_of (seed m budget).nodes) n.word n.state) (new_node []) [] tt (All-nil (λ (n : TreeNode). HasChildren m (words_of (seed m budget).nodes) n.word n.state));
-  have_parents = All-cons (λ (n : TreeNode). (n.word ≡ []) ⊎ HasParent (seed m budget).nodes n.word) (new_node []) [] (inl refl) (All-nil (λ (n : TreeNode). (n.word ≡ []) ⊎ HasParent (seed m budget).nodes n.word));
+  have_children = All-cons (λ (n : TreeNode). HasChildren m (words_of (seed m budget).nodes) n.word n.state) (new_node []) [] tt
+      (All-nil (λ (n : TreeNode). HasChildren m (words_of (seed m budget).nodes) n.word n.state));
+  have_parents = All-cons (λ (n : TreeNode). (n.word ≡ []) ⊎ HasParent (seed m budget).nodes n.word) (new_node []) [] (inl refl)
+      (All-nil (λ (n : TreeNode). (n.word ≡ []) ⊎ HasParent (seed m budget).nodes n.word));
   hold = All-cons (λ (n : TreeNode). HoldsAtCutoff m n.word n.state) (new_node []) [] tt (All-nil (λ (n : TreeNode). HoldsAtCutoff m n.word n.state));
   preorder = record { numbers = 0 ∷ []; preorder = record { walk = (refl, tt); once = one_counted; all = refl } };
   crowded = λ e. absurd (cc);

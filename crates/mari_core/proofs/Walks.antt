@@ -44,7 +44,8 @@ pub walk_goes : (nodes : List TreeNode) (front order : List ℕ) (x : ℕ) (s : 
 walk_goes nodes front order x s a e = record {
   rest = a.rest;
   walk = subst (λ (w : List ℕ). IsWalk nodes w a.rest)
-      (ap (λ (o : Option NodeState). numbers_below o ++ reverse front) e ∙ ap (λ (w : List ℕ). w ++ reverse front) (sym (reverse-reverse (child_numbers s))) ∙ sym (reverse-append front (reverse (child_numbers s)))) a.walk;
+      (ap (λ (o : Option NodeState). numbers_below o ++ reverse front) e ∙ ap (λ (w : List ℕ). w ++ reverse front) (sym (reverse-reverse (child_numbers s)))
+      ∙ sym (reverse-append front (reverse (child_numbers s)))) a.walk;
   whole = subst (IsPreorder nodes) (sym (append_assoc order (x ∷ []) a.rest)) a.whole;
 }
 

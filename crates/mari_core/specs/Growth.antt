@@ -192,7 +192,8 @@ return_refused k (Some (Closed leaf cutoff)) = Some NotTaken
 abbrev pub HasChildren : Market → List (List Bool) → List Bool → NodeState → Type 0
 HasChildren m words word Untaken = ⊤
 HasChildren m words word (Taken k) = ⊤
-HasChildren m words word (Branched closed opened) = (length word < length m.gates) × (map (λ x. slice_get words x) (child_numbers (Branched closed opened)) ≡ map (λ w. Some w) (children m.gates word))
+HasChildren m words word (Branched closed opened) =
+    (length word < length m.gates) × (map (λ x. slice_get words x) (child_numbers (Branched closed opened)) ≡ map (λ w. Some w) (children m.gates word))
 HasChildren m words word (Closed leaf cutoff) = ⊤
 
 -- whether the node is branched

@@ -41,7 +41,8 @@ seeing incumbent a = record { seen = incumbent; offered = a.offered; best = a.be
 
 -- the actor keeps what it offers where that is more than it offered before, and sees this incumbent
 abbrev pub offering : ℕ → Attained → Actor → Actor
-offering incumbent attained a = if nat_lt a.offered attained.welfare then record { seen = incumbent; offered = attained.welfare; best = Some attained } else record { seen = incumbent; offered = a.offered; best = a.best }
+offering incumbent attained a = if nat_lt a.offered attained.welfare
+    then record { seen = incumbent; offered = attained.welfare; best = Some attained } else record { seen = incumbent; offered = a.offered; best = a.best }
 
 -- what an actor saw, if there is one
 abbrev pub seen_by : Option Actor → ℕ

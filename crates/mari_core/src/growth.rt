@@ -48,7 +48,12 @@ impl<'m> Model for Growth<'m> {
 
     ghost view = { λ g. record { market = g.market.now; budget = g.budget; nodes = g.nodes.items; full = g.full } };
 
-    ghost invariant = { λ g. IsGrowth (record { market = g.market.now; budget = g.budget; nodes = g.nodes.items; full = g.full }) × IsNext g.nodes.items g.next × (g.budget ≤ vec_capacity g.nodes) };
+    ghost invariant = { λ g. IsGrowth (record {
+      market = g.market.now;
+      budget = g.budget;
+      nodes = g.nodes.items;
+      full = g.full;
+    }) × IsNext g.nodes.items g.next × (g.budget ≤ vec_capacity g.nodes) };
 }
 
 /// The first node, counted from this one on, that waits, or the number of nodes where none does.
@@ -139,7 +144,8 @@ impl<'m> Growth<'m> {
 
     /// The actor that has taken a node, if there is one.
     pub fn taker(&self, node: u32) -> Option<u32>
-        ensures { MatchOption result ((actor : ℕ) → state_at self.now.nodes node ≡ Some (Taken actor) → ⊥) (λ actor. state_at self.now.nodes node ≡ Some (Taken actor)) }
+        ensures { MatchOption result ((actor : ℕ) → state_at self.now.nodes node ≡ Some (Taken actor) → ⊥)
+            (λ actor. state_at self.now.nodes node ≡ Some (Taken actor)) }
     {
         if node as usize >= self.nodes.len() {
             return None;

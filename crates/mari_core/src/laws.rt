@@ -17,9 +17,11 @@ ghost use Rattle.mari_core.specs.Replay.{after_all, first_refusal, AreProper};
 /// The call does nothing: its contract is the law.
 pub fn facts_are_kept()
     ensures event { (s : Machine) (e : Event) → KeepsFacts s → IsProper s e → refusal s e ≡ None → KeepsFacts (after s e) }
-    ensures events { (s : Machine) (events : List Event) → KeepsFacts s → AreProper s events → first_refusal 0 s events ≡ None → KeepsFacts (after_all s events) }
+    ensures events { (s : Machine) (events : List Event) → KeepsFacts s → AreProper s events → first_refusal 0 s events ≡ None
+        → KeepsFacts (after_all s events) }
     ensures entry { (g : Grown) (e : Entry) → IsGrowth g → IsAllowed g e → IsGrowth (grown g e) }
     ensures entries { (g : Grown) (es : List Entry) → IsGrowth g → AreAllowed g es → IsGrowth (grown_by g es) }
-    ensures settle { (g : Grown) (k x cutoff : ℕ) (finding : Finding) → IsGrowth g → IsCutoff g.market cutoff → IfSome (slice_get g.nodes x) (MaySettle g.market cutoff finding) → state_at g.nodes x ≡ Some (Taken k) → IsAllowed g (settling g k x cutoff finding) }
+    ensures settle { (g : Grown) (k x cutoff : ℕ) (finding : Finding) → IsGrowth g → IsCutoff g.market cutoff
+        → IfSome (slice_get g.nodes x) (MaySettle g.market cutoff finding) → state_at g.nodes x ≡ Some (Taken k) → IsAllowed g (settling g k x cutoff finding) }
     ensures larger { (g : Grown) → IsGrowth g → g.full ≡ true → IsLarger g.market g.budget }
 {}

@@ -71,7 +71,8 @@ fn copy_of(leaf: &Leaf) -> Result<Leaf, AllocError>
 
 /// A copy of the item of a certificate tree for a node in this state, if it is branched or closed.
 fn tree_item(state: &NodeState) -> Result<Option<TreeItem>, Memory>
-    ensures { IfOk result (λ o. MatchOption o (is_done (Some state.now) ≡ false) (λ item. (is_done (Some state.now) ≡ true) × (item ≡ tree_item (Some state.now)))) }
+    ensures { IfOk result
+        (λ o. MatchOption o (is_done (Some state.now) ≡ false) (λ item. (is_done (Some state.now) ≡ true) × (item ≡ tree_item (Some state.now)))) }
 {
     match state {
         NodeState::Branched(_, _) => Ok(Some(TreeItem::Branch)),

@@ -27,7 +27,8 @@ along2 P a a' b b' e f h = let Q : _ → Type 0 = λ x. P x b' in subst Q (sym e
 same2 : {A B C : Type 0} (f : A → B → C) (a a' : A) (b b' : B) → a' ≡ a → b' ≡ b → f a' b' ≡ f a b
 same2 f a a' b b' e g = ap (λ x. f x b') e ∙ ap (f a) g
 
-module _ (books : Books) (budget run : ℕ) (made : RunMarket) (also : Option (List Cents)) (clearing : Clearing) (priced : Priced) (b : FullBlock) (is : IsAssembled books run made.bids clearing priced b) where
+module _ (books : Books) (budget run : ℕ) (made : RunMarket) (also : Option (List Cents)) (clearing : Clearing) (priced : Priced) (b : FullBlock)
+    (is : IsAssembled books run made.bids clearing priced b) where
   -- the block states the activation that was cleared
   pub same_activation : activation_of b ≡ clearing.activation
   same_activation = rw (is.orders.mw, is.orders.demands, is.flow, take-append-drop) refl
@@ -39,7 +40,8 @@ module _ (books : Books) (budget run : ℕ) (made : RunMarket) (also : Option (L
   pub same_amounts : IsPriced books made also clearing priced → priced.ledger.providers ≡ amounts_of books made also b
   same_amounts p =
       p.providers ∙ sym
-      (same2 (λ x ps. provider_amounts books.bids made.bids x ps (scheduled_or ps also)) clearing.activation (activation_of b) priced.pricing.published.cents (prices_of b) same_activation is.zones.prices)
+      (same2 (λ x ps. provider_amounts books.bids made.bids x ps (scheduled_or ps also)) clearing.activation (activation_of b) priced.pricing.published.cents
+      (prices_of b) same_activation is.zones.prices)
 
   pub reported : IsPriced books made also clearing priced → length clearing.activation.mw ≡ length made.bids + made.demands → IsReportedOf books run made also clearing b
   reported p long =
@@ -65,7 +67,8 @@ module _ (books : Books) (budget run : ℕ) (made : RunMarket) (also : Option (L
         ledger = record {
           states = record {
             rents = is.ledger.rents ∙ p.rents ∙ sym (same2 (rents_of m) a (activation_of b) ps (prices_of b) same_activation is.zones.prices);
-            operators = is.ledger.operators ∙ ap (money_lines_of books.zones.operators) (p.operators ∙ sym (same2 (operator_lines books.zones m) a (activation_of b) ps (prices_of b) same_activation is.zones.prices));
+            operators = is.ledger.operators
+                ∙ ap (money_lines_of books.zones.operators) (p.operators ∙ sym (same2 (operator_lines books.zones m) a (activation_of b) ps (prices_of b) same_activation is.zones.prices));
             providers = is.ledger.providers ∙ ap (λ amounts. map (amount_line books.bids.providers amounts) (providers_among books.bids.bids made.bids)) (same_amounts p);
           };
         };

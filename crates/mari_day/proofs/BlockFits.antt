@@ -66,8 +66,10 @@ lines-fit (name ∷ names) (l ∷ lines) n s =
     All-cons IsMoneyLine (money_line name l) _ (All-head IsName name names n, half l.payment own.payment, half l.rent own.rent, net l own)
     (lines-fit names lines (All-tail IsName name names n) (All-tail IsHalf l lines s))
 
-module _ (books : Books) (ok : IsAccepted books) (dated : IsDated books) (budget run : ℕ) (made : RunMarket) (also : Option (List Cents)) (of : IsMarketOf books made) (clearing : Clearing) (priced : Priced) (b : FullBlock)
-    (is : IsAssembled books run made.bids clearing priced b) (shapes : HasShapes books made.bids clearing priced) (p : IsPriced books made also clearing priced) (feasible : IsFeasible made.market clearing.activation) where
+module _ (books : Books) (ok : IsAccepted books) (dated : IsDated books) (budget run : ℕ) (made : RunMarket) (also : Option (List Cents)) (of : IsMarketOf books made) (clearing : Clearing)
+    (priced : Priced) (b : FullBlock)
+    (is : IsAssembled books run made.bids clearing priced b) (shapes : HasShapes books made.bids clearing priced) (p : IsPriced books made also clearing priced)
+    (feasible : IsFeasible made.market clearing.activation) where
   zones-fit : Listed 1 64 (λ z. InRange (line.Zone z)) b.zones
   zones-fit =
       let names = of-map (λ (l : ZoneLine). l.name) IsName b.zones _ is.names.zones ok.zones.zones in
@@ -109,8 +111,10 @@ module _ (books : Books) (ok : IsAccepted books) (dated : IsDated books) (budget
   operators-fit =
       let many = along-length money_line books.zones.operators priced.ledger.operators shapes.operators in
       let some : 0 < length books.zones.operators = omega (arith, ok.zones.operators_there.there 0 0 (omega (arith, ok.zones.operators_there.one_each, ok.zones.some))) in
-      rw is.ledger.operators
-      ((omega (arith, many, some), omega (arith, many, ok.zones.few_operators)), lines-fit books.zones.operators priced.ledger.operators ok.zones.operators (halves priced.ledger.operators p.balanced.small.operators))
+      rw is.ledger.operators (
+        (omega (arith, many, some), omega (arith, many, ok.zones.few_operators)),
+        lines-fit books.zones.operators priced.ledger.operators ok.zones.operators (halves priced.ledger.operators p.balanced.small.operators),
+      )
 
   amount-fits : (place : ℕ) → place < length books.bids.providers → IsAmountLine (amount_line books.bids.providers priced.ledger.providers place)
   amount-fits place l = (ok.bids.providers place [] l, money (slice_index_or priced.ledger.providers place nothing) (p.balanced.small.providers place nothing (omega (arith, shapes.providers))))
@@ -118,7 +122,8 @@ module _ (books : Books) (ok : IsAccepted books) (dated : IsDated books) (budget
   providers-fit : Listed 0 4096 IsAmountLine b.providers
   providers-fit =
       let places = providers_among books.bids.bids made.bids in
-      let below : All (λ place. place < length books.bids.providers) places = providers-there books.bids.bids made.bids (length books.bids.providers) (λ k d l. (ok.bids.bids k d l).provider) of.there in
+      let below : All (λ place. place < length books.bids.providers) places =
+      providers-there books.bids.bids made.bids (length books.bids.providers) (λ k d l. (ok.bids.bids k d l).provider) of.there in
       let many = length-map places (amount_line books.bids.providers priced.ledger.providers) in
       rw is.ledger.providers (
         (omega arith, omega (arith, many, few-providers books.bids.bids made.bids, of.few)),
@@ -142,7 +147,8 @@ module _ (books : Books) (ok : IsAccepted books) (dated : IsDated books) (budget
         borders = borders-fit;
         bids = bids-fit;
         demands = demands-fit many;
-        tree = rw is.tree (tree-fits made.market of.valid (pos clearing.welfare) clearing.tree (tree_holds_plain made.market (pos clearing.welfare) (gate_word_of made.market clearing.activation) clearing.tree clears.tree) (omega (arith, clears.within_budget)));
+        tree = rw is.tree (tree-fits made.market of.valid (pos clearing.welfare) clearing.tree
+            (tree_holds_plain made.market (pos clearing.welfare) (gate_word_of made.market clearing.activation) clearing.tree clears.tree) (omega (arith, clears.within_budget)));
         operators = operators-fit;
         providers = providers-fit;
       }

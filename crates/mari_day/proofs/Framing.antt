@@ -13,7 +13,8 @@ use Rattle.mari_day.specs.declared.frame.Stop.{Stop}
 use Rattle.mari_day.specs.declared.frame.Stop.TheVariants.{Sink, Memory as NoMemory}
 
 -- the head and the blocks of the first `count` runs were written, and what is kept stands for them
-pub record WroteFirst {B : Type 0} (runs : ℕ) (IsNext : List B → B → Type 0) (head : List ℕ) (block_text : B → List ℕ) (Keeps : List B → Type 0) (count : ℕ) (before after : Option (List ℕ)) : Type 0 where
+pub record WroteFirst {B : Type 0} (runs : ℕ) (IsNext : List B → B → Type 0) (head : List ℕ) (block_text : B → List ℕ) (Keeps : List B → Type 0) (count : ℕ)
+    (before after : Option (List ℕ)) : Type 0 where
   pub blocks : List B
   pub part : IsPartBy runs IsNext blocks
   pub keeps : Keeps blocks
@@ -52,7 +53,8 @@ module _ {B : Type 0} (runs : ℕ) (IsNext : List B → B → Type 0) (head : Li
       ∙ sym (append_assoc head (flat_map block_text blocks) (block_text b))
 
   -- the head
-  pub head-written : (Keeps : List B → Type 0) → Keeps [] → (text : List ℕ) → text ≡ head → (before after : Option (List ℕ)) → after ≡ then_took before text → WroteFirst runs IsNext head block_text Keeps 0 before after
+  pub head-written : (Keeps : List B → Type 0) → Keeps [] → (text : List ℕ) → text ≡ head → (before after : Option (List ℕ)) → after ≡ then_took before text
+      → WroteFirst runs IsNext head block_text Keeps 0 before after
   head-written Keeps keeps text is before after e = record {
     blocks = [];
     part = none;
@@ -123,12 +125,14 @@ module _ {B : Type 0} (runs : ℕ) (IsNext : List B → B → Type 0) (head : Li
       end-stops after NoMemory cut = absurd cut
 
   -- the same of texts that are made, for which there may be no memory
-  module _ {T E : Type 0} (items : T → List ℕ) (made : Result T E) (Keeps : List B → Type 0) (count : ℕ) (before mid : Option (List ℕ)) (first : WroteFirst runs IsNext head block_text Keeps count before mid) (after : Option (List ℕ)) where
+  module _ {T E : Type 0} (items : T → List ℕ) (made : Result T E) (Keeps : List B → Type 0) (count : ℕ) (before mid : Option (List ℕ))
+      (first : WroteFirst runs IsNext head block_text Keeps count before mid) (after : Option (List ℕ)) where
     pub next-written : (After : List B → Type 0) → count < runs → IfOk made (λ t. MakesNext block_text IsNext After first.blocks (items t)) → (u : Unit {0})
         → IfOk made (λ t. Writes (items t) mid after (Ok u)) → OnErr made ((Ends (Ok u) (Err NoMemory)) × (after ≡ mid)) → WroteFirst runs IsNext head block_text After (count + 1) before after
     next-written After last next u ok lack = by made next ok lack
       where
-        by : (m : Result T E) → IfOk m (λ t. MakesNext block_text IsNext After first.blocks (items t)) → IfOk m (λ t. Writes (items t) mid after (Ok u)) → OnErr m ((Ends (Ok u) (Err NoMemory)) × (after ≡ mid))
+        by : (m : Result T E) → IfOk m (λ t. MakesNext block_text IsNext After first.blocks (items t)) → IfOk m (λ t. Writes (items t) mid after (Ok u))
+            → OnErr m ((Ends (Ok u) (Err NoMemory)) × (after ≡ mid))
             → WroteFirst runs IsNext head block_text After (count + 1) before after
         by (Ok t) next ok lack = block-written Keeps count before mid first After (items t) last next after ok
         by (Err e) next ok lack = cc lack.0
@@ -137,7 +141,8 @@ module _ {B : Type 0} (runs : ℕ) (IsNext : List B → B → Type 0) (head : Li
         → IfOk made (λ t. Writes (items t) mid after (Err stop)) → OnErr made ((Ends (Err stop) (Err NoMemory)) × (after ≡ mid)) → StoppedBy IsPart IsWhole before after stop
     next-stops IsWhole After last next stop ok lack = by made stop next ok lack
       where
-        by : (m : Result T E) (s : Stop) → IfOk m (λ t. MakesNext block_text IsNext After first.blocks (items t)) → IfOk m (λ t. Writes (items t) mid after (Err s)) → OnErr m ((Ends (Err s) (Err NoMemory)) × (after ≡ mid))
+        by : (m : Result T E) (s : Stop) → IfOk m (λ t. MakesNext block_text IsNext After first.blocks (items t)) → IfOk m (λ t. Writes (items t) mid after (Err s))
+            → OnErr m ((Ends (Err s) (Err NoMemory)) × (after ≡ mid))
             → StoppedBy IsPart IsWhole before after s
         by (Ok t) s next ok lack = block-stops Keeps count before mid first After (items t) last next IsWhole after s ok
         by (Err e) NoMemory next ok lack = inr (stays Keeps count before mid first after lack.1)
@@ -147,7 +152,8 @@ module _ {B : Type 0} (runs : ℕ) (IsNext : List B → B → Type 0) (head : Li
         → IfOk made (λ t. Writes (items t) mid after r) → OnErr made ((Ends r (Err NoMemory)) × (after ≡ mid)) → EndsText IsPart IsWhole before after r
     end-ends IsWhole whole r ok lack = by made r whole ok lack
       where
-        by : (m : Result T E) (r : Result (Unit {0}) Stop) → IfOk m (λ t. IsWhole (text-of first.blocks ++ items t)) → IfOk m (λ t. Writes (items t) mid after r) → OnErr m ((Ends r (Err NoMemory)) × (after ≡ mid))
+        by : (m : Result T E) (r : Result (Unit {0}) Stop) → IfOk m (λ t. IsWhole (text-of first.blocks ++ items t)) → IfOk m (λ t. Writes (items t) mid after r)
+            → OnErr m ((Ends r (Err NoMemory)) × (after ≡ mid))
             → EndsText IsPart IsWhole before after r
         by (Ok t) (Ok u) whole ok lack = end-written Keeps count before mid first IsWhole (items t) whole after ok
         by (Ok t) (Err s) whole ok lack = end-stops Keeps count before mid first IsWhole (items t) whole after s ok
@@ -156,7 +162,8 @@ module _ {B : Type 0} (runs : ℕ) (IsNext : List B → B → Type 0) (head : Li
         by (Err e) (Ok u) whole ok lack = cc lack.0
 
   -- an error that is passed on
-  pub ends-at : (IsWhole : List ℕ → Type 0) (before after : Option (List ℕ)) (r : Result (Unit {0}) Stop) (stop : Stop) → IsErrAnd r (λ s. s ≡ stop) → StoppedBy IsPart IsWhole before after stop → EndsText IsPart IsWhole before after r
+  pub ends-at : (IsWhole : List ℕ → Type 0) (before after : Option (List ℕ)) (r : Result (Unit {0}) Stop) (stop : Stop) → IsErrAnd r (λ s. s ≡ stop) → StoppedBy IsPart IsWhole before after stop
+      → EndsText IsPart IsWhole before after r
   ends-at IsWhole before after (Ok u) stop is h = absurd is
   ends-at IsWhole before after (Err s) stop is h = subst (StoppedBy IsPart IsWhole before after) (sym is) h
 

@@ -51,7 +51,8 @@ module _ (books other : Books) (count : length books.runs.runs ≡ length other.
   one : (budget : ℕ) (before : List Block) (b : Block) → length before + 1 ≤ length books.runs.runs → IsBlock books budget before b → IsBlock other budget before b
   one budget before (block.Published b) l h =
       let made : (m : RunMarket) → market_after books before ≡ m → IsPublishedOf other budget (run_after before) m (also_after books before) b =
-      λ m e. subst (λ n. IsPublishedOf other budget (run_after before) n (also_after books before) b) e (published budget (run_after before) (market_after books before) (also_after books before) b h) in
+      λ m e. subst (λ n. IsPublishedOf other budget (run_after before) n (also_after books before) b) e
+      (published budget (run_after before) (market_after books before) (also_after books before) b h) in
       subst (λ given. IsPublishedOf other budget (run_after before) (market_after other before) given b) (also before) (made (market_after other before) (market before l))
   one budget before (block.Unpublished reported count) l h = record {
     is_of = h.is_of ∙ heading (run_after before);
@@ -75,7 +76,8 @@ module _ (books other : Books) (count : length books.runs.runs ≡ length other.
     totals = totals p h.part.few h.totals;
   }
 
-module _ (books : Books) (ok : IsAccepted books) (own : List ℕ) (read : borders_in books.zones own ≡ Ok books.borders) (borders : BorderBook) (limits : List (List Limits)) (is : AreRead books borders limits) where
+module _ (books : Books) (ok : IsAccepted books) (own : List ℕ) (read : borders_in books.zones own ≡ Ok books.borders) (borders : BorderBook) (limits : List (List Limits))
+    (is : AreRead books borders limits) where
   abbrev migrated : Books
   migrated = with_limits books borders limits
 

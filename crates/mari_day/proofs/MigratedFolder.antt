@@ -134,7 +134,8 @@ no-gap-or file gap later e h = rw (e, h) refl
 short-enough : (page : List ℕ) → length page ≤ MOST_PAGE → gap_of (Some page) ≡ None
 short-enough page l = let e : nat_lt MOST_PAGE (length page) ≡ false = grind (arith, nat_tests, l) in ap (λ (t : Bool). if t then Some OverLimit else None) e
 
-module _ (folder : List ℕ) (before after : Pages) (books : Books) (is : IsMigratedFolder books folder before after) (borders : BorderBook) (limits : List (List BorderLimits)) (read : AreRead books borders limits)
+module _ (folder : List ℕ) (before after : Pages) (books : Books) (is : IsMigratedFolder books folder before after) (borders : BorderBook) (limits : List (List BorderLimits))
+    (read : AreRead books borders limits)
     (short : (length (borders_page books) ≤ MOST_PAGE) × (length (limits_page books) ≤ MOST_PAGE)) where
   abbrev here : File → Option (List ℕ)
   here = page_in before folder
@@ -215,7 +216,8 @@ module _ (folder : List ℕ) (before after : Pages) (books : Books) (is : IsMigr
       let links = one here Links (Runs ∷ Demands ∷ more) bids.more bids.rest in
       let runs = one here Runs (Demands ∷ more) links.more links.rest in
       let demands = one here Demands more runs.more runs.rest in
-      let are : texts ≡ day.text ∷ zones.text ∷ own.text ∷ bids.text ∷ links.text ∷ runs.text ∷ demands.text ∷ demands.more = cc (day.are, zones.are, own.are, bids.are, links.are, runs.are, demands.are) in
+      let are : texts ≡ day.text ∷ zones.text ∷ own.text ∷ bids.text ∷ links.text ∷ runs.text ∷ demands.text ∷ demands.more =
+      cc (day.are, zones.are, own.are, bids.are, links.are, runs.are, demands.are) in
       gives-books day.text zones.text own.text bids.text links.text runs.text demands.text demands.more more day.held zones.held bids.held links.held
       runs.held demands.held none (ap books_at (sym are) ∙ first)
 

@@ -56,8 +56,10 @@ pub record HasShapes (books : Books) (numbers : List ℕ) (clearing : Clearing) 
 -- The ledger is three facts here and three clauses of `settle_run` and `ledger_of`, each citing the one definition of
 -- `mari_settle`.
 pub record IsPriced (books : Books) (made : RunMarket) (also : Option (List Cents)) (clearing : Clearing) (priced : Priced) : Type 0 where
-  pub prices : AreZonePrices made.market clearing.activation priced.pricing.published.cents priced.pricing.least.cents priced.pricing.greatest.cents priced.areas.items
+  pub prices : AreZonePrices made.market clearing.activation priced.pricing.published.cents priced.pricing.least.cents
+      priced.pricing.greatest.cents priced.areas.items
   pub operators : priced.ledger.operators ≡ operator_lines books.zones made.market clearing.activation priced.pricing.published.cents
-  pub providers : priced.ledger.providers ≡ provider_amounts books.bids made.bids clearing.activation priced.pricing.published.cents (scheduled_or priced.pricing.published.cents also)
+  pub providers : priced.ledger.providers ≡ provider_amounts books.bids made.bids clearing.activation priced.pricing.published.cents
+      (scheduled_or priced.pricing.published.cents also)
   pub rents : priced.ledger.rents ≡ rents_of made.market clearing.activation priced.pricing.published.cents
   pub balanced : IsBalancedLedger priced.ledger

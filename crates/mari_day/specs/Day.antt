@@ -79,4 +79,5 @@ EndsDay books budget before after Memory = Stopped books budget before after NoM
 
 -- whatever blocks are printed, the budget holds the search tree of the market of the next run
 abbrev pub HasEnough : Books → (budget : ℕ) → Type 0
-HasEnough books budget = (blocks : List Block) → IsDayPart books budget blocks → length blocks < length books.runs.runs → (size : ℕ) × HasSize (market_after books blocks).market size × (size ≤ budget)
+HasEnough books budget = (blocks : List Block) → IsDayPart books budget blocks → length blocks < length books.runs.runs
+    → (size : ℕ) × HasSize (market_after books blocks).market size × (size ≤ budget)

@@ -21,7 +21,8 @@ pub record IsPartTextBy {B : Type 0} (runs : ℕ) (IsNext : List B → B → Typ
   pub spelled : text ≡ part_text_by head block_text blocks
 
 -- the text is that of the block after these, and what is kept stands for one block more
-pub record MakesNext {B : Type 0} (block_text : B → List ℕ) (IsNext : List B → B → Type 0) (Keeps : List B → Type 0) (blocks : List B) (text : List ℕ) : Type 0 where
+pub record MakesNext {B : Type 0} (block_text : B → List ℕ) (IsNext : List B → B → Type 0) (Keeps : List B → Type 0) (blocks : List B)
+    (text : List ℕ) : Type 0 where
   pub block : B
   pub is_next : IsNext blocks block
   pub keeps : Keeps (blocks ++ block ∷ [])

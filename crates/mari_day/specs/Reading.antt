@@ -56,7 +56,17 @@ books_at pages =
     of_file Runs (book_in (run_grammar day.quarters) (page_among pages Runs)) >>> λ runs.
     of_file Demands (book_in (demand_grammar zones (length runs.runs)) (page_among pages Demands)) >>> λ demands.
     limits_of_pages zones borders (length runs.runs) pages >>> λ limits.
-    Ok (record { date = day.date; quarters = day.quarters; zones = zones; borders = borders; bids = bids; links = links; runs = runs; demands = demands; limits = limits })
+    Ok (record {
+      date = day.date;
+      quarters = day.quarters;
+      zones = zones;
+      borders = borders;
+      bids = bids;
+      links = links;
+      runs = runs;
+      demands = demands;
+      limits = limits;
+    })
 
 -- this is what was to be read, or its refusal, unless memory ran out
 abbrev pub ReadsAs : {X : Type 0} → Result X BooksFault → Result X Refusal → Type 0

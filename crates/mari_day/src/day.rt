@@ -81,7 +81,8 @@ pub fn end_text(
     requires dated { IsDated books.now }
     requires kept { (blocks : List PrintedBlock) × IsProgress books.now blocks progress.now }
     ensures { (blocks : List PrintedBlock) → IsProgress books.now blocks progress.now
-        → IfOk result (λ text. text.items ≡ text_of_lines (closing_lines_by (operator_totals books.now blocks) (provider_totals books.now blocks) first others)) }
+        → IfOk result
+        (λ text. text.items ≡ text_of_lines (closing_lines_by (operator_totals books.now blocks) (provider_totals books.now blocks) first others)) }
 {
     let totals = &progress.totals;
     let operators = money_lines(alloc, &books.zones.operators, totals.operators.as_slice())?;

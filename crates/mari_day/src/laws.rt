@@ -25,7 +25,8 @@ use mari_remain::Books;
 pub fn days_keep(books: &Books)
     requires { IsAccepted books.now }
     ensures offers { (budget : ℕ) (blocks : List PrintedBlock) → IsDayPart books.now budget blocks → KeepsOffers books.now blocks }
-    ensures blocks { (budget : ℕ) (blocks : List PrintedBlock) → IsDayPart books.now budget blocks → (k : ℕ) (b : PrintedBlock) → slice_get blocks k ≡ Some b → BlockSumsToZero b }
+    ensures blocks { (budget : ℕ) (blocks : List PrintedBlock)
+        → IsDayPart books.now budget blocks → (k : ℕ) (b : PrintedBlock) → slice_get blocks k ≡ Some b → BlockSumsToZero b }
     ensures totals { (budget : ℕ) (blocks : List PrintedBlock) → IsDayPart books.now budget blocks → net_sum (operator_totals books.now blocks) ≡ pos 0 }
     ensures published { (budget : ℕ) (p : ThePublication) → IsDay books.now budget p → HasEnough books.now budget → unpublished_in p.blocks ≡ 0 }
 {
@@ -46,7 +47,8 @@ pub fn migration_keeps_days(books: &Books)
 
     // With the two pages in place, the folder of these books is read as that of those with the same limits for each run.
     ensures folder { (folder : List ℕ) (before after : Pages) → HasBooks before folder books.now → IsMigratedFolder books.now folder before after
-        → (borders : BorderBook) (limits : List (List Limits)) → AreRead books.now borders limits → HasBooks after folder (with_limits books.now borders limits) }
+        → (borders : BorderBook) (limits : List (List Limits)) → AreRead books.now borders limits
+        → HasBooks after folder (with_limits books.now borders limits) }
 {
     let _books = books;
 }

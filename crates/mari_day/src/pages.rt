@@ -44,7 +44,8 @@ impl Model for Folder {
 
     ghost view = { λ f. f.pages };
 
-    ghost invariant = { λ f. (length f.pages ≡ length (files_of (version_in (page_among f.pages Borders)))) × All (λ (page : List ℕ). length page ≤ MOST_PAGE) f.pages };
+    ghost invariant = { λ f. (length f.pages ≡ length (files_of (version_in (page_among f.pages Borders))))
+        × All (λ (page : List ℕ). length page ≤ MOST_PAGE) f.pages };
 }
 
 impl Folder {

@@ -47,7 +47,8 @@ pub fn run_done<C: Clearer>(
     requires ready { C.ready clearer.old }
 
     // The block, whatever blocks these are.
-    ensures done { (blocks : List PrintedBlock) → IsProgress books.now blocks progress.now → run ≡ run_after blocks → IfOk result (IsRunDone books.now budget blocks) }
+    ensures done { (blocks : List PrintedBlock) → IsProgress books.now blocks progress.now → run ≡ run_after blocks
+        → IfOk result (IsRunDone books.now budget blocks) }
     ensures fits { IfOk result (λ done. BlockFits done.block) }
 
     // The clearer may clear on.

@@ -84,14 +84,16 @@ module _ (quarters : ℕ) where
       let quarter = number-bounds 1 quarters (field_of line 1) stated in
       let room : length before < 1000 = grind (arith, nat_tests, all.0) in
       let in_time = or_parts (not (is_some (number_in (length before + 1) (length before + 1) (field_of line 0)))) (comes_too_late (last_quarter quarters before) line) all.1.1.0 in
-      let next : (a : Run) → a.quarter ≤ unwrap_or (last_quarter quarters before) 0 → IsBefore a (run_of quarters line) = λ a most. after a line (last_quarter quarters before) most stated quarter.0 in_time.1 in
+      let next : (a : Run) → a.quarter ≤ unwrap_or (last_quarter quarters before) 0
+      → IsBefore a (run_of quarters line) = λ a most. after a line (last_quarter quarters before) most stated quarter.0 in_time.1 in
       let last : last_quarter quarters (before ++ line ∷ []) ≡ Some (quarter_at quarters line) = fold-append (λ before row. Some (quarter_at quarters row)) None before (line ∷ []) in
       record {
         few = simp length-append (omega (arith, room));
         runs = All-push (λ row. IsRun quarters (run_of quarters row)) before line so_far.runs
             (record { first_quarter = quarter.0; last_quarter = quarter.1; reference = read-within (field_of line 3) (record { 0 = pos 0 }) (not-false _ all.1.1.1.1.0) });
         bounded = rw (last, map-append (run_of quarters) before (line ∷ [])) (All-push (λ (run : Run). run.quarter ≤ quarter_at quarters line) (map (run_of quarters) before) (run_of quarters line)
-            (All-weaker (λ (run : Run). run.quarter ≤ unwrap_or (last_quarter quarters before) 0) (λ (run : Run). run.quarter ≤ quarter_at quarters line) (λ run most. (next run most).quarter) (map (run_of quarters) before) so_far.bounded) (omega arith));
+            (All-weaker (λ (run : Run). run.quarter ≤ unwrap_or (last_quarter quarters before) 0) (λ (run : Run). run.quarter ≤ quarter_at quarters line) (λ run most. (next run most).quarter)
+            (map (run_of quarters) before) so_far.bounded) (omega arith));
         in_order = rw (map-append (run_of quarters) before (line ∷ [])) (all_pairs_push IsBefore (map (run_of quarters) before) (run_of quarters line) so_far.in_order
             (λ k d l. next _ (so_far.bounded k d l)));
       }
@@ -103,7 +105,12 @@ module _ (quarters : ℕ) where
       let read = book-page (run_grammar quarters) page book gives in
       let rows : List Row = read.0 in
       let is = read.2 in
-      let are = along-lines (run_grammar quarters) AreRuns one-run rows book is (record { few = omega arith; runs = All-nil (λ row. IsRun quarters (run_of quarters row)); bounded = All-nil (λ (run : Run). run.quarter ≤ 0); in_order = λ i j d l m. absurd (omega arith) }) in
+      let are = along-lines (run_grammar quarters) AreRuns one-run rows book is (record {
+        few = omega arith;
+        runs = All-nil (λ row. IsRun quarters (run_of quarters row));
+        bounded = All-nil (λ (run : Run). run.quarter ≤ 0);
+        in_order = λ i j d l m. absurd (omega arith);
+      }) in
       let whole : IsRunBook quarters (run_book quarters rows) = record {
         few = simp length-map are.few;
         runs = All-map (IsRun quarters) (run_of quarters) rows are.runs;
@@ -163,7 +170,10 @@ module _ (zones : ZoneBook) (runs : ℕ) where
       let read = book-page (demand_grammar zones runs) page book gives in
       let rows : List Row = read.0 in
       let is = read.2 in
-      let are = along-lines (demand_grammar zones runs) AreDemands one-demand rows book is (record { demands = All-nil (λ row. IsDemand zones runs (demand_of zones runs row)); counts = λ k. omega arith }) in
+      let are = along-lines (demand_grammar zones runs) AreDemands one-demand rows book is (record {
+        demands = All-nil (λ row. IsDemand zones runs (demand_of zones runs row));
+        counts = λ k. omega arith;
+      }) in
       let whole : IsDemandBook zones runs (demand_book zones runs rows) = record {
         demands = All-map (IsDemand zones runs) (demand_of zones runs) rows are.demands;
         of_run = λ run. rw (count_by-map (demand_of zones runs) (λ (demand : Demand). demand.run == run) rows) (are.counts run);

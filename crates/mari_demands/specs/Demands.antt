@@ -46,8 +46,10 @@ count_of runs rows run = count_by (λ row. run_at runs row == run) rows
 -- a line is refused for a bad field, for an unknown run, for an unknown zone, and for a quantity or a price out of
 -- range
 abbrev pub demand_checks : ZoneBook → ℕ → Row → Checks
-demand_checks zones runs row =
-    (not (is_some (whole_of (field_of row 0)) && is_some (whole_of (field_of row 2)) && (is_inelastic row || is_some (price_of (field_of row 3)))), demand_check_number BadField)
+demand_checks zones runs row = (
+  not (is_some (whole_of (field_of row 0)) && is_some (whole_of (field_of row 2)) && (is_inelastic row || is_some (price_of (field_of row 3)))),
+  demand_check_number BadField,
+)
     ∷ (not (is_some (run_in runs row)), demand_check_number UnknownRun)
     ∷ (not (is_some (zone_in zones row)), demand_check_number UnknownZone)
     ∷ (not (is_some (mw_in row) && (is_inelastic row || is_some (cents_in (field_of row 3)))), demand_check_number Range)
@@ -55,7 +57,8 @@ demand_checks zones runs row =
 
 -- and after `MOST_DEMANDS` demands of its run
 abbrev pub line_checks : ZoneBook → ℕ → List Row → Row → Checks
-line_checks zones runs earlier row = demand_checks zones runs row ++ (nat_le MOST_DEMANDS (count_of runs earlier (run_at runs row)), demand_check_number TooMany) ∷ []
+line_checks zones runs earlier row =
+    demand_checks zones runs row ++ (nat_le MOST_DEMANDS (count_of runs earlier (run_at runs row)), demand_check_number TooMany) ∷ []
 
 -- the demand of a line
 abbrev pub demand_of : ZoneBook → ℕ → Row → Demand

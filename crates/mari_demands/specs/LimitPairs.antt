@@ -19,7 +19,8 @@ place_of_pair borders run border = run * borders + border
 
 -- the table of such a list
 abbrev pub table_of : (runs borders : ℕ) → List (Option Limits) → List (List Limits)
-table_of runs borders flat = map (λ run. map (λ border. limits_there flat (place_of_pair borders run border)) (range_with_len 0 borders)) (range_with_len 0 runs)
+table_of runs borders flat =
+    map (λ run. map (λ border. limits_there flat (place_of_pair borders run border)) (range_with_len 0 borders)) (range_with_len 0 runs)
 
 -- a border's limits in a run, which counts from 1
 abbrev pub limits_in : List (List Limits) → (run border : ℕ) → Limits

@@ -57,8 +57,14 @@ comes_too_late (Some quarter) row =
 abbrev pub run_checks : ℕ → List Row → Row → Checks
 run_checks quarters earlier row =
     (nat_le MOST_RUNS (length earlier), run_check_number TooMany)
-    ∷ (not (is_some (whole_of (field_of row 0)) && is_some (whole_of (field_of row 1)) && is_some (price_of (field_of row 3)) && is_some (is_direct row)), run_check_number BadField)
-    ∷ (not (is_some (number_in (length earlier + 1) (length earlier + 1) (field_of row 0))) || comes_too_late (last_quarter quarters earlier) row, run_check_number RunsOutOfOrder)
+    ∷ (
+      not (is_some (whole_of (field_of row 0)) && is_some (whole_of (field_of row 1)) && is_some (price_of (field_of row 3)) && is_some (is_direct row)),
+      run_check_number BadField,
+    )
+    ∷ (
+      not (is_some (number_in (length earlier + 1) (length earlier + 1) (field_of row 0))) || comes_too_late (last_quarter quarters earlier) row,
+      run_check_number RunsOutOfOrder,
+    )
     ∷ (not (is_some (quarter_in quarters row)), run_check_number Quarter)
     ∷ (not (is_some (reference_in row)), run_check_number Range)
     ∷ []

@@ -27,4 +27,5 @@ pub record HoldsLimits (rows : List Row) (so_far : LimitsSoFar) : Type 0 where
   pub few_borders : length so_far.borders.now.borders ≤ MOST_BORDERS
   pub sized : length so_far.limits.items ≡ so_far.runs * length so_far.borders.now.borders
   pub limits : (run border : ℕ) → run < so_far.runs → border < length so_far.borders.now.borders
-      → get_or so_far.limits.items (place_of_pair (length so_far.borders.now.borders) run border) None ≡ stated so_far.zones.now so_far.borders.now so_far.runs rows (run + 1) border
+      → get_or so_far.limits.items (place_of_pair (length so_far.borders.now.borders) run border) None
+      ≡ stated so_far.zones.now so_far.borders.now so_far.runs rows (run + 1) border

@@ -84,7 +84,8 @@ module _ (before after : Option (List ℕ)) where
     back = read_back page (parts ++ x ∷ []) has;
     took = (
       length (feed_of parts) + cut.0,
-      took_both before (then_took before (feed_of parts)) after (feed_of parts) (take cut.0 (line_of x)) refl cut.1 ∙ ap (then_took before) (sym (ap (take (length (feed_of parts) + cut.0)) (feed_more parts x) ∙ take-append-add (feed_of parts) (line_of x) cut.0)),
+      took_both before (then_took before (feed_of parts)) after (feed_of parts) (take cut.0 (line_of x)) refl cut.1
+          ∙ ap (then_took before) (sym (ap (take (length (feed_of parts) + cut.0)) (feed_more parts x) ∙ take-append-add (feed_of parts) (line_of x) cut.0)),
     );
   }
 

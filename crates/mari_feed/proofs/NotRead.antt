@@ -1,5 +1,5 @@
 -- What is not read leaves what it is a part of unread.
-use Rattle.std.proofs.Common.{◌≡◌, ◌≢◌, ℕ, List, Result, Ok, Err, Some, None, sym, ap, subst, ◌∙◌}
+use Rattle.std.proofs.Common.{◌≡◌, ◌≢◌, ℕ, List, Result, Err, Some, None, sym, ap, subst, ◌∙◌}
 use Rattle.serde_json.specs.Data.{Data, Members, member, no_members, object}
 use Rattle.serde_json.specs.Find.{as_object}
 use Rattle.mari_feed.specs.declared.fault.FeedFault.{FeedFault}
@@ -67,17 +67,3 @@ pub not_the_end : {Y : Type 0} (ms : Members) (S : Y → Type 0) (g : Y → Data
     → HandedOn e result → (e ≡ fault.NotAPart) × (ms ≢ no_members) → ((y : Y) → S y → g y ≡ u → ms ≡ no_members) → Reads S g u result
 not_the_end ms S g u e result is more whole =
     subst (λ r. Reads S g u r) (sym is.1) (subst (λ x. Reads S g u (Err x)) (sym (is.2 ∙ more.0)) (λ y r w. more.1 (whole y r w)))
-
--- the value of a member is read or not, and so is the member
-pub member_read : {X : Type 0} (key : List ℕ) (R : X → Type 0) (f : X → Data) (ms left : Members) (d : Data) (result : Result X FeedFault)
-    → ms ≡ member key d left → Reads R f d result → ReadsMember key R f ms left result
-member_read key R f ms left d (Ok x) is r = (r.0, is ∙ ap (λ v. member key v left) (sym r.1))
-member_read key R f ms left d (Err fault.NotJson) is r = r
-member_read key R f ms left d (Err fault.NotAPart) is r = λ x others range e. let same : f x ≡ d = cc in r x range same
-member_read key R f ms left d (Err fault.Memory) is r = tt
-
--- another key
-pub other_key : {X : Type 0} (key : List ℕ) (R : X → Type 0) (f : X → Data) (ms left : Members) (e : FeedFault) (result : Result X FeedFault)
-    → HandedOn e result → (e ≡ fault.NotAPart) × ((d : Data) (others : Members) → ms ≡ member key d others → ⊥) → ReadsMember key R f ms left result
-other_key key R f ms left e result is none =
-    subst (λ r. ReadsMember key R f ms left r) (sym is.1) (subst (λ x. ReadsMember key R f ms left (Err x)) (sym (is.2 ∙ none.0)) (λ x others range w. none.1 (f x) others w))

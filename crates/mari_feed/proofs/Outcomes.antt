@@ -6,7 +6,7 @@ use Rattle.mari_feed.specs.declared.fault.FeedFault.{FeedFault}
 use Rattle.mari_feed.specs.declared.fault.FeedFault.TheVariants as fault
 use Rattle.mari_publish.specs.Ranges.{PartFits}
 use Rattle.mari_feed.specs.Reading.{Reads}
-use Rattle.mari_feed.specs.Texts.{AnswersWith, IsJsonOf, IsNoJson, IsNoPart, IsOutcome, IsPart}
+use Rattle.mari_feed.specs.Texts.{AnswersWith, IsJsonOf, IsOutcome, IsPart}
 use Rattle.mari_feed.specs.Values.{part_value}
 use Rattle.mari_feed.proofs.SameValue.{same_part}
 
@@ -29,15 +29,3 @@ answers_part bytes (Ok q) o p is = inl (ap Ok (one_part bytes q p o is))
 answers_part bytes (Err fault.NotJson) o p is = absurd (o (part_value p) is.json)
 answers_part bytes (Err fault.NotAPart) o p is = absurd (o.none p is.fits (one_value bytes (part_value p) o.value is.json o.json))
 answers_part bytes (Err fault.Memory) o p is = inr refl
-
-pub answers_no_json : (bytes : List ℕ) (r : Result Part FeedFault) → IsOutcome bytes r → IsNoJson bytes → AnswersWith (Err fault.NotJson) r
-answers_no_json bytes (Ok q) o none = absurd (none (part_value q) o.json)
-answers_no_json bytes (Err fault.NotJson) o none = inl refl
-answers_no_json bytes (Err fault.NotAPart) o none = absurd (none o.value o.json)
-answers_no_json bytes (Err fault.Memory) o none = inr refl
-
-pub answers_no_part : (bytes : List ℕ) (r : Result Part FeedFault) → IsOutcome bytes r → IsNoPart bytes → AnswersWith (Err fault.NotAPart) r
-answers_no_part bytes (Ok q) o other = absurd (other.none q o.fits (one_value bytes (part_value q) other.value o.json other.json))
-answers_no_part bytes (Err fault.NotJson) o other = absurd (o other.value other.json)
-answers_no_part bytes (Err fault.NotAPart) o other = inl refl
-answers_no_part bytes (Err fault.Memory) o other = inr refl

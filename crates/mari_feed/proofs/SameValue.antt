@@ -256,7 +256,8 @@ same_full g h e =
     let tree = peel _ _ _ _ _ run.1 in
     let welfare = peel _ _ _ _ _ tree.1 in
     let zones = peel _ _ _ _ _ welfare.1 in
-    let heading = alike_heading g.heading h.heading (same_natural g.heading.run h.heading.run run.0) (same_natural g.heading.quarter h.heading.quarter quarter.0) (same_kind g.heading.direct h.heading.direct kind.0) in
+    let heading = alike_heading g.heading h.heading (same_natural g.heading.run h.heading.run run.0) (same_natural g.heading.quarter h.heading.quarter quarter.0)
+    (same_kind g.heading.direct h.heading.direct kind.0) in
     alike_full g h heading (same_natural g.welfare h.welfare welfare.0)
     (same_list zone_value same_zone g.zones h.zones zones.0) (same_list border_value same_border g.borders h.borders borders.0)
     (same_list bid_value same_bid g.bids h.bids bids.0) (same_list natural same_natural g.demands h.demands demands.0)

@@ -32,7 +32,8 @@ nexts_text (m ∷ ms) = next_text m.0 m.1 ++ nexts_text ms
 -- the text of a block in pieces: its market, its ledger, and its welfare, its zones and its end
 abbrev pub market_text : FullBlock → List ℕ
 market_text b =
-    first_text (codes "bids") (list_of bid_value b.bids) ++ nexts_text ((codes "borders", list_of border_value b.borders) ∷ (codes "demands", list_of natural b.demands) ∷ [])
+    first_text (codes "bids") (list_of bid_value b.bids)
+    ++ nexts_text ((codes "borders", list_of border_value b.borders) ∷ (codes "demands", list_of natural b.demands) ∷ [])
 
 abbrev pub ledger_text : FullBlock → List ℕ
 ledger_text b = nexts_text (
@@ -50,7 +51,8 @@ outcome_text b = nexts_text ((codes "welfare", natural b.welfare) ∷ (codes "zo
 abbrev pub lines_text : FullBlock → List ℕ
 lines_text b =
     first_text (codes "bids") (list_of bid_value b.bids)
-    ++ nexts_text ((codes "borders", list_of border_value b.borders) ∷ (codes "demands", list_of natural b.demands) ∷ (codes "kind", kind_value b.heading.direct) ∷ [])
+    ++ nexts_text
+    ((codes "borders", list_of border_value b.borders) ∷ (codes "demands", list_of natural b.demands) ∷ (codes "kind", kind_value b.heading.direct) ∷ [])
 
 abbrev pub rest_text : FullBlock → List ℕ
 rest_text b =

@@ -35,7 +35,8 @@ impl<'a> Members<'a> {
 
     /// The members of a value that is an object.
     pub fn of(value: &'a Value) -> Result<Members<'a>, FeedFault>
-        ensures { MatchResult result (λ members. view value.now ≡ object (members_left members)) (λ fault. (fault ≡ feed_fault.NotAPart) × (as_object (view value.now) ≡ None)) }
+        ensures { MatchResult result (λ members. view value.now ≡ object (members_left members))
+            (λ fault. (fault ≡ feed_fault.NotAPart) × (as_object (view value.now) ≡ None)) }
     {
         match value.as_object() {
             Some(members) => Ok(Members {
@@ -47,7 +48,8 @@ impl<'a> Members<'a> {
 
     /// Takes the value of the next member, which must have this key.
     fn next_at(&mut self, key: &str) -> Result<&'a Value, FeedFault>
-        ensures { MatchResult result (λ value. members_left self.old ≡ member key.now (view value.now) (members_left self.new)) (λ fault. (fault ≡ feed_fault.NotAPart) × ((d : TheData) (others : TheMembers) → members_left self.old ≡ member key.now d others → ⊥)) }
+        ensures { MatchResult result (λ value. members_left self.old ≡ member key.now (view value.now) (members_left self.new))
+            (λ fault. (fault ≡ feed_fault.NotAPart) × ((d : TheData) (others : TheMembers) → members_left self.old ≡ member key.now d others → ⊥)) }
     {
         let Some((name, value)) = self.rest.next() else {
             return Err(FeedFault::NotAPart);
@@ -82,7 +84,8 @@ impl<'a> Members<'a> {
 
     /// Asks for the end of the object.
     pub fn end(mut self) -> Result<(), FeedFault>
-        ensures { MatchResult result (λ _. members_left self.entry ≡ no_members) (λ fault. (fault ≡ feed_fault.NotAPart) × (members_left self.entry ≢ no_members)) }
+        ensures { MatchResult result (λ _. members_left self.entry ≡ no_members)
+            (λ fault. (fault ≡ feed_fault.NotAPart) × (members_left self.entry ≢ no_members)) }
     {
         match self.rest.next() {
             None => Ok(()),

@@ -95,9 +95,9 @@ pub fn stop_of(stop: ReadStop<FeedStop>) -> FeedStop
 }
 
 /// Prints the publication whose text is the page of that name: a line of compact JSON for each part. The page is read
-/// in pieces. A fault of the text is reported after the lines of all parts that are whole before it. After a fault of the shelf, or when out of memory, the lines of the first parts
-/// are printed, or of none; after a failed write a first part of such lines. Over a shelf that doesn't report its pages
-/// nothing is said of what was printed.
+/// in pieces. A fault of the text is reported after the lines of all parts that are whole before it. After a fault of the
+/// shelf, or when out of memory, the lines of the first parts are printed, or of none; after a failed write a first part
+/// of such lines. Over a shelf that doesn't report its pages nothing is said of what was printed.
 pub fn print_feed<S: Shelf, K: Sink>(
     alloc: Global,
     shelf: &mut S,
@@ -107,10 +107,12 @@ pub fn print_feed<S: Shelf, K: Sink>(
     ensures same { S.pages shelf.new ≡ S.pages shelf.old }
 
     // What is said of the page and of what was printed, where pages are reported.
-    ensures reported { (reported : Pages) → S.pages shelf.old ≡ Some reported → FeedStates (page_of reported name.now) (K.taken sink.old) (K.taken sink.new) result }
+    ensures reported { (reported : Pages) → S.pages shelf.old ≡ Some reported
+        → FeedStates (page_of reported name.now) (K.taken sink.old) (K.taken sink.new) result }
 
     // Nothing else is said of that page than of the page read whole.
-    ensures whole { (reported : Pages) (page : List ℕ) (answer : Res ThePublication TheTextFault) → S.pages shelf.old ≡ Some reported → page_of reported name.now ≡ Some page → IsOutcome page answer → SameAsRead answer result }
+    ensures whole { (reported : Pages) (page : List ℕ) (answer : Res ThePublication TheTextFault)
+        → S.pages shelf.old ≡ Some reported → page_of reported name.now ≡ Some page → IsOutcome page answer → SameAsRead answer result }
 
     // The shelf is asked for no other page: one call names a page, and each further one is for a piece, at most one for
     // each byte that was given, and one.

@@ -24,7 +24,8 @@ none_out z b f e = omega (arith, ints, if_none (b.from == z) f e, if_none (b.to 
 
 starts_within : (slots : List Slot) → All (λ (s : Slot). s.low ≤ℤ s.high) slots → AllZip IsWithinSlot slots (lows slots)
 starts_within [] a = tt
-starts_within (s ∷ ss) a = let h = All-head (λ (s : Slot). s.low ≤ℤ s.high) s ss a in (record { least = omega (arith, ints); most = h }, starts_within ss (All-tail (λ (s : Slot). s.low ≤ℤ s.high) s ss a))
+starts_within (s ∷ ss) a =
+    let h = All-head (λ (s : Slot). s.low ≤ℤ s.high) s ss a in (record { least = omega (arith, ints); most = h }, starts_within ss (All-tail (λ (s : Slot). s.low ≤ℤ s.high) s ss a))
 
 stand_ins_within : (slots : List Slot) → AllZip IsWithinSlot (stand_ins_for slots) (offsets slots)
 stand_ins_within [] = tt
@@ -50,7 +51,8 @@ pub starts_running : (n : ℕ) (slots : List Slot) (bs : List Border) (fs : List
     → All (λ (s : Slot). s.low ≤ℤ s.high) slots → length bs ≡ length fs → ((k : ℕ) → get_or fs k (pos 0) ≡ pos 0)
     → IsRunning n (slots ++ stand_ins_for slots) bs (lows slots ++ offsets slots) fs
 starts_running n slots bs fs a e none =
-    let all : AllZip IsWithinSlot (slots ++ stand_ins_for slots) (lows slots ++ offsets slots) = zip_append IsWithinSlot slots (stand_ins_for slots) (lows slots) (offsets slots) (starts_within slots a) (stand_ins_within slots) in
+    let all : AllZip IsWithinSlot (slots ++ stand_ins_for slots) (lows slots ++ offsets slots) =
+    zip_append IsWithinSlot slots (stand_ins_for slots) (lows slots) (offsets slots) (starts_within slots a) (stand_ins_within slots) in
     record {
       amounts_long = sym (zip_long IsWithinSlot (slots ++ stand_ins_for slots) (lows slots ++ offsets slots) all);
       flows_long = sym e;

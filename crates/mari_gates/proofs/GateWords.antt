@@ -48,7 +48,8 @@ word_of_marks m a x v e bits = ap (λ (n : ℕ). map (bit_of x) (range_with_len 
 
 pub marks_feasible : (m : Market) (a : Activation) (x : Prefix) → IsValid m → IsFeasible m a → x.length ≡ length m.gates → ((g : ℕ) → g < 512 → bit_of x g ≡ is_open m a g) → IsFeasiblePrefix m x
 marks_feasible m a x v f e bits = record {
-  word = subst (IsFeasibleWord m.gates) (sym (word_of_marks m a x v e bits)) (word_is_feasible m.gates (gate_word_of m a) (is_open m a) (parents_earlier m v) (begins_own m a) f.gates (omega (arith, length-gate_word_of m a)));
+  word = subst (IsFeasibleWord m.gates) (sym (word_of_marks m a x v e bits))
+      (word_is_feasible m.gates (gate_word_of m a) (is_open m a) (parents_earlier m v) (begins_own m a) f.gates (omega (arith, length-gate_word_of m a)));
   rest = λ g past l. bits g l ∙ none_past m.zones (length m.gates) g m.orders a.mw v.orders (omega (arith, e, past));
 }
 

@@ -76,7 +76,8 @@ waiting_sibling gates x y z b e closed may child =
     ap (λ (w : List Bool). w ∷ waiting_after gates w) child
     ∙ ap (λ (ws : List (List Bool)). (word_of y ++ true ∷ []) ∷ ws) (waiting_push gates (word_of y) true)
     ∙ sym
-    (ap (waiting_after gates) e ∙ waiting_push gates (word_of y) b ∙ ap (λ (c : Bool). (if c then [] else opened_child gates (word_of y)) ++ waiting_after gates (word_of y)) closed ∙ ap (λ (ws : List (List Bool)). ws ++ waiting_after gates (word_of y)) may)
+    (ap (waiting_after gates) e ∙ waiting_push gates (word_of y) b ∙ ap (λ (c : Bool). (if c then [] else opened_child gates (word_of y)) ++ waiting_after gates (word_of y)) closed
+    ∙ ap (λ (ws : List (List Bool)). ws ++ waiting_after gates (word_of y)) may)
 
 -- the first child of a branch, and what is left after it
 pub first_child : (gates : List GateInfo) (x y : Prefix) → word_of y ≡ word_of x ++ false ∷ [] → left_at gates (Some y) ≡ children gates (word_of x) ++ waiting_after gates (word_of x)

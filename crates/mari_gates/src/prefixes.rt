@@ -114,7 +114,8 @@ pub fn may_branch_up(market: &Market, prefix: &Prefix) -> bool
     requires undecided { prefix.now.length < length market.now.gates }
     ensures may_open { IsTrue result ↔ IsFeasibleWord market.now.gates (word_of prefix.now ++ true ∷ []) }
     ensures may_close { IsFeasibleWord market.now.gates (word_of prefix.now ++ false ∷ []) }
-    ensures children { children market.now.gates (word_of prefix.now) ≡ (word_of prefix.now ++ false ∷ []) ∷ (if result then (word_of prefix.now ++ true ∷ []) ∷ [] else []) }
+    ensures children { children market.now.gates (word_of prefix.now)
+        ≡ (word_of prefix.now ++ false ∷ []) ∷ (if result then (word_of prefix.now ++ true ∷ []) ∷ [] else []) }
 {
     may_open_next(market.gates.as_slice(), prefix, prefix.length)
 }

@@ -44,9 +44,15 @@ impl Model for Seat {
 
     ghost Value = { SeatView };
 
-    ghost view = { λ s. record { incumbent = record { table = s.place.table_id; first = s.place.me.0.first; all = s.place.me.0.all }; seen = s.seen; offered = s.offered; parts = s.place.me.0.parts } };
+    ghost view = { λ s. record {
+      incumbent = record { table = s.place.table_id; first = s.place.me.0.first; all = s.place.me.0.all };
+      seen = s.seen;
+      offered = s.offered;
+      parts = s.place.me.0.parts;
+    } };
 
-    ghost invariant = { λ s. (s.place.me ≡ (view_of s.place.me.0.first s.place.me.0.all s.seen s.offered s.place.me.0.parts, [])) × (0 < s.place.me.0.parts) × (s.place.me.0.first ≤ s.offered) × (s.offered ≤ s.seen) };
+    ghost invariant = { λ s. (s.place.me ≡ (view_of s.place.me.0.first s.place.me.0.all s.seen s.offered s.place.me.0.parts, [])) × (0 < s.place.me.0.parts)
+        × (s.place.me.0.first ≤ s.offered) × (s.offered ≤ s.seen) };
 }
 
 impl Seat {

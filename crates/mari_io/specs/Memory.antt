@@ -79,7 +79,13 @@ after_fetch s result = record (after_call s result) { named = counted s.named }
 
 -- the shelf after a page was opened or not
 abbrev pub after_open : {T : Type 0} → ShelfState → List ℕ → Result T Fetch → ShelfState
-after_open s name (Ok done) = record s { calls = counted s.calls; named = counted s.named; is_open = true; left = unwrap_or (page_of s.pages name) []; given = 0 }
+after_open s name (Ok done) = record s {
+  calls = counted s.calls;
+  named = counted s.named;
+  is_open = true;
+  left = unwrap_or (page_of s.pages name) [];
+  given = 0;
+}
 after_open s name (Err fault) = after_fetch s (refusal fault)
 
 -- how many bytes the next piece has: the least of what a piece may have, what is left, and what may still be given

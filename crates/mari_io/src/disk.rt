@@ -40,7 +40,15 @@ impl<R: Files + Drop> Model for DiskShelf<R> {
 
     ghost Value = { DiskCounts };
 
-    ghost view = { λ s. record { calls = s.calls; named = s.named; faults = s.faults; misses = s.misses; overs = s.overs; is_open = is_some s.file; given = s.given } };
+    ghost view = { λ s. record {
+      calls = s.calls;
+      named = s.named;
+      faults = s.faults;
+      misses = s.misses;
+      overs = s.overs;
+      is_open = is_some s.file;
+      given = s.given;
+    } };
 
     ghost invariant = { λ s. s.given ≤ MOST_GIVEN };
 }

@@ -36,9 +36,22 @@ impl Model for MemoryShelf {
 
     ghost Value = { ShelfState };
 
-    ghost view = { λ s. record { pages = pages_of s.pages.items; plan = s.plan; calls = s.calls; named = s.named; faults = s.faults; misses = s.misses; overs = s.overs; piece = s.piece; is_open = is_some s.opened; left = left_of s.pages.items s.opened s.given; given = s.given } };
+    ghost view = { λ s. record {
+      pages = pages_of s.pages.items;
+      plan = s.plan;
+      calls = s.calls;
+      named = s.named;
+      faults = s.faults;
+      misses = s.misses;
+      overs = s.overs;
+      piece = s.piece;
+      is_open = is_some s.opened;
+      left = left_of s.pages.items s.opened s.given;
+      given = s.given;
+    } };
 
-    ghost invariant = { λ s. (1 ≤ s.piece) × (s.piece ≤ MOST_PIECE) × (s.given ≤ MOST_GIVEN) × IfSome s.opened (λ place. (place < length s.pages.items) × (s.given ≤ length (bytes_of s.pages.items place))) };
+    ghost invariant = { λ s. (1 ≤ s.piece) × (s.piece ≤ MOST_PIECE) × (s.given ≤ MOST_GIVEN)
+        × IfSome s.opened (λ place. (place < length s.pages.items) × (s.given ≤ length (bytes_of s.pages.items place))) };
 }
 
 impl MemoryShelf {
@@ -99,7 +112,8 @@ impl Shelf for MemoryShelf {
         // What was read.
         ensures ok { OnOk result (AppendsAtMost MOST_PAGE into.old.items into.new.items) }
         ensures err { OnErr result (into.new.items ≡ into.old.items) }
-        ensures reported { (reported : Pages) → Some self.old.pages ≡ Some reported → FetchStates (page_of reported name.now) into.old.items into.new.items result }
+        ensures reported { (reported : Pages) → Some self.old.pages ≡ Some reported
+            → FetchStates (page_of reported name.now) into.old.items into.new.items result }
 
         // Why nothing was.
         ensures failed { Counts (IsErrOf result Failed) self.old.faults self.new.faults }

@@ -56,7 +56,8 @@ pub struct Page {
 
 /// The place of the first page of that name.
 pub fn find_page(pages: &[Page], name: &str) -> Option<usize>
-    ensures { MatchOption result (page_of (pages_of pages.now) name.now ≡ None) (λ i. (i < length pages.now) × (page_of (pages_of pages.now) name.now ≡ Some (bytes_of pages.now i))) }
+    ensures { MatchOption result (page_of (pages_of pages.now) name.now ≡ None)
+        (λ i. (i < length pages.now) × (page_of (pages_of pages.now) name.now ≡ Some (bytes_of pages.now i))) }
 {
     for (i, page) in pages.iter().enumerate() {
         if page.name.as_str() == name {

@@ -142,7 +142,8 @@ pub record HasHeads (m : Market) (first : ℕ → ℕ) : Type 0 where
   pub below : (z : ℕ) → z < m.zones → first z < m.zones
   pub own : (z : ℕ) → z < m.zones → first (first z) ≡ first z
 
-module _ (m : Market) (first : ℕ → ℕ) (v : IsValid m) (s : Splits m first) (heads : HasHeads m first) (a : Activation) (long : HasLengths m a) (still : AllZip (IsStill first) m.borders a.flow) (each : InEach IsAdmissible m first a) where
+module _ (m : Market) (first : ℕ → ℕ) (v : IsValid m) (s : Splits m first) (heads : HasHeads m first) (a : Activation) (long : HasLengths m a) (still : AllZip (IsStill first) m.borders a.flow)
+    (each : InEach IsAdmissible m first a) where
   -- the prices of the island f
   abbrev OfIsland : ℕ → List Cents → Type 0
   OfIsland f qs = IsConsistent (island_of m first f) (own_of m first f a) qs
@@ -200,7 +201,8 @@ module _ (m : Market) (first : ℕ → ℕ) (v : IsValid m) (s : Splits m first)
 
   each_order : AllZip (λ o q. (z : Zone m) → AgreesThere z o q) m.orders a.mw
   unfolding AgreesThere
-  each_order = AllZip-each AgreesThere m.orders a.mw (sym long.orders) (λ z. from_beside (is_order_in (inside first (first z.0))) (order_among (zones_of m first (first z.0)) (gates_of m first (first z.0)))
+  each_order =
+      AllZip-each AgreesThere m.orders a.mw (sym long.orders) (λ z. from_beside (is_order_in (inside first (first z.0))) (order_among (zones_of m first (first z.0)) (gates_of m first (first z.0)))
       (IsConsistentOrder (is_open (island_of m first (first z.0)) (own_of m first (first z.0) a)) (of_island (first z.0))) m.orders a.mw long.orders (of_island_is z.0 z.1).orders)
 
   orders_agree : AllZip (IsConsistentOrder (is_open m a) joined_prices) m.orders a.mw
@@ -208,7 +210,8 @@ module _ (m : Market) (first : ℕ → ℕ) (v : IsValid m) (s : Splits m first)
   orders_agree = AllZip-both (λ o q. Contains m.orders o) (λ o q. (z : Zone m) → AgreesThere z o q) (IsConsistentOrder (is_open m a) joined_prices)
       (λ o q h e.
       let valid = All-contains (IsValidOrder m.zones (length m.gates)) m.orders o v.orders h in
-      order_from m first (first o.zone) v s a long.orders joined_prices (of_island (first o.zone)) (joined_agree (first o.zone)) o q h refl (e (o.zone, valid.zone) (eq-eqb (first o.zone) (first o.zone) refl)))
+      order_from m first (first o.zone) v s a long.orders joined_prices (of_island (first o.zone)) (joined_agree (first o.zone)) o q h refl
+      (e (o.zone, valid.zone) (eq-eqb (first o.zone) (first o.zone) refl)))
       m.orders a.mw (side_all (Contains m.orders) m.orders a.mw long.orders (All-contains_itself m.orders)) each_order
 
   FlowsThere : Zone m → Border → ℤ → Type 0
@@ -218,7 +221,8 @@ module _ (m : Market) (first : ℕ → ℕ) (v : IsValid m) (s : Splits m first)
   unfolding FlowsThere
   each_border =
       AllZip-each FlowsThere m.borders a.flow (sym long.borders)
-      (λ z. from_beside (is_border_in (inside first (first z.0))) (border_among (zones_of m first (first z.0))) (IsConsistentBorder (of_island (first z.0))) m.borders a.flow long.borders (of_island_is z.0 z.1).borders)
+      (λ z. from_beside (is_border_in (inside first (first z.0))) (border_among (zones_of m first (first z.0))) (IsConsistentBorder (of_island (first z.0))) m.borders a.flow long.borders
+      (of_island_is z.0 z.1).borders)
 
   -- over a border between two islands nothing can flow
   IsClosed : Border → ℤ → Type 0
@@ -244,7 +248,8 @@ module _ (m : Market) (first : ℕ → ℕ) (v : IsValid m) (s : Splits m first)
   borders_agree : AllZip (IsConsistentBorder joined_prices) m.borders a.flow
   borders_agree = AllZip-both (λ b q. IsValidBorder m.zones b × (IsClosed b q × IsStill first b q)) (λ b q. (z : Zone m) → FlowsThere z b q) (IsConsistentBorder joined_prices) border_agrees
       m.borders a.flow
-      (AllZip-with (IsValidBorder m.zones) (λ b q. IsClosed b q × IsStill first b q) m.borders a.flow v.borders (AllZip-both IsClosed (IsStill first) (λ b q. IsClosed b q × IsStill first b q) (λ b q c k. (c, k)) m.borders a.flow limits_closed still))
+      (AllZip-with (IsValidBorder m.zones) (λ b q. IsClosed b q × IsStill first b q) m.borders a.flow v.borders
+      (AllZip-both IsClosed (IsStill first) (λ b q. IsClosed b q × IsStill first b q) (λ b q c k. (c, k)) m.borders a.flow limits_closed still))
       each_border
 
   -- what is admissible in each island is so in the whole

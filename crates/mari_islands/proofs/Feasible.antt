@@ -38,7 +38,8 @@ same_gated : (b : Bool) (zones gates : List ℕ) (o : Order) → gated_span (if 
 same_gated true zones gates o = refl
 same_gated false zones gates o = refl
 
-same_span : (opens own : ℕ → Bool) (zones gates : List ℕ) (gate : Option ℕ) (o : Order) → ((g : ℕ) → gate ≡ Some g → (j : ℕ) × (place_in gates g ≡ Some j) × (own j ≡ opens g)) → span_of (λ j. if own j then Open else Closed) (option_and_then (place_in gates) gate) (order_among zones gates o) ≡ span_of (λ g. if opens g then Open else Closed) gate o
+same_span : (opens own : ℕ → Bool) (zones gates : List ℕ) (gate : Option ℕ) (o : Order) → ((g : ℕ) → gate ≡ Some g → (j : ℕ) × (place_in gates g ≡ Some j) × (own j ≡ opens g))
+    → span_of (λ j. if own j then Open else Closed) (option_and_then (place_in gates) gate) (order_among zones gates o) ≡ span_of (λ g. if opens g then Open else Closed) gate o
 same_span opens own zones gates None o h = refl
 same_span opens own zones gates (Some g) o h =
     let k = h g refl in
@@ -67,7 +68,8 @@ module _ (m : Market) (first : ℕ → ℕ) (f : ℕ) (v : IsValid m) (s : Split
   same_zone i z own y l e =
       let k = zone_is_at m first f y l e in
       elim (cases_eq y z) [
-        | inl same ↦ eq-eqb _ _ (one_place (zones_of m first f) z (place_of (zones_of m first f) y) i (subst (λ (x : ℕ). IsPlace (zones_of m first f) x (place_of (zones_of m first f) y)) same k.place) own.place) ∙ sym (eq-eqb y z same)
+        | inl same ↦ eq-eqb _ _ (one_place (zones_of m first f) z (place_of (zones_of m first f) y) i
+            (subst (λ (x : ℕ). IsPlace (zones_of m first f) x (place_of (zones_of m first f) y)) same k.place) own.place) ∙ sym (eq-eqb y z same)
         | inr apart ↦ ne_eqb _ _ (λ same. apart (sym k.place.read ∙ ap (λ (n : ℕ). get_or (zones_of m first f) n 0) same ∙ own.place.read)) ∙ sym (ne_eqb y z apart)
       ]
 
@@ -150,7 +152,8 @@ module _ (m : Market) (first : ℕ → ℕ) (f : ℕ) (v : IsValid m) (s : Split
       let gs = gates_of m first f in
       let l = group_within m first f i k is in
       let r = group_within m first f j k js in
-      let same : get_or gs i 0 ≡ get_or gs j 0 = fe.gates.groups (get_or gs i 0) (get_or gs j 0) k (sym (open_at i l) ∙ d) (sym (open_at j r) ∙ e) (sym (group_info m first f i l) ∙ is) (sym (group_info m first f j r) ∙ js) in
+      let same : get_or gs i 0 ≡ get_or gs j 0 =
+      fe.gates.groups (get_or gs i 0) (get_or gs j 0) k (sym (open_at i l) ∙ d) (sym (open_at j r) ∙ e) (sym (group_info m first f i l) ∙ is) (sym (group_info m first f j r) ∙ js) in
       one_place gs (get_or gs j 0) i j (subst (λ (g : ℕ). IsPlace gs g i) same (gate_at m first f i l).place) (gate_at m first f j r).place
 
   pub own_feasible : IsFeasible (island_of m first f) (own_of m first f a)
@@ -161,7 +164,8 @@ module _ (m : Market) (first : ℕ → ℕ) (f : ℕ) (v : IsValid m) (s : Split
         (λ o q t h. subst (λ (span : Span). IsWithin span q) (sym (bounds_same m first f v s a long o h.0 (eqb-true _ _ t))) h.1)
         m.orders a.mw (AllZip-with (Contains m.orders) (λ o q. IsWithin (own_bounds m a o) q) m.orders a.mw (All-contains_itself m.orders) fe.orders);
     gates = record { parents = parent_open; groups = one_of_group };
-    borders = all_beside (is_border_in (inside first f)) (border_among (zones_of m first f)) IsWithinLimits IsWithinLimits (λ b q t w. record { back = w.back; limit = w.limit }) m.borders a.flow fe.borders;
+    borders =
+        all_beside (is_border_in (inside first f)) (border_among (zones_of m first f)) IsWithinLimits IsWithinLimits (λ b q t w. record { back = w.back; limit = w.limit }) m.borders a.flow fe.borders;
     balance = λ i l.
         let own = zone_at m first f i l in
         let z = get_or (zones_of m first f) i 0 in

@@ -54,7 +54,13 @@ module _ (m : Market) (first : ℕ → ℕ) (v : IsValid m) (s : Splits m first)
   pub whole_optimal : (a : Activation) → IsAdmissible m a → InEach IsOptimal m first a → IsOptimal m a
   whole_optimal a h best = record {
     admissible = h;
-    greatest = λ b k. omega (arith, ints, welfare_sum m first v heads a (as_many m a h.feasible), welfare_sum m first v heads b (as_many m b k.feasible), sum_below-le m.zones (Counted b) (Counted a) (at_most a b best k));
+    greatest = λ b k. omega (
+      arith,
+      ints,
+      welfare_sum m first v heads a (as_many m a h.feasible),
+      welfare_sum m first v heads b (as_many m b k.feasible),
+      sum_below-le m.zones (Counted b) (Counted a) (at_most a b best k),
+    );
   }
 
   -- another optimal activation is optimal in each island
@@ -62,7 +68,8 @@ module _ (m : Market) (first : ℕ → ℕ) (v : IsValid m) (s : Splits m first)
   same_in_each a b h best k z l =
       let f : ℕ = first z in
       let more = k.greatest a h in
-      let tight = sum_below-tight m.zones (Counted b) (Counted a) (at_most a b best k.admissible) (omega (arith, ints, more, welfare_sum m first v heads a (as_many m a h.feasible), welfare_sum m first v heads b (as_many m b k.admissible.feasible))) f (heads.below z l) in
+      let tight = sum_below-tight m.zones (Counted b) (Counted a) (at_most a b best k.admissible)
+      (omega (arith, ints, more, welfare_sum m first v heads a (as_many m a h.feasible), welfare_sum m first v heads b (as_many m b k.admissible.feasible))) f (heads.below z l) in
       let one = cond-true (is_head first f) (pos 1) (pos 0) (eq-eqb (first f) f (heads.own z l)) in
       let reached : welfare_in m first v heads a f ≤ℤ welfare_in m first v heads b f = uncounted (counts (is_head first) f) _ _ one tight in
       record {

@@ -86,7 +86,8 @@ at_end xs n z e = ap (slice_index (xs ++ z ∷ [])) (sym e) ∙ get_or-append_se
 before_end : (xs : List ℕ) (n z k : ℕ) → length xs ≡ n → k < n → slice_index (xs ++ z ∷ []) k ≡ slice_index xs k
 before_end xs n z k e l = get_or_append_left xs (z ∷ []) 0 k (omega (arith, e, l))
 
-module _ (m : Market) (homes : List ℕ) (is : AreHomes m homes) (n : ℕ) (l : n < length m.gates) (old new : ℕ → Option ℕ) (mates : List ℕ) (zone : ℕ) (h : AreMatesOf m n old mates) (k : KeepsMates old new (group_of m.gates n) (slice_index homes n) zone) where
+module _ (m : Market) (homes : List ℕ) (is : AreHomes m homes) (n : ℕ) (l : n < length m.gates) (old new : ℕ → Option ℕ) (mates : List ℕ) (zone : ℕ) (h : AreMatesOf m n old mates)
+    (k : KeepsMates old new (group_of m.gates n) (slice_index homes n) zone) where
   own : HasGate m (slice_index homes n) n
   own = is.there n l
 

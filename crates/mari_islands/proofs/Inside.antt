@@ -79,7 +79,8 @@ gate_below m o g v h e =
 pub gate_place : (m : Market) (first : ℕ → ℕ) (f : ℕ) (o : Order) (g : ℕ) → IsValid m → Contains m.orders o → first o.zone ≡ f → o.gate ≡ Some g → (j : ℕ) × IsPlace (gates_of m first f) g j
 gate_place m first f o g v h i e =
     let own : Contains (orders_of m first f) o = contains_filter (is_order_in (inside first f)) m.orders o h (eq-eqb (first o.zone) f i) in
-    let used : is_gate_of (orders_of m first f) g ≡ true = list_any-from_Any (λ (o : Order). is_gate g o.gate) (orders_of m first f) (any_from_contains (λ (o : Order). is_gate g o.gate ≡ true) (orders_of m first f) o own (names_gate g o.gate e)) in
+    let used : is_gate_of (orders_of m first f) g ≡ true =
+    list_any-from_Any (λ (o : Order). is_gate g o.gate) (orders_of m first f) (any_from_contains (λ (o : Order). is_gate g o.gate ≡ true) (orders_of m first f) o own (names_gate g o.gate e)) in
     place_there (gates_of m first f) g (gates_rise m first f) (number_there (is_gate_of (orders_of m first f)) (length m.gates) g (gate_below m o g v h e) used)
 
 -- a gate of the island by its number there, with an order of it

@@ -101,7 +101,8 @@ module _ (m : Market) (islands : List Island) (v : IsValid m) (h : AreIslands m 
   -- what holds of the island of each first zone holds of all islands
   pub all_islands : (P : Island → Type 0) → ((f : ℕ) → f < m.zones → first_of f ≡ f → P (part_at f)) → All P islands
   all_islands P each = subst (All P) (sym h.parts) (All-map P part_at (first_zones h.firsts) (each_kept (λ z. has_first h.firsts z z) (λ f. P (part_at f)) (range_with_len 0 (length h.firsts))
-      (λ f c t. each f (let less = All-contains (λ i. i < length h.firsts) (range_with_len 0 (length h.firsts)) f (range_below (length h.firsts)) c in omega (arith, less, h.are_firsts.one_each)) (eqb-true _ _ t))))
+      (λ f c t. each f (let less = All-contains (λ i. i < length h.firsts) (range_with_len 0 (length h.firsts)) f (range_below (length h.firsts)) c in omega (arith, less, h.are_firsts.one_each))
+      (eqb-true _ _ t))))
 
   -- and the other way about
   pub at_island : (P : Island → Type 0) → All P islands → (z : ℕ) → z < m.zones → P (part_at (first_of z))
@@ -169,8 +170,10 @@ module _ (m : Market) (islands : List Island) (v : IsValid m) (h : AreIslands m 
   certified_first a trees c =
       let valid = side_all (λ (i : Island). IsValid i.market) islands trees (AllZip-long (HoldsInIsland a) islands trees c.hold) islands_valid in
       let adm = side_all (λ (i : Island). IsAdmissible i.market (activation_in i a)) islands trees (AllZip-long (HoldsInIsland a) islands trees c.hold) (islands_admissible a c.admissible) in
-      let both = AllZip-both (λ (i : Island) (tree : List TreeItem). IsAdmissible i.market (activation_in i a)) (HoldsInIsland a) (λ (i : Island) (tree : List TreeItem). IsAdmissible i.market (activation_in i a) × HoldsInIsland a i tree) (λ i tree k h. (k, h)) islands trees adm c.hold in
-      let firsts = AllZip-both (λ (i : Island) (tree : List TreeItem). IsValid i.market) (λ (i : Island) (tree : List TreeItem). IsAdmissible i.market (activation_in i a) × HoldsInIsland a i tree) (λ (i : Island) (tree : List TreeItem). IsFirst i.market (activation_in i a))
+      let both = AllZip-both (λ (i : Island) (tree : List TreeItem). IsAdmissible i.market (activation_in i a)) (HoldsInIsland a)
+      (λ (i : Island) (tree : List TreeItem). IsAdmissible i.market (activation_in i a) × HoldsInIsland a i tree) (λ i tree k h. (k, h)) islands trees adm c.hold in
+      let firsts = AllZip-both (λ (i : Island) (tree : List TreeItem). IsValid i.market) (λ (i : Island) (tree : List TreeItem). IsAdmissible i.market (activation_in i a) × HoldsInIsland a i tree)
+      (λ (i : Island) (tree : List TreeItem). IsFirst i.market (activation_in i a))
       (λ i tree k h. first_by_tree i.market (activation_in i a) tree k h.0 h.1) islands trees valid both in
       joined_first a (lengths_of a c.admissible.feasible) (flows_still m first_of a are_split c.admissible.feasible)
       (all_first (λ (i : Island). IsFirst i.market (activation_in i a)) islands trees firsts)

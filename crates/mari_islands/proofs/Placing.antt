@@ -34,7 +34,8 @@ pub map_same : {Y : Type 0} (f g : ℕ → Y) (ks : List ℕ) → All (λ k. f k
 map_same f g [] h = refl
 map_same {Y} f g (k ∷ ks) h = ap (λ (y : Y). y ∷ map f ks) (All-head (λ k. f k ≡ g k) k ks h) ∙ ap (λ (ys : List Y). g k ∷ ys) (map_same f g ks (All-tail (λ k. f k ≡ g k) k ks h))
 
-module _ {Y : Type 0} (d : Y) (xs : List Y) (numbers : List ℕ) (own : List Y) (i : ℕ) (v : Y) (rise : Rises numbers) (l : i < length numbers) (lo : i < length own) (there : get_or numbers i 0 < length xs) (is : v ≡ get_or own i d) where
+module _ {Y : Type 0} (d : Y) (xs : List Y) (numbers : List ℕ) (own : List Y) (i : ℕ) (v : Y) (rise : Rises numbers) (l : i < length numbers) (lo : i < length own)
+    (there : get_or numbers i 0 < length xs) (is : v ≡ get_or own i d) where
   here : ℕ
   here = get_or numbers i 0
 
@@ -136,11 +137,13 @@ module _ (m : Market) (islands : List Island) (v : IsValid m) (h : AreIslands m 
 
   pub orders_long : All (λ (i : Island). length i.orders ≡ length i.market.orders) islands
   orders_long = all_islands m islands v h (λ i. length i.orders ≡ length i.market.orders) (λ f l e.
-      length_places (is_order_in (inside (first_of m islands v h) f)) m.orders 0 ∙ sym (length-map (filter (is_order_in (inside (first_of m islands v h) f)) m.orders) (order_among (zones_of m (first_of m islands v h) f) (gates_of m (first_of m islands v h) f))))
+      length_places (is_order_in (inside (first_of m islands v h) f)) m.orders 0
+      ∙ sym (length-map (filter (is_order_in (inside (first_of m islands v h) f)) m.orders) (order_among (zones_of m (first_of m islands v h) f) (gates_of m (first_of m islands v h) f))))
 
   pub borders_long : All (λ (i : Island). length i.borders ≡ length i.market.borders) islands
   borders_long = all_islands m islands v h (λ i. length i.borders ≡ length i.market.borders) (λ f l e.
-      length_places (is_border_in (inside (first_of m islands v h) f)) m.borders 0 ∙ sym (length-map (filter (is_border_in (inside (first_of m islands v h) f)) m.borders) (border_among (zones_of m (first_of m islands v h) f))))
+      length_places (is_border_in (inside (first_of m islands v h) f)) m.borders 0
+      ∙ sym (length-map (filter (is_border_in (inside (first_of m islands v h) f)) m.borders) (border_among (zones_of m (first_of m islands v h) f))))
 
   -- ---- the loop over islands
 
@@ -159,14 +162,17 @@ module _ (m : Market) (islands : List Island) (v : IsValid m) (h : AreIslands m 
       → ArePlaced (take (i + 1) islands) (take (i + 1) clearings) mws flows
   placed_more clearings i d c mw flow mws flows l lc so_far p = record {
     parts = AllZip_more (λ (e : Island) (c : Clearing). activation_in e (activation_of mws flows) ≡ c.activation) islands clearings i d c l lc
-        (AllZip-both (λ (e : Island) (c : Clearing). AreDisjoint e (get_or islands i d)) (λ (e : Island) (c : Clearing). activation_in e (activation_of mw flow) ≡ c.activation) (λ (e : Island) (c : Clearing). activation_in e (activation_of mws flows) ≡ c.activation)
+        (AllZip-both (λ (e : Island) (c : Clearing). AreDisjoint e (get_or islands i d)) (λ (e : Island) (c : Clearing). activation_in e (activation_of mw flow) ≡ c.activation)
+        (λ (e : Island) (c : Clearing). activation_in e (activation_of mws flows) ≡ c.activation)
         (λ e c apart old. activation_same e (get_or islands i d) _ mw flow mws flows apart p ∙ old)
-        (take i islands) (take i clearings) (side_all (λ e. AreDisjoint e (get_or islands i d)) (take i islands) (take i clearings) (length-take-le i clearings (omega arith) ∙ sym (length-take-le i islands (omega arith))) (disjoint_before i d l)) so_far.parts)
+        (take i islands) (take i clearings) (side_all (λ e. AreDisjoint e (get_or islands i d)) (take i islands) (take i clearings)
+        (length-take-le i clearings (omega arith) ∙ sym (length-take-le i islands (omega arith))) (disjoint_before i d l)) so_far.parts)
         p.placed;
     apart = λ k none.
         let more = take_more islands i d l in
         let split : IsApart (take i islands ++ get_or islands i d ∷ []) k = subst (λ (is : List Island). IsApart is k) more none in
         p.other_flow k
         (All-contains (λ (e : Island). Contains e.borders k → ⊥) (take i islands ++ get_or islands i d ∷ []) (get_or islands i d) split (Contains-push (take i islands) (get_or islands i d)))
-        ∙ so_far.apart k (λ j e less. All-contains (λ (e : Island). Contains e.borders k → ⊥) (take i islands ++ get_or islands i d ∷ []) _ split (Contains-append_left (take i islands) (get_or islands i d ∷ []) _ (All-contains_itself (take i islands) j e less)));
+        ∙ so_far.apart k (λ j e less. All-contains (λ (e : Island). Contains e.borders k → ⊥) (take i islands ++ get_or islands i d ∷ []) _ split
+        (Contains-append_left (take i islands) (get_or islands i d ∷ []) _ (All-contains_itself (take i islands) j e less)));
   }

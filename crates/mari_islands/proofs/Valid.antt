@@ -68,8 +68,13 @@ module _ (m : Market) (first : ℕ → ℕ) (f : ℕ) (v : IsValid m) where
   gate_used j l =
       let g = gate_at m first f j l in
       let r : Order → Order = order_among (zones_of m first f) (gates_of m first f) in
-      let own : Contains (orders_of m first f) g.order = contains_filter (is_order_in (inside first f)) m.orders g.order g.of_market (eq-eqb _ _ g.inside) in
-      (own.0, r g.order, omega (arith, own.1, length-map (orders_of m first f) r), get_or-map r (orders_of m first f) own.0 g.order (r g.order) own.1 ∙ ap r own.2, ap (option_and_then (place_in (gates_of m first f))) g.of_gate ∙ g.place.found)
+      let own : Contains (orders_of m first f) g.order = contains_filter (is_order_in (inside first f)) m.orders g.order g.of_market (eq-eqb _ _ g.inside) in (
+        own.0,
+        r g.order,
+        omega (arith, own.1, length-map (orders_of m first f) r),
+        get_or-map r (orders_of m first f) own.0 g.order (r g.order) own.1 ∙ ap r own.2,
+        ap (option_and_then (place_in (gates_of m first f))) g.of_gate ∙ g.place.found,
+      )
 
   -- the island of a zone that is there
   pub island_valid : (z : ℕ) → z < m.zones → first z ≡ f → IsValid (market_in m (inside first f))
@@ -78,8 +83,10 @@ module _ (m : Market) (first : ℕ → ℕ) (f : ℕ) (v : IsValid m) where
     few_borders = omega (arith, length-map (filter (is_border_in (inside first f)) m.borders) (border_among (zones_of m first f)), few_kept (is_border_in (inside first f)) m.borders, v.few_borders);
     few_orders = omega (arith, length-map (orders_of m first f) (order_among (zones_of m first f) (gates_of m first f)), few_kept (is_order_in (inside first f)) m.orders, v.few_orders);
     few_gates = omega (arith, length-map (gates_of m first f) (gate_among m.gates (gates_of m first f)), few_numbers (is_gate_of (orders_of m first f)) (length m.gates), v.few_gates);
-    borders = All-map (IsValidBorder (length (zones_of m first f))) (border_among (zones_of m first f)) (filter (is_border_in (inside first f)) m.borders) (each_kept (is_border_in (inside first f)) (λ b. IsValidBorder (length (zones_of m first f)) (border_among (zones_of m first f) b)) m.borders border_valid);
-    orders = All-map (IsValidOrder (length (zones_of m first f)) (length (infos_of m first f))) (order_among (zones_of m first f) (gates_of m first f)) (orders_of m first f) (each_kept (is_order_in (inside first f)) (λ o. IsValidOrder (length (zones_of m first f)) (length (infos_of m first f)) (order_among (zones_of m first f) (gates_of m first f) o)) m.orders order_valid);
+    borders = All-map (IsValidBorder (length (zones_of m first f))) (border_among (zones_of m first f)) (filter (is_border_in (inside first f)) m.borders)
+        (each_kept (is_border_in (inside first f)) (λ b. IsValidBorder (length (zones_of m first f)) (border_among (zones_of m first f) b)) m.borders border_valid);
+    orders = All-map (IsValidOrder (length (zones_of m first f)) (length (infos_of m first f))) (order_among (zones_of m first f) (gates_of m first f)) (orders_of m first f) (each_kept
+        (is_order_in (inside first f)) (λ o. IsValidOrder (length (zones_of m first f)) (length (infos_of m first f)) (order_among (zones_of m first f) (gates_of m first f) o)) m.orders order_valid);
     gates = λ j h. record {
       parent = λ k is. earlier j k (parent_at m first f j k is) (parent_within m first f j k is);
       used = gate_used j (omega (arith, h, length-map (gates_of m first f) (gate_among m.gates (gates_of m first f))));

@@ -37,7 +37,8 @@ InEach P m first a = (z : ℕ) → z < m.zones → P (island_of m first (first z
 still_within : (b : Border) (q : ℤ) → q ≡ pos 0 → IsWithinLimits b q
 still_within b q e = record { back = omega (arith, ints, e); limit = omega (arith, ints, e) }
 
-module _ (m : Market) (first : ℕ → ℕ) (v : IsValid m) (s : Splits m first) (a : Activation) (long : HasLengths m a) (still : AllZip (IsStill first) m.borders a.flow) (fe : InEach IsFeasible m first a) where
+module _ (m : Market) (first : ℕ → ℕ) (v : IsValid m) (s : Splits m first) (a : Activation) (long : HasLengths m a) (still : AllZip (IsStill first) m.borders a.flow)
+    (fe : InEach IsFeasible m first a) where
   InOwnBounds : Zone m → Order → ℕ → Type 0
   InOwnBounds z o q =
       is_order_in (inside first (first z.0)) o ≡ true → IsWithin
@@ -46,7 +47,8 @@ module _ (m : Market) (first : ℕ → ℕ) (v : IsValid m) (s : Splits m first)
 
   each_order : AllZip (λ o q. (z : Zone m) → InOwnBounds z o q) m.orders a.mw
   unfolding InOwnBounds
-  each_order = AllZip-each InOwnBounds m.orders a.mw (sym long.orders) (λ z. from_beside (is_order_in (inside first (first z.0))) (order_among (zones_of m first (first z.0)) (gates_of m first (first z.0)))
+  each_order =
+      AllZip-each InOwnBounds m.orders a.mw (sym long.orders) (λ z. from_beside (is_order_in (inside first (first z.0))) (order_among (zones_of m first (first z.0)) (gates_of m first (first z.0)))
       (λ o q. IsWithin (own_bounds (island_of m first (first z.0)) (own_of m first (first z.0) a) o) q) m.orders a.mw long.orders (fe z.0 z.1).orders)
 
   orders_within : AllZip (λ (o : Order) (q : ℕ). IsWithin (own_bounds m a o) q) m.orders a.mw
@@ -108,7 +110,8 @@ module _ (m : Market) (first : ℕ → ℕ) (v : IsValid m) (s : Splits m first)
       let o = open_order m a g e in
       let below : h < g = (v.gates g (gate_below m o.order g v o.of_market o.of_gate)).parent h is in
       let p = an_order h (omega (arith, below, gate_below m o.order g v o.of_market o.of_gate)) in
-      let same : first o.order.zone ≡ first p.order.zone = s.gates o.order.zone p.order.zone g h (has_gate m o.order g o.of_market o.of_gate) (has_gate m p.order h p.of_market p.of_gate) (is_parent is) in
+      let same : first o.order.zone ≡ first p.order.zone =
+      s.gates o.order.zone p.order.zone g h (has_gate m o.order g o.of_market o.of_gate) (has_gate m p.order h p.of_market p.of_gate) (is_parent is) in
       let f : ℕ = first o.order.zone in
       let j = own_gate_at f g o refl in
       let k = own_gate_at f h p (sym same) in
@@ -121,11 +124,13 @@ module _ (m : Market) (first : ℕ → ℕ) (v : IsValid m) (s : Splits m first)
   one_of_group g h k d e is his =
       let o = open_order m a g d in
       let p = open_order m a h e in
-      let same : first o.order.zone ≡ first p.order.zone = s.gates o.order.zone p.order.zone g h (has_gate m o.order g o.of_market o.of_gate) (has_gate m p.order h p.of_market p.of_gate) (same_group k is his) in
+      let same : first o.order.zone ≡ first p.order.zone =
+      s.gates o.order.zone p.order.zone g h (has_gate m o.order g o.of_market o.of_gate) (has_gate m p.order h p.of_market p.of_gate) (same_group k is his) in
       let f : ℕ = first o.order.zone in
       let i = own_gate_at f g o refl in
       let j = own_gate_at f h p (sym same) in
-      let one : i.0 ≡ j.0 = (fe o.order.zone (zone_there g o)).gates.groups i.0 j.0 k (i.1.open_same' ∙ d) (j.1.open_same' ∙ e) (own_group f g i.0 k i.1.place is) (own_group f h j.0 k j.1.place his) in
+      let one : i.0 ≡ j.0 =
+      (fe o.order.zone (zone_there g o)).gates.groups i.0 j.0 k (i.1.open_same' ∙ d) (j.1.open_same' ∙ e) (own_group f g i.0 k i.1.place is) (own_group f h j.0 k j.1.place his) in
       sym i.1.place.read ∙ ap (λ (n : ℕ). get_or (gates_of m first f) n 0) one ∙ j.1.place.read
 
   pub whole_feasible : IsFeasible m a

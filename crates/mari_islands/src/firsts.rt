@@ -28,7 +28,8 @@ fn unite(firsts: &mut [u32], zone: u32, other: u32)
     requires zone { zone < length firsts.old }
     requires other { other < length firsts.old }
     ensures { (z : ℕ) → z < length firsts.old → slice_index firsts.new z
-        ≡ lowered (min (slice_index firsts.old zone) (slice_index firsts.old other)) (max (slice_index firsts.old zone) (slice_index firsts.old other)) (slice_index firsts.old z) }
+        ≡ lowered (min (slice_index firsts.old zone) (slice_index firsts.old other)) (max (slice_index firsts.old zone) (slice_index firsts.old other))
+        (slice_index firsts.old z) }
 {
     let (one, two) = (firsts[zone as usize], firsts[other as usize]);
     if one == two {

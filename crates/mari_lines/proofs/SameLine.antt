@@ -157,7 +157,8 @@ same_fields (line.Zone g) (line.Zone h) r s k e =
     let greatest : price_text g.greatest ≡ price_text h.greatest = at 3 e in
     let area : decimal g.area ≡ decimal h.area = at 4 e in
     ap (λ x. line.Zone x)
-    (same_zoneline g h name (cents g.price h.price r.1 s.1 price) (cents g.least h.least r.2 s.2 least) (cents g.greatest h.greatest r.3 s.3 greatest) (below g.area h.area 64 r.4.1 s.4.1 (omega arith) area))
+    (same_zoneline g h name (cents g.price h.price r.1 s.1 price) (cents g.least h.least r.2 s.2 least) (cents g.greatest h.greatest r.3 s.3 greatest)
+    (below g.area h.area 64 r.4.1 s.4.1 (omega arith) area))
 same_fields (line.Border g) (line.Border h) r s k e =
     let from : g.from ≡ h.from = at 0 e in
     let to : g.to ≡ h.to = at 1 e in

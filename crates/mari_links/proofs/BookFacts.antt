@@ -179,7 +179,8 @@ module _ (bids : BidBook) where
           before = before;
           same_quarter = ap (quarter_of bids) (sym found.2) ∙ child.1.same_quarter ∙ ap (quarter_of bids) first;
           gated = gate-there bids (said_by bids rows) parent there
-              ∙ third-yes (above-none parent) (is-member parent) (is-linked parent) (found-any (λ (link : Link). link.first == bid) (λ (link : Link). (link.first == parent) || (link.second == parent)) children found.0 found.1
+              ∙ third-yes (above-none parent) (is-member parent) (is-linked parent)
+              (found-any (λ (link : Link). link.first == bid) (λ (link : Link). (link.first == parent) || (link.second == parent)) children found.0 found.1
               (rw (found.2, itself parent) (or-yes (found.0.first == parent))));
         }
 

@@ -125,7 +125,8 @@ impl LinksSoFar {
         requires sized { length self.now.entries.items ≡ length bids.now.ids }
         requires kind { kind_of line.now ≡ Some link.kind }
         requires link { link ≡ link_of bids.now line.now link.kind }
-        ensures { (said : Said) → HoldsLinks bids.now said self.now → option_map link_check_number result ≡ first_failing (place_checks bids.now said line.now) }
+        ensures { (said : Said) → HoldsLinks bids.now said self.now
+            → option_map link_check_number result ≡ first_failing (place_checks bids.now said line.now) }
     {
         if self.has_wrong_quarter(bids, line, link) {
             Some(LinkCheck::WrongQuarter)

@@ -44,9 +44,11 @@ order_agrees : (m : Market) (a : Activation) (ps : List Cents) (o : Order) (q : 
     → IsConsistentOrder (is_open m a) ps o q
 order_agrees m a ps o q k v s = record {
   lower = λ l. k.lower o.zone o.price.0 v.zone (inr (AnyZip-map (Stand o q) (SetsLowerAt (is_open m a) o.zone o.price.0)
-      (λ x y e. subst (λ (w : Order). SetsLowerAt (is_open m a) o.zone o.price.0 w y) (sym e.0) (subst (λ (w : ℕ). SetsLowerAt (is_open m a) o.zone o.price.0 o w) (sym e.1) (record { zone = refl; price = refl; sets = l }))) m.orders a.mw s));
+      (λ x y e. subst (λ (w : Order). SetsLowerAt (is_open m a) o.zone o.price.0 w y) (sym e.0)
+      (subst (λ (w : ℕ). SetsLowerAt (is_open m a) o.zone o.price.0 o w) (sym e.1) (record { zone = refl; price = refl; sets = l }))) m.orders a.mw s));
   upper = λ l. k.upper o.zone o.price.0 v.zone (inr (AnyZip-map (Stand o q) (SetsUpperAt (is_open m a) o.zone o.price.0)
-      (λ x y e. subst (λ (w : Order). SetsUpperAt (is_open m a) o.zone o.price.0 w y) (sym e.0) (subst (λ (w : ℕ). SetsUpperAt (is_open m a) o.zone o.price.0 o w) (sym e.1) (record { zone = refl; price = refl; sets = l }))) m.orders a.mw s));
+      (λ x y e. subst (λ (w : Order). SetsUpperAt (is_open m a) o.zone o.price.0 w y) (sym e.0)
+      (subst (λ (w : ℕ). SetsUpperAt (is_open m a) o.zone o.price.0 o w) (sym e.1) (record { zone = refl; price = refl; sets = l }))) m.orders a.mw s));
 }
 
 leads_at : (m : Market) (a : Activation) (y z : ℕ) (b : Border) (f : ℤ) → LeadsBy y z b f → AnyZip (Stand b f) m.borders a.flow → Leads m a y z
@@ -67,7 +69,8 @@ keeps_consistent m a ps v f k = record {
         let high = k.upper z CAP (omega (arith, k.one_each)) (inl refl) in
         subst (λ (c : Cents). IsPrice c.0) (get_or_default ps z (record { 0 = pos 0 }) d l) (record { low = low; high = high });
   };
-  orders = each_pair (IsValidOrder m.zones (length m.gates)) (IsConsistentOrder (is_open m a) ps) m.orders a.mw (AllZip-long _ m.orders a.mw f.orders) v.orders (λ o q h s. order_agrees m a ps o q k h s);
+  orders =
+      each_pair (IsValidOrder m.zones (length m.gates)) (IsConsistentOrder (is_open m a) ps) m.orders a.mw (AllZip-long _ m.orders a.mw f.orders) v.orders (λ o q h s. order_agrees m a ps o q k h s);
   borders = each_pair (IsValidBorder m.zones) (IsConsistentBorder ps) m.borders a.flow (AllZip-long _ m.borders a.flow f.borders) v.borders (λ b g h s. border_agrees m a ps b g k h s);
 }
 

@@ -81,7 +81,10 @@ priced c l = record { one_each = refl; capped = all_of (λ (p : Cents). IsPrice 
 pub first_admissible : IsAdmissible market first_bid
 first_admissible = record {
   feasible = record {
-    orders = (record { least = omega arith; most = omega arith }, (record { least = omega arith; most = omega arith }, (record { least = omega arith; most = omega arith }, (record { least = omega arith; most = omega arith }, tt))));
+    orders = (
+      record { least = omega arith; most = omega arith },
+      (record { least = omega arith; most = omega arith }, (record { least = omega arith; most = omega arith }, (record { least = omega arith; most = omega arith }, tt))),
+    );
     gates = two_gates (is_open market first_bid);
     borders = tt;
     balance = one_balance market first_bid refl refl;
@@ -105,7 +108,10 @@ first_admissible = record {
 pub second_admissible : IsAdmissible market second_bid
 second_admissible = record {
   feasible = record {
-    orders = (record { least = omega arith; most = omega arith }, (record { least = omega arith; most = omega arith }, (record { least = omega arith; most = omega arith }, (record { least = omega arith; most = omega arith }, tt))));
+    orders = (
+      record { least = omega arith; most = omega arith },
+      (record { least = omega arith; most = omega arith }, (record { least = omega arith; most = omega arith }, (record { least = omega arith; most = omega arith }, tt))),
+    );
     gates = two_gates (is_open market second_bid);
     borders = tt;
     balance = one_balance market second_bid refl refl;
@@ -141,7 +147,10 @@ tree_holds = (
   (
     omega arith,
     (
-      record { holds = record { prices = priced 5000 (omega arith); value = omega (arith, ints, clamps) }; early = λ e. record { prices = priced 5000 (omega arith); value = omega (arith, ints, clamps) } },
+      record {
+        holds = record { prices = priced 5000 (omega arith); value = omega (arith, ints, clamps) };
+        early = λ e. record { prices = priced 5000 (omega arith); value = omega (arith, ints, clamps) };
+      },
       (
         record { holds = record { prices = priced 3000 (omega arith); value = omega (arith, ints, clamps) }; early = λ e. absurd (not_before_itself (false ∷ true ∷ []) e) },
         (record { holds = record { prices = priced 3000 (omega arith); value = omega (arith, ints, clamps) }; early = λ e. absurd (opened_is_late e) }, tt),

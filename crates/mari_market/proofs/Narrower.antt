@@ -178,7 +178,8 @@ dual_narrower : (m : Market) (up low : Order → Span) (ps : List Cents) → IsV
     → ((o : Order) → IsValidOrder m.zones (length m.gates) o → IsNarrower (up o) (low o))
     → dual_value_of low m ps ≤ℤ dual_value_of up m ps
 dual_narrower m up low ps v n =
-    let orders = int_sum-le (best_order low ps) (best_order up ps) (IsValidOrder m.zones (length m.gates)) (λ o k. best_narrower (gain_per_mw o.side o.price.0 (price_at ps o.zone)) (up o) (low o) (n o k)) m.orders v.orders in
+    let orders = int_sum-le (best_order low ps) (best_order up ps) (IsValidOrder m.zones (length m.gates))
+    (λ o k. best_narrower (gain_per_mw o.side o.price.0 (price_at ps o.zone)) (up o) (low o) (n o k)) m.orders v.orders in
     omega (arith, ints, orders)
 
 least_rises : (side : Side) (s t : Span) → IsNarrower s t → least_put side s ≤ℤ least_put side t

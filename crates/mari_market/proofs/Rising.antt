@@ -58,7 +58,8 @@ rises_on price xs x up all i j d le l = elim (cases_lt j (length xs)) [
 ]
 
 -- the value of the last item below a price, with one item more at the end
-pub last_below_push : {X : Type 0} (price value : X → ℤ) (p before : ℤ) (xs : List X) (x : X) → last_below price value p before (xs ++ x ∷ []) ≡ (if lt_z (price x) p then value x else last_below price value p before xs)
+pub last_below_push : {X : Type 0} (price value : X → ℤ) (p before : ℤ) (xs : List X) (x : X)
+    → last_below price value p before (xs ++ x ∷ []) ≡ (if lt_z (price x) p then value x else last_below price value p before xs)
 last_below_push price value p before [] x = refl
 last_below_push price value p before (y ∷ ys) x = last_below_push price value p (if lt_z (price y) p then value y else before) ys x
 

@@ -53,8 +53,11 @@ each_visited : (m : Market) (Q : List Bool → Type 0) → ((word : List Bool) (
     → (words : List (List Bool)) (items : List PartItem) → Each Q words → Each Q (visited m words items)
 each_visited m Q h [] items a = tt
 each_visited m Q h (word ∷ words) [] a = tt
-each_visited m Q h (word ∷ words) (Branch ∷ items) a =
-    (a.0, each_visited m Q h (children m.gates word ++ words) items (each_append Q (children m.gates word) words (each_child Q word (may_open m.gates word (length word)) (h word false a.0) (h word true a.0)) a.1))
+each_visited m Q h (word ∷ words) (Branch ∷ items) a = (
+  a.0,
+  each_visited m Q h (children m.gates word ++ words) items
+      (each_append Q (children m.gates word) words (each_child Q word (may_open m.gates word (length word)) (h word false a.0) (h word true a.0)) a.1),
+)
 each_visited m Q h (word ∷ words) (Closed ∷ items) a = (a.0, each_visited m Q h words items a.1)
 each_visited m Q h (word ∷ words) (Pending ∷ items) a = (a.0, each_visited m Q h words items a.1)
 
@@ -71,7 +74,12 @@ apart_longer : (word other : List Bool) (b : Bool) → IsApart word other → Is
 apart_longer word other b h = record { gate = h.gate; decided = h.decided; closed = h.closed; opened = opens_longer other b h.gate h.opened }
 
 longer_apart : (word other : List Bool) (b : Bool) → IsApart word other → IsApart (word ++ b ∷ []) other
-longer_apart word other b h = record { gate = h.gate; decided = omega (arith, h.decided, length-append word (b ∷ [])); closed = opens_front word (b ∷ []) h.gate h.decided ∙ h.closed; opened = h.opened }
+longer_apart word other b h = record {
+  gate = h.gate;
+  decided = omega (arith, h.decided, length-append word (b ∷ []));
+  closed = opens_front word (b ∷ []) h.gate h.decided ∙ h.closed;
+  opened = h.opened;
+}
 
 children_are_apart : (word : List Bool) → IsApart (word ++ false ∷ []) (word ++ true ∷ [])
 children_are_apart word = record { gate = length word; decided = omega (arith, length-append word (false ∷ [])); closed = opens_past word false; opened = opens_past word true }

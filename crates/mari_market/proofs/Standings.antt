@@ -22,7 +22,8 @@ gate_standing : (b : Bool) (o : Order) (q : ℕ) → 1 ≤ o.least → IsWithin 
 gate_standing true o q l w = let some : 0 < q = omega (arith, w.least) in grind (arith, nat_tests)
 gate_standing false o q l w = let none : q ≤ 0 = w.most in grind (arith, nat_tests)
 
-standing_at : (opens : ℕ → Bool) (gates : ℕ) (gate : Option ℕ) (o : Order) (q : ℕ) → MatchOption gate (o.least ≡ 0) (λ g. (g < gates) × (1 ≤ o.least)) → IsWithin (span_of (λ g. if opens g then Open else Closed) gate o) q → own_standing gate q ≡ standing_of opens gate
+standing_at : (opens : ℕ → Bool) (gates : ℕ) (gate : Option ℕ) (o : Order) (q : ℕ)
+    → MatchOption gate (o.least ≡ 0) (λ g. (g < gates) × (1 ≤ o.least)) → IsWithin (span_of (λ g. if opens g then Open else Closed) gate o) q → own_standing gate q ≡ standing_of opens gate
 standing_at opens gates None o q v w = refl
 standing_at opens gates (Some g) o q v w = ap (λ (b : Bool). if b then InOpen else InClosed) (gate_standing (opens g) o q v.1 w)
 

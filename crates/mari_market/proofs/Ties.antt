@@ -184,7 +184,10 @@ first_by_tree m a items v adm h = record { optimal = best; none_before = none }
 
 -- an optimal activation that opens no gate is the first
 pub closed_is_first : (m : Market) (a : Activation) → IsOptimal m a → gate_word_of m a ≡ all_closed m → IsFirst m a
-closed_is_first m a h e = record { optimal = h; none_before = λ b k before. none_before_closed (length m.gates) (gate_word_of m b) (subst (λ (w : List Bool). ComesBefore (gate_word_of m b) w) e before) }
+closed_is_first m a h e = record {
+  optimal = h;
+  none_before = λ b k before. none_before_closed (length m.gates) (gate_word_of m b) (subst (λ (w : List Bool). ComesBefore (gate_word_of m b) w) e before);
+}
 
 -- without gates each optimal activation is the first
 pub first_without_gates : (m : Market) (a : Activation) → length m.gates ≡ 0 → IsOptimal m a → IsFirst m a

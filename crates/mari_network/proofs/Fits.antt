@@ -58,7 +58,8 @@ order_slots_fine spans n gates os v f =
           subst (λ (s : Slot). IsOrderSlot n s) (sym (get_or-map (λ (o : Order). slot_of (spans o) o) os k no_order d there))
           (order_slot spans n gates (get_or os k no_order) (v k no_order there) (f k no_order there));
       sides = zip_of (λ (o : Order) (s : Slot). CanPut o.side s.low × CanPut o.side s.high) os (slots_of spans os) no_order no_slot (sym long)
-          (λ k l. subst (λ (s : Slot). CanPut (get_or os k no_order).side s.low × CanPut (get_or os k no_order).side s.high) (sym (get_or-map (λ (o : Order). slot_of (spans o) o) os k no_order no_slot l))
+          (λ k l. subst (λ (s : Slot). CanPut (get_or os k no_order).side s.low × CanPut (get_or os k no_order).side s.high)
+          (sym (get_or-map (λ (o : Order). slot_of (spans o) o) os k no_order no_slot l))
           (can_puts (get_or os k no_order).side (spans (get_or os k no_order)) (f k no_order l)));
     }
 

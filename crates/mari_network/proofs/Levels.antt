@@ -119,8 +119,13 @@ tight_over (b ∷ bs) (f ∷ fs) old p q floor l low ends was o =
     λ forth h t r. elim (marked_or (is_marked old (head_of forth b))) [
       | inl m ↦ omega (arith, ints, l.keep (head_of forth b) m, l.keep (tail_of forth b) (was.0 forth r m), o.0 forth r m)
       | inr m ↦ omega (arith, ints, l.level (head_of forth b) m h, low (tail_of forth b) t)
-    ] in
-    (record { more = λ r. one true ends.0.1 ends.0.0 (omega (arith, ints, r)); less = λ r. one false ends.0.0 ends.0.1 (omega (arith, ints, r)) }, tight_over bs fs old p q floor l low ends.1 was.1 o.1)
+    ] in (
+      record {
+        more = λ r. one true ends.0.1 ends.0.0 (omega (arith, ints, r));
+        less = λ r. one false ends.0.0 ends.0.1 (omega (arith, ints, r));
+      },
+      tight_over bs fs old p q floor l low ends.1 was.1 o.1,
+    )
 tight_over [] (f ∷ fs) old p q floor l low ends was o = absurd was
 tight_over (b ∷ bs) [] old p q floor l low ends was o = absurd was
 

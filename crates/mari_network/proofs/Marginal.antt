@@ -133,10 +133,12 @@ pub below_stays : (before after : List Slot) (v : ℤ) (best : Option ℕ) → (
 below_stays before after v None same a = a
 below_stays before after v (Some i) same a = subst (λ (s : Slot). s.price ≤ℤ v) (sym (same i refl)) a
 
-pub less_stays : (before after : List Slot) (old new : List ℤ) (k : ℕ) → length before ≡ length after → slot_at before k ≡ slot_at after k → int_at old k ≡ int_at new k → CanLess before old k → CanLess after new k
+pub less_stays : (before after : List Slot) (old new : List ℤ) (k : ℕ)
+    → length before ≡ length after → slot_at before k ≡ slot_at after k → int_at old k ≡ int_at new k → CanLess before old k → CanLess after new k
 less_stays before after old new k long s x can = (omega (arith, long, can.0), subst (λ (y : ℤ). (slot_at after k).low <ℤ y) x (subst (λ (t : Slot). t.low <ℤ int_at old k) s can.1))
 
-pub more_stays : (before after : List Slot) (old new : List ℤ) (k : ℕ) → length before ≡ length after → slot_at before k ≡ slot_at after k → int_at old k ≡ int_at new k → CanMore before old k → CanMore after new k
+pub more_stays : (before after : List Slot) (old new : List ℤ) (k : ℕ)
+    → length before ≡ length after → slot_at before k ≡ slot_at after k → int_at old k ≡ int_at new k → CanMore before old k → CanMore after new k
 more_stays before after old new k long s x can = (omega (arith, long, can.0), subst (λ (y : ℤ). y <ℤ (slot_at after k).high) x (subst (λ (t : Slot). int_at old k <ℤ t.high) s can.1))
 
 -- the marginal slots of a zone whose slots and amounts stay, where no slot changes its zone
@@ -163,7 +165,8 @@ margin_stays_among before after old new z n m long zones slots amounts a = recor
 }
 
 -- the marginal slots of a zone whose slots' amounts stay
-pub margin_stays : (slots : List Slot) (old new : List ℤ) (z n : ℕ) (m : Margin) → ((k : ℕ) → zone_of slots k ≡ z → int_at new k ≡ int_at old k) → IsMarginIn slots old z n m → IsMarginIn slots new z n m
+pub margin_stays : (slots : List Slot) (old new : List ℤ) (z n : ℕ) (m : Margin) → ((k : ℕ) → zone_of slots k ≡ z → int_at new k ≡ int_at old k) → IsMarginIn slots old z n m
+    → IsMarginIn slots new z n m
 margin_stays slots old new z n m same a = margin_stays_among slots slots old new z n m refl (λ k. refl) (λ k e. refl) same a
 
 pub margins_at : (slots : List Slot) (xs : List ℤ) (zones n : ℕ) (margins : List Margin) (z : ℕ)
@@ -198,7 +201,8 @@ pub margins_more : (slots : List Slot) (xs : List ℤ) (n zone : ℕ) (ms new : 
     → ((z : ℕ) → z < zone → IsMarginIn slots xs z n (get_or ms z no_margin)) → IsMarginIn slots xs zone n m
     → (z : ℕ) → z < zone + 1 → IsMarginIn slots xs z n (get_or new z no_margin)
 margins_more slots xs n zone ms new m e long each more z l = elim (cases_lt z zone) [
-  | inl b ↦ subst (λ (t : Margin). IsMarginIn slots xs z n t) (sym (ap (λ (ts : List Margin). get_or ts z no_margin) e ∙ get_or_append_left ms (m ∷ []) no_margin z (omega (arith, long, b)))) (each z b)
+  | inl b ↦ subst (λ (t : Margin). IsMarginIn slots xs z n t)
+      (sym (ap (λ (ts : List Margin). get_or ts z no_margin) e ∙ get_or_append_left ms (m ∷ []) no_margin z (omega (arith, long, b)))) (each z b)
   | inr b ↦
       let same : zone ≡ z = omega arith in
       subst (λ (t : Margin). IsMarginIn slots xs z n t) (sym (ap (λ (ts : List Margin). get_or ts z no_margin) e ∙ get_or_push ms m no_margin z (long ∙ same)))

@@ -40,7 +40,8 @@ meeting_more bs n z old mid new l one two a = record {
       added_each bs (way_of bs n true) (border_at bs n).to z mid new (λ e. record { there = l; from = refl; to = e }) two
       (added_each bs (way_of bs n false) (border_at bs n).from z old mid (λ e. record { there = l; from = refl; to = e }) one a.each);
   all = λ k forth h m. elim (cases_lt k n) [
-    | inl b ↦ added_keeps (way_of bs n true) (border_at bs n).to z (way_of bs k forth) mid new two (added_keeps (way_of bs n false) (border_at bs n).from z (way_of bs k forth) old mid one (a.all k forth b m))
+    | inl b ↦ added_keeps (way_of bs n true) (border_at bs n).to z (way_of bs k forth) mid new two
+        (added_keeps (way_of bs n false) (border_at bs n).from z (way_of bs k forth) old mid one (a.all k forth b m))
     | inr b ↦
         let same : n ≡ k = omega arith in
         subst (λ (j : ℕ). Contains new (way_of bs j forth)) same (here forth (subst (λ (j : ℕ). head_of forth (border_at bs j) ≡ z) (sym same) m))

@@ -76,8 +76,15 @@ ends_solved bounds m more a ps p xs e puts prices none =
     let all = runs bounds m more xs a.flow p e in
     best_from bounds m a ps p (take (length (slots_of bounds m.orders)) xs) e.valid puts prices
     (zip_first IsWithinSlot (slots_of bounds m.orders) more xs e.running.amounts) e.running.flows
-    (λ z l. omega (arith, ints, e.running.balance z l, sum_split (slot_into z) IsWithinSlot (slots_of bounds m.orders) more xs e.running.amounts, into_none z more (drop (length (slots_of bounds m.orders)) xs) (λ k h. get_or-drop (length (slots_of bounds m.orders)) xs k (pos 0) ∙ none k h)))
-    (zip_first (IsTightSlot p) (slots_of bounds m.orders) more xs (zip_of (IsTightSlot p) (slots_of bounds m.orders ++ more) xs no_slot (pos 0) (zip_long IsWithinSlot (slots_of bounds m.orders ++ more) xs e.running.amounts) e.tight.slots_tight))
+    (λ z l. omega (
+      arith,
+      ints,
+      e.running.balance z l,
+      sum_split (slot_into z) IsWithinSlot (slots_of bounds m.orders) more xs e.running.amounts,
+      into_none z more (drop (length (slots_of bounds m.orders)) xs) (λ k h. get_or-drop (length (slots_of bounds m.orders)) xs k (pos 0) ∙ none k h),
+    ))
+    (zip_first (IsTightSlot p) (slots_of bounds m.orders) more xs
+    (zip_of (IsTightSlot p) (slots_of bounds m.orders ++ more) xs no_slot (pos 0) (zip_long IsWithinSlot (slots_of bounds m.orders ++ more) xs e.running.amounts) e.tight.slots_tight))
     e.tight.flows_tight
 
 flow_runs : (bounds : Order → Span) (m : Market) (more : List Slot) (xs fs : List ℤ) (p : ℕ → ℤ) → Ends bounds m more xs fs p → AllZip (RunsFlow m.zones p) m.borders fs
@@ -119,9 +126,11 @@ ends_cut_out bounds m more xs fs p zones j e low there short =
     let first = zip_first (RunsSlot m.zones p) (slots_of bounds m.orders) more xs all in
     let rest = zip_rest (RunsSlot m.zones p) (slots_of bounds m.orders) more xs all in
     shortfall_is_cut_out bounds m zones
-    (shortfall_out m.zones BEYOND p (is_in zones) (slots_of bounds m.orders) more (take (length (slots_of bounds m.orders)) xs) (drop (length (slots_of bounds m.orders)) xs) m.borders fs j no_slot (omega (arith, ints)) low
+    (shortfall_out m.zones BEYOND p (is_in zones) (slots_of bounds m.orders) more (take (length (slots_of bounds m.orders)) xs) (drop (length (slots_of bounds m.orders)) xs) m.borders fs j no_slot
+    (omega (arith, ints)) low
     first
-    (all_zip (IsReal BEYOND) (slots_of bounds m.orders) (take (length (slots_of bounds m.orders)) xs) (zip_long (RunsSlot m.zones p) (slots_of bounds m.orders) (take (length (slots_of bounds m.orders)) xs) first) (reals_real bounds m.zones (length m.gates) m.orders e.valid.orders))
+    (all_zip (IsReal BEYOND) (slots_of bounds m.orders) (take (length (slots_of bounds m.orders)) xs)
+    (zip_long (RunsSlot m.zones p) (slots_of bounds m.orders) (take (length (slots_of bounds m.orders)) xs) first) (reals_real bounds m.zones (length m.gates) m.orders e.valid.orders))
     rest (all_zip (IsStandIn BEYOND) more (drop (length (slots_of bounds m.orders)) xs) (zip_long (RunsSlot m.zones p) more (drop (length (slots_of bounds m.orders)) xs) rest) e.others)
     (flow_runs bounds m more xs fs p e) (ends_paid bounds m more xs fs p (λ z. counts (is_in zones z)) e) there
     (subst (λ (x : ℤ). x <ℤ pos 0) (sym (get_or-drop (length (slots_of bounds m.orders)) xs j (pos 0))) short))
@@ -135,9 +144,11 @@ ends_cut_in bounds m more xs fs p zones j e high there short =
     let first = zip_first (RunsSlot m.zones p) (slots_of bounds m.orders) more xs all in
     let rest = zip_rest (RunsSlot m.zones p) (slots_of bounds m.orders) more xs all in
     shortfall_is_cut_in bounds m zones
-    (shortfall_in m.zones BEYOND p (is_in zones) (slots_of bounds m.orders) more (take (length (slots_of bounds m.orders)) xs) (drop (length (slots_of bounds m.orders)) xs) m.borders fs j no_slot (omega (arith, ints)) high
+    (shortfall_in m.zones BEYOND p (is_in zones) (slots_of bounds m.orders) more (take (length (slots_of bounds m.orders)) xs) (drop (length (slots_of bounds m.orders)) xs) m.borders fs j no_slot
+    (omega (arith, ints)) high
     first
-    (all_zip (IsReal BEYOND) (slots_of bounds m.orders) (take (length (slots_of bounds m.orders)) xs) (zip_long (RunsSlot m.zones p) (slots_of bounds m.orders) (take (length (slots_of bounds m.orders)) xs) first) (reals_real bounds m.zones (length m.gates) m.orders e.valid.orders))
+    (all_zip (IsReal BEYOND) (slots_of bounds m.orders) (take (length (slots_of bounds m.orders)) xs)
+    (zip_long (RunsSlot m.zones p) (slots_of bounds m.orders) (take (length (slots_of bounds m.orders)) xs) first) (reals_real bounds m.zones (length m.gates) m.orders e.valid.orders))
     rest (all_zip (IsStandIn BEYOND) more (drop (length (slots_of bounds m.orders)) xs) (zip_long (RunsSlot m.zones p) more (drop (length (slots_of bounds m.orders)) xs) rest) e.others)
     (flow_runs bounds m more xs fs p e) (ends_paid bounds m more xs fs p (λ z. counts (is_in zones z)) e) there
     (subst (λ (x : ℤ). pos 0 <ℤ x) (sym (get_or-drop (length (slots_of bounds m.orders)) xs j (pos 0))) short))

@@ -123,12 +123,14 @@ pub levels_along : (slots : List Slot) (bs : List Border) (xs fs ys gs : List �
     → AreLevels slots bs ys gs marked p
 levels_along slots bs xs fs ys gs marked p hops a free long m =
     let none : (z : ℕ) → is_marked marked z ≡ true → IsOfNone hops z = λ z e k l h. not_both (is_marked marked z) e (subst (λ (y : ℕ). is_marked marked y ≡ false) h (free k l)) in
-    let room : (i : ℕ) (forth : Bool) → is_marked marked (head_of forth (border_at bs i)) ≡ true → pos 0 <ℤ room_of forth (border_at bs i) (int_at gs i) → pos 0 <ℤ room_of forth (border_at bs i) (int_at fs i) =
+    let room : (i : ℕ) (forth : Bool) → is_marked marked (head_of forth (border_at bs i)) ≡ true → pos 0 <ℤ room_of forth (border_at bs i) (int_at gs i)
+    → pos 0 <ℤ room_of forth (border_at bs i) (int_at fs i) =
     λ i forth e r. subst (λ (f : ℤ). pos 0 <ℤ room_of forth (border_at bs i) f) (m.flows i forth (none (head_of forth (border_at bs i)) e)) r in
     let same : length bs ≡ length gs = omega (arith, zip_long (ClosedOver marked) bs fs a.closed, long) in
     record {
       closed = zip_of (ClosedOver marked) bs gs no_border (pos 0) same (λ i l forth r e. AllZip-at (ClosedOver marked) bs fs i no_border (pos 0) l a.closed forth (room i forth e r) e);
-      ordered = zip_of (OrderedOver (is_marked marked) p) bs gs no_border (pos 0) same (λ i l forth r e. AllZip-at (OrderedOver (is_marked marked) p) bs fs i no_border (pos 0) l a.ordered forth (room i forth e r) e);
+      ordered = zip_of (OrderedOver (is_marked marked) p) bs gs no_border (pos 0) same
+          (λ i l forth r e. AllZip-at (OrderedOver (is_marked marked) p) bs fs i no_border (pos 0) l a.ordered forth (room i forth e r) e);
       floored = a.floored;
       sinks = λ k can e. a.sinks k (can.0, subst (λ (x : ℤ). (slot_at slots k).low <ℤ x) (m.amounts k (none (zone_of slots k) e)) can.1) e;
       sources = λ k can e. a.sources k (can.0, subst (λ (x : ℤ). x <ℤ (slot_at slots k).high) (m.amounts k (none (zone_of slots k) e)) can.1) e;

@@ -118,7 +118,8 @@ record IsOfRung (slots : List Slot) (n z : ℕ) (k : ℕ) (v : ℤ) : Type 0 whe
   first : k < n
   price : v ≡ price_of slots k
 
-slot_at_rung : (slots : List Slot) (n z : ℕ) (ladder : List Rung) (k j : ℕ) → IsLadder slots n z ladder → j < length ladder → (rung_at ladder j).place ≡ k → IsOfRung slots n z k (rung_at ladder j).price
+slot_at_rung : (slots : List Slot) (n z : ℕ) (ladder : List Rung) (k j : ℕ) → IsLadder slots n z ladder → j < length ladder → (rung_at ladder j).place ≡ k
+    → IsOfRung slots n z k (rung_at ladder j).price
 slot_at_rung slots n z ladder k j a l here = record {
   zone = sym (ap (zone_of slots) here) ∙ a.rungs.zone j no_rung l;
   first = subst (λ (i : ℕ). i < n) here (a.rungs.there j no_rung l);
@@ -165,7 +166,8 @@ cheapest_on slots xs n z ladder least start best a below high d = record {
 pub dearest_of_all : (slots : List Slot) (xs : List ℤ) (z n : ℕ) (best : Option ℕ) → All IsSmallSlot slots → IsDearestTo slots xs z n BEYOND best → IsDearestIn slots xs z n best
 dearest_of_all slots xs z n best small d = record { one = λ i e. let o = d.one i e in (o.0, o.1, o.2); all = λ k l can e. d.all k l can e (small k no_slot can.0).dear }
 
-pub cheapest_of_all : (slots : List Slot) (xs : List ℤ) (z n : ℕ) (least : ℤ) (best : Option ℕ) → All IsSmallSlot slots → ((s : Slot) → IsSmallSlot s → least ≤ℤ s.price) → IsCheapestFrom slots xs z n least best → IsCheapestIn slots xs z n best
+pub cheapest_of_all : (slots : List Slot) (xs : List ℤ) (z n : ℕ) (least : ℤ) (best : Option ℕ)
+    → All IsSmallSlot slots → ((s : Slot) → IsSmallSlot s → least ≤ℤ s.price) → IsCheapestFrom slots xs z n least best → IsCheapestIn slots xs z n best
 cheapest_of_all slots xs z n least best small low c = record { one = λ i e. let o = c.one i e in (o.0, o.1, o.2); all = λ k l can e. c.all k l can e (low (slot_at slots k) (small k no_slot can.0)) }
 
 -- one rung more at the beginning of those that were looked at
@@ -179,7 +181,8 @@ dearest_rung_skip slots xs ladder at end best cannot d = record {
   ];
 }
 
-pub dearest_rung_take : (slots : List Slot) (xs : List ℤ) (ladder : List Rung) (at end place : ℕ) (price : ℤ) (best : Option ℕ) → at < end → (rung_at ladder at).place ≡ place → (rung_at ladder at).price ≡ price
+pub dearest_rung_take : (slots : List Slot) (xs : List ℤ) (ladder : List Rung) (at end place : ℕ) (price : ℤ) (best : Option ℕ) → at < end → (rung_at ladder at).place ≡ place
+    → (rung_at ladder at).price ≡ price
     → price_of slots place ≡ price → CanLess slots xs place → ((v : ℤ) → IsAbove slots v best → v ≤ℤ price)
     → IsDearestRung slots xs ladder (at + 1) end best → IsDearestRung slots xs ladder at end (Some place)
 dearest_rung_take slots xs ladder at end place price best l here cost own can low d = record {

@@ -138,11 +138,14 @@ shortfall_out n m p inside reals stand_ins xs ws bs fs k d h low rs real es are 
     let zone : (s : Slot) (x : ℤ) → RunsSlot n p s x → IsReal m s → paid_slot (λ z. counts (inside z)) s x ≡ least_in inside s =
     λ s x r c. low_slot (inside s.zone) m (p s.zone) s.low x s.price (low.yes s.zone r.zone) c.above r.within.least r.tight.less in
     let a = sum_along-same (paid_slot (λ z. counts (inside z))) (least_in inside) reals xs (AllZip-both (RunsSlot n p) (λ s x. IsReal m s) _ zone reals xs rs real) in
-    let b = sum_along-same (cost_at (λ z. counts (inside z))) (out_of inside) bs fs (zip_map (RunsFlow n p) _ (λ b f r. low_flow (inside b.from) (inside b.to) m (p b.from) (p b.to) f b.limit b.back (low.yes b.from r.from) (low.no b.from r.from) (low.yes b.to r.to) (low.no b.to r.to) r.within.back r.within.limit r.tight.more r.tight.less) bs fs flows) in
-    let none : AllZip (λ s x. paid_slot (λ z. counts (inside z)) s x ≤ℤ pos 0) stand_ins ws = AllZip-both (RunsSlot n p) (λ s x. IsStandIn m s) _ (λ s x r e. low_stand_in (inside s.zone) m (p s.zone) x s h e (low.yes s.zone r.zone) r.within r.tight.less) stand_ins ws es are in
+    let b = sum_along-same (cost_at (λ z. counts (inside z))) (out_of inside) bs fs (zip_map (RunsFlow n p) _ (λ b f r. low_flow (inside b.from) (inside b.to) m (p b.from) (p b.to) f b.limit b.back
+    (low.yes b.from r.from) (low.no b.from r.from) (low.yes b.to r.to) (low.no b.to r.to) r.within.back r.within.limit r.tight.more r.tight.less) bs fs flows) in
+    let none : AllZip (λ s x. paid_slot (λ z. counts (inside z)) s x ≤ℤ pos 0) stand_ins ws =
+    AllZip-both (RunsSlot n p) (λ s x. IsStandIn m s) _ (λ s x r e. low_stand_in (inside s.zone) m (p s.zone) x s h e (low.yes s.zone r.zone) r.within r.tight.less) stand_ins ws es are in
     let one = AllZip-at (RunsSlot n p) stand_ins ws k d (pos 0) there es in
     let kind = AllZip-at (λ (s : Slot) (x : ℤ). IsStandIn m s) stand_ins ws k d (pos 0) there are in
-    let less = low_short (inside (get_or stand_ins k d).zone) m (p (get_or stand_ins k d).zone) (get_or ws k (pos 0)) (get_or stand_ins k d) kind (low.no (get_or stand_ins k d).zone one.zone) one.within one.tight.more short in
+    let less = low_short (inside (get_or stand_ins k d).zone) m (p (get_or stand_ins k d).zone) (get_or ws k (pos 0)) (get_or stand_ins k d) kind
+    (low.no (get_or stand_ins k d).zone one.zone) one.within one.tight.more short in
     omega (arith, ints, a, b, paid, sum_below_none (paid_slot (λ z. counts (inside z))) stand_ins ws k d (pos 0) none there less)
 
 -- ---- the greatest prices
@@ -195,9 +198,12 @@ shortfall_in n m p inside reals stand_ins xs ws bs fs k d h high rs real es are 
     let zone : (s : Slot) (x : ℤ) → RunsSlot n p s x → IsReal m s → paid_slot (λ z. counts (inside z)) s x ≡ most_in_slot inside s =
     λ s x r c. high_slot (inside s.zone) m (p s.zone) s.high x s.price (high.yes s.zone r.zone) c.below r.within.most r.tight.more in
     let a = sum_along-same (paid_slot (λ z. counts (inside z))) (most_in_slot inside) reals xs (AllZip-both (RunsSlot n p) (λ s x. IsReal m s) _ zone reals xs rs real) in
-    let b = sum_along-same (cost_at (λ z. counts (inside z))) (λ b. neg_ℤ (into_of inside b)) bs fs (zip_map (RunsFlow n p) _ (λ b f r. high_flow (inside b.from) (inside b.to) m (p b.from) (p b.to) f b.limit b.back (high.yes b.from r.from) (high.no b.from r.from) (high.yes b.to r.to) (high.no b.to r.to) r.within.back r.within.limit r.tight.more r.tight.less) bs fs flows) in
-    let none : AllZip (λ s x. pos 0 ≤ℤ paid_slot (λ z. counts (inside z)) s x) stand_ins ws = AllZip-both (RunsSlot n p) (λ s x. IsStandIn m s) _ (λ s x r e. high_stand_in (inside s.zone) m (p s.zone) x s h e (high.yes s.zone r.zone) r.within r.tight.more) stand_ins ws es are in
+    let b = sum_along-same (cost_at (λ z. counts (inside z))) (λ b. neg_ℤ (into_of inside b)) bs fs (zip_map (RunsFlow n p) _ (λ b f r. high_flow (inside b.from) (inside b.to) m (p b.from)
+    (p b.to) f b.limit b.back (high.yes b.from r.from) (high.no b.from r.from) (high.yes b.to r.to) (high.no b.to r.to) r.within.back r.within.limit r.tight.more r.tight.less) bs fs flows) in
+    let none : AllZip (λ s x. pos 0 ≤ℤ paid_slot (λ z. counts (inside z)) s x) stand_ins ws =
+    AllZip-both (RunsSlot n p) (λ s x. IsStandIn m s) _ (λ s x r e. high_stand_in (inside s.zone) m (p s.zone) x s h e (high.yes s.zone r.zone) r.within r.tight.more) stand_ins ws es are in
     let one = AllZip-at (RunsSlot n p) stand_ins ws k d (pos 0) there es in
     let kind = AllZip-at (λ (s : Slot) (x : ℤ). IsStandIn m s) stand_ins ws k d (pos 0) there are in
-    let more = high_short (inside (get_or stand_ins k d).zone) m (p (get_or stand_ins k d).zone) (get_or ws k (pos 0)) (get_or stand_ins k d) kind (high.no (get_or stand_ins k d).zone one.zone) one.within one.tight.less short in
+    let more = high_short (inside (get_or stand_ins k d).zone) m (p (get_or stand_ins k d).zone) (get_or ws k (pos 0)) (get_or stand_ins k d) kind
+    (high.no (get_or stand_ins k d).zone one.zone) one.within one.tight.less short in
     omega (arith, ints, a, b, paid, int_sum-neg (into_of inside) bs, sum_above_none (paid_slot (λ z. counts (inside z))) stand_ins ws k d (pos 0) none there more)

@@ -77,7 +77,8 @@ next_hop bs fs marked hops h n each k p l = elim (place (length hops) k l) [
         earlier = subst (λ (x : Hop). x.before < k) (sym same) was.earlier;
         there = subst (λ (x : Hop). x.border < length bs) (sym same) was.there;
         tail = subst (λ (x : Hop). x.zone ≡ tail_of x.forth (border_at bs x.border)) (sym same) was.tail;
-        head = subst (λ (x : Hop). (hop_at (hops ++ h ∷ []) x.before).zone ≡ head_of x.forth (border_at bs x.border)) (sym same) (subst (λ (x : Hop). x.zone ≡ head_of (hop_at hops k).forth (border_at bs (hop_at hops k).border)) (sym prior) was.head);
+        head = subst (λ (x : Hop). (hop_at (hops ++ h ∷ []) x.before).zone ≡ head_of x.forth (border_at bs x.border)) (sym same)
+            (subst (λ (x : Hop). x.zone ≡ head_of (hop_at hops k).forth (border_at bs (hop_at hops k).border)) (sym prior) was.head);
       }
   | last e ↦
       let same = last_push hops h k e in
@@ -86,7 +87,8 @@ next_hop bs fs marked hops h n each k p l = elim (place (length hops) k l) [
         earlier = subst (λ (x : Hop). x.before < k) (sym same) (omega (arith, n.at));
         there = subst (λ (x : Hop). x.border < length bs) (sym same) n.there;
         tail = subst (λ (x : Hop). x.zone ≡ tail_of x.forth (border_at bs x.border)) (sym same) n.tail;
-        head = subst (λ (x : Hop). (hop_at (hops ++ h ∷ []) x.before).zone ≡ head_of x.forth (border_at bs x.border)) (sym same) (subst (λ (x : Hop). x.zone ≡ head_of h.forth (border_at bs h.border)) (sym prior) n.head);
+        head = subst (λ (x : Hop). (hop_at (hops ++ h ∷ []) x.before).zone ≡ head_of x.forth (border_at bs x.border)) (sym same)
+            (subst (λ (x : Hop). x.zone ≡ head_of h.forth (border_at bs h.border)) (sym prior) n.head);
       }
 ]
 
@@ -105,7 +107,8 @@ next_apart : (bs : List Border) (fs : List ℤ) (old : List Bool) (start : ℕ) 
     → k < length hops + 1 → (hop_at (hops ++ h ∷ []) j).border ≢ (hop_at (hops ++ h ∷ []) k).border
 next_apart bs fs old start marked hops h s n j k p q l = elim (place (length hops) k l) [
   | early e ↦ λ same. s.trace.apart j k p q e (ap (λ (x : Hop). x.border) (sym (before_push hops h j (omega arith))) ∙ same ∙ ap (λ (x : Hop). x.border) (before_push hops h k e))
-  | last e ↦ λ same. other_border bs fs old start marked hops h s n j p (omega arith) (ap (λ (x : Hop). x.border) (sym (before_push hops h j (omega arith))) ∙ same ∙ ap (λ (x : Hop). x.border) (last_push hops h k e))
+  | last e ↦ λ same. other_border bs fs old start marked hops h s n j p (omega arith)
+      (ap (λ (x : Hop). x.border) (sym (before_push hops h j (omega arith))) ∙ same ∙ ap (λ (x : Hop). x.border) (last_push hops h k e))
 ]
 
 -- one zone more
@@ -138,7 +141,8 @@ spread_more bs fs old start marked hops h s n =
           (λ k x. 0 < k → (is_marked (set marked h.zone true) (border_at bs x.border).from ≡ true) × (is_marked (set marked h.zone true) (border_at bs x.border).to ≡ true))
           hops h
           (λ k l p. (keep _ (s.ends k p l).0, keep _ (s.ends k p l).1))
-          (λ _. both_ends (λ z. is_marked (set marked h.zone true) z ≡ true) h.forth (border_at bs h.border) (subst (λ (z : ℕ). is_marked (set marked h.zone true) z ≡ true) n.tail here) (subst (λ (z : ℕ). is_marked (set marked h.zone true) z ≡ true) n.head (keep _ (s.zones h.before n.at).0)))
+          (λ _. both_ends (λ z. is_marked (set marked h.zone true) z ≡ true) h.forth (border_at bs h.border) (subst (λ (z : ℕ). is_marked (set marked h.zone true) z ≡ true) n.tail here)
+          (subst (λ (z : ℕ). is_marked (set marked h.zone true) z ≡ true) n.head (keep _ (s.zones h.before n.at).0)))
           k (omega (arith, len)) p;
       zones = λ k l. each_push (λ k x. (is_marked (set marked h.zone true) x.zone ≡ true) × (is_marked old x.zone ≡ false)) hops h
           (λ k l. (keep _ (s.zones k l).0, (s.zones k l).1))
@@ -164,7 +168,8 @@ spread_first bs fs old h l e = record {
   trace = record { each = λ k p l. absurd (omega arith); apart = λ j k p q l. absurd (omega arith) };
   room = λ k l. let z : 0 ≡ k = omega arith in subst (λ (n : ℕ). HasRoom bs fs (h ∷ []) (pos 1) n) z begins;
   ends = λ k p l. absurd (omega arith);
-  zones = λ k m. let z : 0 ≡ k = omega arith in subst (λ (n : ℕ). (is_marked (set old h.zone true) (hop_at (h ∷ []) n).zone ≡ true) × (is_marked old (hop_at (h ∷ []) n).zone ≡ false)) z (set_mark old h.zone l, e);
+  zones = λ k m. let z : 0 ≡ k =
+      omega arith in subst (λ (n : ℕ). (is_marked (set old h.zone true) (hop_at (h ∷ []) n).zone ≡ true) × (is_marked old (hop_at (h ∷ []) n).zone ≡ false)) z (set_mark old h.zone l, e);
   news = λ z m. elim (marked_set old h.zone z m) [ inl same ↦ inr (0, omega arith, sym same) | inr was ↦ inl was ];
   keeps = λ z m. keep_mark old h.zone z m;
   count = omega (arith, count_mark old h.zone l e);

@@ -37,8 +37,10 @@ trade_tight Withdraw c p s q i l h = (λ r. omega (arith, ints, clamps, i.low, i
 
 pub orders_within : (bounds : Order → Span) (os : List Order) (xs : List ℤ) (qs : List ℕ) → ArePuts os xs qs → AllZip IsWithinSlot (slots_of bounds os) xs → AllZip (λ o q. IsWithin (bounds o) q) os qs
 orders_within bounds [] [] [] r w = tt
-orders_within bounds (o ∷ os) (x ∷ xs) (q ∷ qs) r w =
-    (trade_within o.side (bounds o) q (subst (λ (v : ℤ). least_put o.side (bounds o) ≤ℤ v) r.0 w.0.least) (subst (λ (v : ℤ). v ≤ℤ most_put o.side (bounds o)) r.0 w.0.most), orders_within bounds os xs qs r.1 w.1)
+orders_within bounds (o ∷ os) (x ∷ xs) (q ∷ qs) r w = (
+  trade_within o.side (bounds o) q (subst (λ (v : ℤ). least_put o.side (bounds o) ≤ℤ v) r.0 w.0.least) (subst (λ (v : ℤ). v ≤ℤ most_put o.side (bounds o)) r.0 w.0.most),
+  orders_within bounds os xs qs r.1 w.1,
+)
 orders_within bounds _ _ _ r w = absurd r
 
 pub orders_tight : (bounds : Order → Span) (n gates : ℕ) (p : ℕ → ℤ) (ps : List Cents) (os : List Order) (xs : List ℤ) (qs : List ℕ)
@@ -48,7 +50,8 @@ orders_tight bounds n gates p ps [] [] [] e v r t = tt
 orders_tight bounds n gates p ps (o ∷ os) (x ∷ xs) (q ∷ qs) e v r t =
     let o_valid = All-head (IsValidOrder n gates) o os v in (
       subst (λ (c : ℤ). IsTightTrade o.side o.price.0 c (bounds o) q) (sym (e o.zone o_valid.zone))
-          (trade_tight o.side o.price.0 (p o.zone) (bounds o) q o_valid.price (subst (λ (v : ℤ). least_put o.side (bounds o) <ℤ v → o.price.0 ≤ℤ p o.zone) r.0 t.0.less) (subst (λ (v : ℤ). v <ℤ most_put o.side (bounds o) → p o.zone ≤ℤ o.price.0) r.0 t.0.more)),
+          (trade_tight o.side o.price.0 (p o.zone) (bounds o) q o_valid.price (subst (λ (v : ℤ). least_put o.side (bounds o) <ℤ v → o.price.0 ≤ℤ p o.zone) r.0 t.0.less)
+          (subst (λ (v : ℤ). v <ℤ most_put o.side (bounds o) → p o.zone ≤ℤ o.price.0) r.0 t.0.more)),
       orders_tight bounds n gates p ps os xs qs e (All-tail (IsValidOrder n gates) o os v) r.1 t.1,
     )
 orders_tight bounds n gates p ps _ _ _ e v r t = absurd r
@@ -88,8 +91,15 @@ pub best_from : (bounds : Order → Span) (m : Market) (a : Activation) (ps : Li
     → AllZip (IsTightSlot p) (slots_of bounds m.orders) xs → AllZip (IsConsistentFlow p) m.borders a.flow
     → IsBest bounds m a ps
 best_from bounds m a ps p xs v puts prices within limits balance slots flows =
-    let in_bounds : IsWithinBounds bounds m a = record { orders = orders_within bounds m.orders xs a.mw puts within; borders = limits; balance = λ z l. orders_into z bounds m.orders xs a.mw puts ∙ balance z l } in
-    let all_tight : IsTight bounds m a ps = record { orders = orders_tight bounds m.zones (length m.gates) p ps m.orders xs a.mw prices v.orders puts slots; borders = flows_tight m.zones p ps m.borders a.flow prices v.borders flows } in
+    let in_bounds : IsWithinBounds bounds m a = record {
+      orders = orders_within bounds m.orders xs a.mw puts within;
+      borders = limits;
+      balance = λ z l. orders_into z bounds m.orders xs a.mw puts ∙ balance z l;
+    } in
+    let all_tight : IsTight bounds m a ps = record {
+      orders = orders_tight bounds m.zones (length m.gates) p ps m.orders xs a.mw prices v.orders puts slots;
+      borders = flows_tight m.zones p ps m.borders a.flow prices v.borders flows;
+    } in
     let equal = tight_is_equal bounds m a ps v in_bounds all_tight in
     record {
       within = in_bounds;

@@ -48,4 +48,5 @@ IsOfNone hops z = (k : ℕ) → k < length hops → (hop_at hops k).zone ≡ z �
 pub record IsMovedAlong (slots : List Slot) (bs : List Border) (hops : List Hop) (xs fs ys gs : List ℤ) : Type 0 where
   pub amounts : (k : ℕ) → IsOfNone hops (zone_of slots k) → int_at ys k ≡ int_at xs k
   pub flows : (i : ℕ) (forth : Bool) → IsOfNone hops (head_of forth (border_at bs i)) → int_at gs i ≡ int_at fs i
-  pub less : (k : ℕ) → CanLess slots ys k → CanLess slots xs k ⊎ ((j : ℕ) × CanLess slots xs j × (IsOfNone hops (zone_of slots j) → ⊥) × (price_of slots k ≤ℤ price_of slots j))
+  pub less : (k : ℕ) → CanLess slots ys k
+      → CanLess slots xs k ⊎ ((j : ℕ) × CanLess slots xs j × (IsOfNone hops (zone_of slots j) → ⊥) × (price_of slots k ≤ℤ price_of slots j))

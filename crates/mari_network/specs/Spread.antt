@@ -32,7 +32,8 @@ pub record IsSpread (bs : List Border) (fs : List ℤ) (old : List Bool) (start 
   pub first : (hop_at hops 0).zone ≡ start
   pub trace : IsTrace bs hops
   pub room : (k : ℕ) → k < length hops → HasRoom bs fs hops (pos 1) k
-  pub ends : (k : ℕ) → 0 < k → k < length hops → (is_marked marked (border_at bs (hop_at hops k).border).from ≡ true) × (is_marked marked (border_at bs (hop_at hops k).border).to ≡ true)
+  pub ends : (k : ℕ) → 0 < k → k < length hops
+      → (is_marked marked (border_at bs (hop_at hops k).border).from ≡ true) × (is_marked marked (border_at bs (hop_at hops k).border).to ≡ true)
   pub zones : (k : ℕ) → k < length hops → (is_marked marked (hop_at hops k).zone ≡ true) × (is_marked old (hop_at hops k).zone ≡ false)
   pub news : (z : ℕ) → is_marked marked z ≡ true → (is_marked old z ≡ true) ⊎ ((k : ℕ) × (k < length hops) × ((hop_at hops k).zone ≡ z))
   pub keeps : Keeps old marked

@@ -68,7 +68,9 @@ fn push_hop(borders: &[Border], flows: &mut [i64], hop: Hop, more: i64)
     ensures within { AllZip IsWithinLimits borders.now flows.new }
 
     // What leaves one of its two zones comes into the other.
-    ensures carried { (z : ℕ) → sum_along (carried_out z) borders.now flows.new ≡ (sum_along (carried_out z) borders.now flows.old +ℤ at_zone z (tail_of hop.forth (border_at borders.now hop.border)) more) -ℤ at_zone z (head_of hop.forth (border_at borders.now hop.border)) more }
+    ensures carried { (z : ℕ) → sum_along (carried_out z) borders.now flows.new
+        ≡ (sum_along (carried_out z) borders.now flows.old +ℤ at_zone z (tail_of hop.forth (border_at borders.now hop.border)) more)
+        -ℤ at_zone z (head_of hop.forth (border_at borders.now hop.border)) more }
 {
     let now = flows[hop.border];
     flows[hop.border] = flow_after(&borders[hop.border], now, more, hop.forth);
@@ -156,7 +158,8 @@ fn push_chain(borders: &[Border], flows: &mut [i64], hops: &[Hop], at: usize, mo
     // did.
     ensures within { AllZip IsWithinLimits borders.now flows.new }
     ensures others { (i : ℕ) → ((k : ℕ) → 0 < k → k < length hops.now → (hop_at hops.now k).border ≡ i → ⊥) → int_at flows.new i ≡ int_at flows.old i }
-    ensures carried { (z : ℕ) → (sum_along (carried_out z) borders.now flows.new +ℤ at_zone z (hop_at hops.now 0).zone most) ≡ sum_along (carried_out z) borders.now flows.old +ℤ at_zone z (hop_at hops.now at).zone most }
+    ensures carried { (z : ℕ) → (sum_along (carried_out z) borders.now flows.new +ℤ at_zone z (hop_at hops.now 0).zone most)
+        ≡ sum_along (carried_out z) borders.now flows.old +ℤ at_zone z (hop_at hops.now at).zone most }
 {
     let mut place = at;
     while place > 0 {

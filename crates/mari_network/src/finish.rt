@@ -15,7 +15,8 @@ use std::alloc::{AllocError, Global};
 
 /// The first amount from a place on that is not 0.
 pub fn first_short(amounts: &[i64], from: usize) -> Option<usize>
-    ensures { MatchOption result ((k : ℕ) → from ≤ k → k < length amounts.now → int_at amounts.now k ≡ pos 0) (λ k. (from ≤ k) × (k < length amounts.now) × (int_at amounts.now k ≢ pos 0)) }
+    ensures { MatchOption result ((k : ℕ) → from ≤ k → k < length amounts.now → int_at amounts.now k ≡ pos 0)
+        (λ k. (from ≤ k) × (k < length amounts.now) × (int_at amounts.now k ≢ pos 0)) }
 {
     for i in from..amounts.len() {
         if amounts[i] != 0 {

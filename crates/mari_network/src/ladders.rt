@@ -97,7 +97,8 @@ pub fn dearest_with_stand_in(
     requires best { (i : ℕ) → best ≡ Some i → i < length network.now.slots.now }
     ensures one { (i : ℕ) → result ≡ Some i → (best ≡ Some i) ⊎ (CanLess network.now.slots.now amounts.now i × (zone_of network.now.slots.now i ≡ zone)) }
     ensures keeps { (v : ℤ) → IsAbove network.now.slots.now v best → IsAbove network.now.slots.now v result }
-    ensures above { (k : ℕ) → network.now.on_ladders ≤ k → CanLess network.now.slots.now amounts.now k → zone_of network.now.slots.now k ≡ zone → IsAbove network.now.slots.now (price_of network.now.slots.now k) result }
+    ensures above { (k : ℕ) → network.now.on_ladders ≤ k → CanLess network.now.slots.now amounts.now k → zone_of network.now.slots.now k ≡ zone
+        → IsAbove network.now.slots.now (price_of network.now.slots.now k) result }
 {
     let slots = network.slots;
     let place = network.on_ladders + zone;
@@ -120,7 +121,8 @@ pub fn cheapest_with_stand_in(
     requires best { (i : ℕ) → best ≡ Some i → i < length network.now.slots.now }
     ensures one { (i : ℕ) → result ≡ Some i → (best ≡ Some i) ⊎ (CanMore network.now.slots.now amounts.now i × (zone_of network.now.slots.now i ≡ zone)) }
     ensures keeps { (v : ℤ) → IsBelow network.now.slots.now v best → IsBelow network.now.slots.now v result }
-    ensures below { (k : ℕ) → network.now.on_ladders ≤ k → CanMore network.now.slots.now amounts.now k → zone_of network.now.slots.now k ≡ zone → IsBelow network.now.slots.now (price_of network.now.slots.now k) result }
+    ensures below { (k : ℕ) → network.now.on_ladders ≤ k → CanMore network.now.slots.now amounts.now k → zone_of network.now.slots.now k ≡ zone
+        → IsBelow network.now.slots.now (price_of network.now.slots.now k) result }
 {
     let slots = network.slots;
     let place = network.on_ladders + zone;

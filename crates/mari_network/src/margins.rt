@@ -149,7 +149,8 @@ pub fn add_to_margin(slots: &[Slot], amounts: &[i64], margins: &mut [Margin], sl
     requires cheapest { (i : ℕ) → cheapest_at margins.old (zone_of slots.now slot) ≡ Some i → i < length slots.now }
 
     // The entry of this zone has the slot, and those of others stay.
-    ensures here { IsMarginWith slots.now amounts.now (slice_index_or margins.old (zone_of slots.now slot) no_margin) slot (slice_index_or margins.new (zone_of slots.now slot) no_margin) }
+    ensures here { IsMarginWith slots.now amounts.now (slice_index_or margins.old (zone_of slots.now slot) no_margin) slot
+        (slice_index_or margins.new (zone_of slots.now slot) no_margin) }
     ensures others { (z : ℕ) → z ≢ zone_of slots.now slot → slice_index_or margins.new z no_margin ≡ slice_index_or margins.old z no_margin }
 {
     let zone = slots[slot].zone as usize;

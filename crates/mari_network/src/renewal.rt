@@ -36,7 +36,8 @@ fn margin_with_stand_in(
     requires zone { zone < length network.now.meeting.now }
     requires dearest { (i : ℕ) → on_ladder.dearest ≡ Some i → i < length network.now.slots.now }
     requires cheapest { (i : ℕ) → on_ladder.cheapest ≡ Some i → i < length network.now.slots.now }
-    ensures { IsMarginIn network.now.slots.now amounts.now zone network.now.on_ladders on_ladder → IsMarginIn network.now.slots.now amounts.now zone (length network.now.slots.now) result }
+    ensures { IsMarginIn network.now.slots.now amounts.now zone network.now.on_ladders on_ladder
+        → IsMarginIn network.now.slots.now amounts.now zone (length network.now.slots.now) result }
 {
     Margin {
         dearest: dearest_with_stand_in(network, amounts, on_ladder.dearest, zone),
@@ -60,7 +61,8 @@ fn dearest_left(
     requires sink { sink < length network.now.slots.now }
     requires before { (i : ℕ) → before ≡ Some i → i < length network.now.slots.now }
     ensures there { (i : ℕ) → result ≡ Some i → i < length network.now.slots.now }
-    ensures left { (old : List ℤ) (source : ℕ) → IsMoved network.now.slots.now old amounts.now sink source → IsDearestIn network.now.slots.now old zone network.now.on_ladders before
+    ensures left { (old : List ℤ) (source : ℕ) → IsMoved network.now.slots.now old amounts.now sink source
+        → IsDearestIn network.now.slots.now old zone network.now.on_ladders before
         → IsDearestBut network.now.slots.now amounts.now zone network.now.on_ladders source result }
 {
     let slots = network.slots;
@@ -88,7 +90,8 @@ fn cheapest_left(
     requires source { source < length network.now.slots.now }
     requires before { (i : ℕ) → before ≡ Some i → i < length network.now.slots.now }
     ensures there { (i : ℕ) → result ≡ Some i → i < length network.now.slots.now }
-    ensures left { (old : List ℤ) (sink : ℕ) → IsMoved network.now.slots.now old amounts.now sink source → IsCheapestIn network.now.slots.now old zone network.now.on_ladders before
+    ensures left { (old : List ℤ) (sink : ℕ) → IsMoved network.now.slots.now old amounts.now sink source
+        → IsCheapestIn network.now.slots.now old zone network.now.on_ladders before
         → IsCheapestBut network.now.slots.now amounts.now zone network.now.on_ladders sink result }
 {
     let slots = network.slots;
@@ -116,7 +119,8 @@ fn dearest_after(
     requires source { source < length network.now.slots.now }
     requires before { (i : ℕ) → before ≡ Some i → i < length network.now.slots.now }
     ensures there { (i : ℕ) → result ≡ Some i → i < length network.now.slots.now }
-    ensures right { (old : List ℤ) → IsMoved network.now.slots.now old amounts.now sink source → IsDearestIn network.now.slots.now old zone network.now.on_ladders before
+    ensures right { (old : List ℤ) → IsMoved network.now.slots.now old amounts.now sink source
+        → IsDearestIn network.now.slots.now old zone network.now.on_ladders before
         → IsDearestIn network.now.slots.now amounts.now zone network.now.on_ladders result }
 {
     let left = dearest_left(network, amounts, before, zone, sink);
@@ -142,7 +146,8 @@ fn cheapest_after(
     requires source { source < length network.now.slots.now }
     requires before { (i : ℕ) → before ≡ Some i → i < length network.now.slots.now }
     ensures there { (i : ℕ) → result ≡ Some i → i < length network.now.slots.now }
-    ensures right { (old : List ℤ) → IsMoved network.now.slots.now old amounts.now sink source → IsCheapestIn network.now.slots.now old zone network.now.on_ladders before
+    ensures right { (old : List ℤ) → IsMoved network.now.slots.now old amounts.now sink source
+        → IsCheapestIn network.now.slots.now old zone network.now.on_ladders before
         → IsCheapestIn network.now.slots.now amounts.now zone network.now.on_ladders result }
 {
     let left = cheapest_left(network, amounts, before, zone, source);
@@ -175,9 +180,12 @@ pub fn renew(
 
     // The entries of this zone are right, where that of its ladder was right before.
     ensures long { (length margins.new.on_ladders.items ≡ length margins.old.on_ladders.items) × (length margins.new.all.items ≡ length margins.old.all.items) }
-    ensures here { (old : List ℤ) → IsMoved network.now.slots.now old amounts.now sink source → IsMarginIn network.now.slots.now old zone network.now.on_ladders (slice_index_or margins.old.on_ladders.items zone no_margin)
-        → IsMarginIn network.now.slots.now amounts.now zone network.now.on_ladders (slice_index_or margins.new.on_ladders.items zone no_margin) × IsMarginIn network.now.slots.now amounts.now zone (length network.now.slots.now) (slice_index_or margins.new.all.items zone no_margin) }
-    ensures others { (z : ℕ) → z ≢ zone → (slice_index_or margins.new.on_ladders.items z no_margin ≡ slice_index_or margins.old.on_ladders.items z no_margin) × (slice_index_or margins.new.all.items z no_margin ≡ slice_index_or margins.old.all.items z no_margin) }
+    ensures here { (old : List ℤ) → IsMoved network.now.slots.now old amounts.now sink source
+        → IsMarginIn network.now.slots.now old zone network.now.on_ladders (slice_index_or margins.old.on_ladders.items zone no_margin)
+        → IsMarginIn network.now.slots.now amounts.now zone network.now.on_ladders (slice_index_or margins.new.on_ladders.items zone no_margin)
+        × IsMarginIn network.now.slots.now amounts.now zone (length network.now.slots.now) (slice_index_or margins.new.all.items zone no_margin) }
+    ensures others { (z : ℕ) → z ≢ zone → (slice_index_or margins.new.on_ladders.items z no_margin ≡ slice_index_or margins.old.on_ladders.items z no_margin)
+        × (slice_index_or margins.new.all.items z no_margin ≡ slice_index_or margins.old.all.items z no_margin) }
 {
     let before = margins.on_ladders[zone];
     let after = Margin {

@@ -70,7 +70,8 @@ fn reach_over(
     requires ends { All (IsBetween (length marked.old)) borders.now }
 
     // The hops are still a spread, from wherever it began.
-    ensures spread { OnOk result ((old : List Bool) (start : ℕ) → IsSpread borders.now flows.now old start marked.old hops.old.items → IsSpread borders.now flows.now old start marked.new hops.new.items) }
+    ensures spread { OnOk result ((old : List Bool) (start : ℕ) → IsSpread borders.now flows.now old start marked.old hops.old.items
+        → IsSpread borders.now flows.now old start marked.new hops.new.items) }
 
     // Nothing is taken back.
     ensures keeps { Keeps marked.old marked.new }
@@ -78,7 +79,8 @@ fn reach_over(
     ensures more { length hops.old.items ≤ length hops.new.items }
 
     // Along this way nothing comes from a zone that isn't marked.
-    ensures into { OnOk result (pos 0 <ℤ room_of way.forth (border_at borders.now way.border) (int_at flows.now way.border) → is_marked marked.new way.from ≡ true) }
+    ensures into { OnOk result
+        (pos 0 <ℤ room_of way.forth (border_at borders.now way.border) (int_at flows.now way.border) → is_marked marked.new way.from ≡ true) }
 {
     if marked[way.from as usize] {
         return Ok(());
@@ -115,7 +117,8 @@ fn look(
     requires limits { AllZip IsWithinLimits network.now.borders.now flows.now }
 
     // The hops are still a spread, from wherever it began.
-    ensures spread { OnOk result ((old : List Bool) (start : ℕ) → IsSpread network.now.borders.now flows.now old start marked.old hops.old.items → IsSpread network.now.borders.now flows.now old start marked.new hops.new.items) }
+    ensures spread { OnOk result ((old : List Bool) (start : ℕ) → IsSpread network.now.borders.now flows.now old start marked.old hops.old.items
+        → IsSpread network.now.borders.now flows.now old start marked.new hops.new.items) }
 
     // Nothing is taken back.
     ensures keeps { Keeps marked.old marked.new }
@@ -230,7 +233,8 @@ fn unmark_hops(marked: &mut [bool], hops: &[Hop])
 /// Takes the marks of a level back, before which so many zones were left.
 fn take_back(marked: &mut [bool], hops: &[Hop], left: usize)
     requires zones { (k : ℕ) → k < length hops.now → (hop_at hops.now k).zone < length marked.old }
-    ensures { (bs : List TheBorder) (fs : List ℤ) (old : List Bool) (start : ℕ) → IsSpread bs fs old start marked.old hops.now → left ≡ count_by not old → old ≡ marked.new }
+    ensures { (bs : List TheBorder) (fs : List ℤ) (old : List Bool) (start : ℕ)
+        → IsSpread bs fs old start marked.old hops.now → left ≡ count_by not old → old ≡ marked.new }
 {
     if left == marked.len() {
         unmark(marked);
@@ -281,10 +285,12 @@ fn chain_by_levels(
     requires left { left.old ≡ count_by not marked.old }
 
     // Prices that show that nothing improves, or a chain that does.
-    ensures found { IfOk result (λ r. MatchOption r (AreTightPrices network.now amounts.now flows.now prices.new) (IsImproving network.now amounts.now flows.now)) }
+    ensures found { IfOk result
+        (λ r. MatchOption r (AreTightPrices network.now amounts.now flows.now prices.new) (IsImproving network.now amounts.now flows.now)) }
 
     // With a chain the levels before its own, of which none has a zone of its hops.
-    ensures levels { IfOk result (λ r. IfSome r (λ _. AreLevels network.now.slots.now network.now.borders.now amounts.now flows.now marked.new (int_at prices.new))) }
+    ensures levels { IfOk result
+        (λ r. IfSome r (λ _. AreLevels network.now.slots.now network.now.borders.now amounts.now flows.now marked.new (int_at prices.new))) }
     ensures left { IfOk result (λ r. IfSome r (λ _. left.new ≡ count_by not marked.new)) }
     ensures unmarked { IfOk result (λ r. IfSome r (λ chain. AreUnmarked marked.new chain.hops.items)) }
 {
@@ -325,7 +331,8 @@ pub fn next_chain(
     requires margins { AreMargins network.now.slots.now amounts.now (length network.now.meeting.now) (length network.now.slots.now) margins.now }
     requires runs { Runs network.now amounts.now flows.now }
     requires levels { HasLevels network.now amounts.now flows.now search.old }
-    ensures found { IfOk result (λ r. MatchOption r (AreTightPrices network.now amounts.now flows.now search.new.prices.items) (IsImproving network.now amounts.now flows.now)) }
+    ensures found { IfOk result
+        (λ r. MatchOption r (AreTightPrices network.now amounts.now flows.now search.new.prices.items) (IsImproving network.now amounts.now flows.now)) }
     ensures zones { HasZones (length network.now.meeting.now) search.new }
     ensures levels { IfOk result (λ r. IfSome r (λ _. HasLevels network.now amounts.now flows.now search.new)) }
     ensures unmarked { IfOk result (λ r. IfSome r (λ chain. AreUnmarked search.new.marked.items chain.hops.items)) }
@@ -356,7 +363,8 @@ pub fn find_chain(
     requires margins { AreMargins network.now.slots.now amounts.now (length network.now.meeting.now) (length network.now.slots.now) margins.now }
     requires runs { Runs network.now amounts.now flows.now }
     requires search { HasZones (length network.now.meeting.now) search.old }
-    ensures found { IfOk result (λ r. MatchOption r (AreTightPrices network.now amounts.now flows.now search.new.prices.items) (IsImproving network.now amounts.now flows.now)) }
+    ensures found { IfOk result
+        (λ r. MatchOption r (AreTightPrices network.now amounts.now flows.now search.new.prices.items) (IsImproving network.now amounts.now flows.now)) }
     ensures search { HasZones (length network.now.meeting.now) search.new }
 {
     begin_anew(search);

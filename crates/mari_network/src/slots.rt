@@ -44,7 +44,8 @@ pub fn move_amount(slots: &[Slot], amounts: &mut [i64], at: usize, more: i64)
     ensures within { AllZip IsWithinSlot slots.now amounts.old → AllZip IsWithinSlot slots.now amounts.new }
 
     // What that does to a zone's sum, and to what all is worth.
-    ensures into { (z : ℕ) → sum_along (slot_into z) slots.now amounts.new ≡ sum_along (slot_into z) slots.now amounts.old +ℤ at_zone z (slot_at slots.now at).zone more }
+    ensures into { (z : ℕ)
+        → sum_along (slot_into z) slots.now amounts.new ≡ sum_along (slot_into z) slots.now amounts.old +ℤ at_zone z (slot_at slots.now at).zone more }
     ensures worth { sum_along slot_gain slots.now amounts.new ≡ sum_along slot_gain slots.now amounts.old -ℤ ((slot_at slots.now at).price *ℤ more) }
 {
     let now = amounts[at];

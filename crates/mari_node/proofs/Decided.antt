@@ -152,7 +152,8 @@ decided_feasible m a word v feasible full w = record {
   orders =
       AllZip-both (λ o q. IsValidOrder m.zones (length m.gates) o × IsWithin (bounds_of_word m word o) q)
       (λ o q. IsValidOrder m.zones (length m.gates) o × IsWithin (bounds_of_word m word o) q) (λ o q. IsWithin (own_bounds m a o) q)
-      (λ o q h _. subst (λ (s : Span). IsWithin s q) (own_span m a word o v full w h.0) h.1) m.orders a.mw (AllZip-with _ _ m.orders a.mw v.orders w.orders) (AllZip-with _ _ m.orders a.mw v.orders w.orders);
+      (λ o q h _. subst (λ (s : Span). IsWithin s q) (own_span m a word o v full w h.0) h.1) m.orders a.mw (AllZip-with _ _ m.orders a.mw v.orders w.orders)
+      (AllZip-with _ _ m.orders a.mw v.orders w.orders);
   gates = keeps_as m (is_open m a) (opens_in word) (opens_as_word m a word v full w) feasible.rules;
   borders = w.borders;
   balance = w.balance;
@@ -166,6 +167,7 @@ decided_tight m a word ps v full w tight = record {
   orders =
       AllZip-both (λ o q. IsValidOrder m.zones (length m.gates) o × IsTightOrder (bounds_of_word m word) ps o q)
       (λ o q. IsValidOrder m.zones (length m.gates) o × IsTightOrder (bounds_of_word m word) ps o q) (IsTightOrder (own_bounds m a) ps)
-      (λ o q h _. subst (λ (s : Span). IsTightTrade o.side o.price.0 (price_at ps o.zone) s q) (own_span m a word o v full w h.0) h.1) m.orders a.mw (AllZip-with _ _ m.orders a.mw v.orders tight.orders) (AllZip-with _ _ m.orders a.mw v.orders tight.orders);
+      (λ o q h _. subst (λ (s : Span). IsTightTrade o.side o.price.0 (price_at ps o.zone) s q) (own_span m a word o v full w h.0) h.1) m.orders a.mw
+      (AllZip-with _ _ m.orders a.mw v.orders tight.orders) (AllZip-with _ _ m.orders a.mw v.orders tight.orders);
   borders = tight.borders;
 }

@@ -62,7 +62,8 @@ bound_reported m word s h = greater_of_0 s.welfare (dual_value_of (bounds_of_wor
 welfare_reported : (m : Market) (word : List Bool) (s : Solved) → IsValid m → IsSolution (bounds_of_word m word) m s → IsAdmissible m s.activation → pos s.welfare ≡ welfare_of m s.activation
 welfare_reported m word s v h adm = greater_is s.welfare (welfare_of m s.activation) h.stated (welfare_at_least_0 m s.activation v adm)
 
-attained : (m : Market) (word : List Bool) (s : Solved) → IsValid m → IsSolution (bounds_of_word m word) m s → IsAdmissible m s.activation → IsAttained m (record { activation = s.activation; welfare = s.welfare })
+attained : (m : Market) (word : List Bool) (s : Solved) → IsValid m → IsSolution (bounds_of_word m word) m s → IsAdmissible m s.activation
+    → IsAttained m (record { activation = s.activation; welfare = s.welfare })
 attained m word s v h adm = record { admissible = adm; welfare = sym (welfare_reported m word s v h adm) }
 
 pub last_feasible : (m : Market) (word : List Bool) (o : Optimum) (a : Activation) → IsValid m → IsLastNode m word o → IsWritten m o a → IsFeasible m a
@@ -121,7 +122,8 @@ inner_best m word o s v n is adm = let h = solved_as m word o s n.optimum is in 
 }
 
 -- and where it isn't, it shows that some relaxed optimum isn't admissible
-pub inner_bound : (m : Market) (word : List Bool) (o : Optimum) (s : Solved) → IsInnerNode m word o → IsSolvedAs m o s → (IsAdmissible m s.activation → ⊥) → IsRelaxedFinding m word (bound_found s.potentials s.welfare)
+pub inner_bound : (m : Market) (word : List Bool) (o : Optimum) (s : Solved) → IsInnerNode m word o → IsSolvedAs m o s → (IsAdmissible m s.activation → ⊥)
+    → IsRelaxedFinding m word (bound_found s.potentials s.welfare)
 inner_bound m word o s n is none = let h = solved_as m word o s n.optimum is in record {
   prices = h.potentials;
   value = value_reported m word s h;
@@ -135,7 +137,8 @@ inner_bound m word o s n is none = let h = solved_as m word o s n.optimum is in 
 }
 
 -- the same where the optimum doesn't keep the gates
-pub inner_unkept : (m : Market) (word : List Bool) (o : Optimum) → IsInnerNode m word o → ((a : Activation) → IsWritten m o a → IsAdmissible m a → ⊥) → IsRelaxedFinding m word (bound_found o.potentials o.welfare)
+pub inner_unkept : (m : Market) (word : List Bool) (o : Optimum) → IsInnerNode m word o → ((a : Activation) → IsWritten m o a → IsAdmissible m a → ⊥)
+    → IsRelaxedFinding m word (bound_found o.potentials o.welfare)
 inner_unkept m word o n none =
     let some = some_written m o n.optimum.fits in
     inner_bound m word o (record { activation = some.0; potentials = o.potentials; welfare = o.welfare }) n (record { activation = some.1; potentials = refl; welfare = refl }) (none some.0 some.1)

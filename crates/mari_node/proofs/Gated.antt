@@ -86,7 +86,8 @@ zip_from R (o ∷ os) (q ∷ qs) l h = (h 0 (omega arith), zip_from R os qs (ome
 zip_from R [] (q ∷ qs) l h = absurd (omega (arith, l))
 zip_from R (o ∷ os) [] l h = absurd (omega (arith, l))
 
-at_each : (m : Market) (gated : List ℕ) (P : ℕ → Type 0) → AreGated m gated → All P gated → ((k : ℕ) → k < length m.orders → is_some (order_at m k).gate ≡ false → P k) → (k : ℕ) → k < length m.orders → P k
+at_each : (m : Market) (gated : List ℕ) (P : ℕ → Type 0)
+    → AreGated m gated → All P gated → ((k : ℕ) → k < length m.orders → is_some (order_at m k).gate ≡ false → P k) → (k : ℕ) → k < length m.orders → P k
 at_each m gated P g all plain k l = elim (cases_Bool (is_some (order_at m k).gate)) [
   | inl has ↦ let h = g.all k l has in subst P h.2 (all h.0 k h.1)
   | inr none ↦ plain k l none
@@ -99,13 +100,15 @@ pub zip_by_gated : (m : Market) (o : Optimum) (a : Activation) (gated : List ℕ
 zip_by_gated m o a gated R w g all plain = zip_from R m.orders a.mw (written_long m o a w) (λ k l.
     subst (R (order_at m k)) (written_quantity m o a k w l) (at_each m gated (λ k. R (order_at m k) (quantity_at o k)) g all plain k l))
 
-pub gated_of_zip : (m : Market) (o : Optimum) (a : Activation) (gated : List ℕ) (R : Order → ℕ → Type 0) → IsWritten m o a → AreGated m gated → AllZip R m.orders a.mw → All (λ k. R (order_at m k) (quantity_at o k)) gated
+pub gated_of_zip : (m : Market) (o : Optimum) (a : Activation) (gated : List ℕ) (R : Order → ℕ → Type 0) → IsWritten m o a → AreGated m gated → AllZip R m.orders a.mw
+    → All (λ k. R (order_at m k) (quantity_at o k)) gated
 gated_of_zip m o a gated R w g all = λ j d l.
     let k = get_or gated j d in
     let there = g.there j d l in
     subst (R (order_at m k)) (sym (written_quantity m o a k w there)) (AllZip-at R m.orders a.mw k no_order 0 there all)
 
-pub any_of_gated : (m : Market) (o : Optimum) (a : Activation) (gated : List ℕ) (R : Order → ℕ → Type 0) → IsWritten m o a → AreGated m gated → Any (λ k. R (order_at m k) (quantity_at o k)) gated → AnyZip R m.orders a.mw
+pub any_of_gated : (m : Market) (o : Optimum) (a : Activation) (gated : List ℕ) (R : Order → ℕ → Type 0)
+    → IsWritten m o a → AreGated m gated → Any (λ k. R (order_at m k) (quantity_at o k)) gated → AnyZip R m.orders a.mw
 any_of_gated m o a gated R w g some =
     let k = some.1 in
     let there : k < length m.orders = subst (λ (j : ℕ). j < length m.orders) some.3 (g.there some.0 k some.2) in

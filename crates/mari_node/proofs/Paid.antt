@@ -66,7 +66,8 @@ all_paid : (m : Market) (o : Optimum) (a : Activation) (gated : List ℕ) → Ar
 all_paid m o a gated at w paid = zip_by_gated m o a gated (IsPaidOrder o.potentials.cents) w at (λ j d l some.
     let k = get_or gated j d in
     let there = at.there j d l in
-    subst (IsPaid (order_at m k).price.0 (price_at o.potentials.cents (order_at m k).zone)) (written_put m o a k w there ∙ ap (put_in (order_at m k).side) (sym (written_quantity m o a k w there))) (paid j d l)) (λ k l none some. absurd (cc))
+    subst (IsPaid (order_at m k).price.0 (price_at o.potentials.cents (order_at m k).zone)) (written_put m o a k w there ∙ ap (put_in (order_at m k).side) (sym (written_quantity m o a k w there)))
+    (paid j d l)) (λ k l none some. absurd (cc))
 
 -- what is known of an order at a prefix
 record IsKnown (m : Market) (word : List Bool) (a : Activation) (ps : List Cents) (o : Order) (q : ℕ) : Type 0 where
@@ -74,7 +75,8 @@ record IsKnown (m : Market) (word : List Bool) (a : Activation) (ps : List Cents
   within : IsWithin (bounds_of_word m word o) q
   own : IsWithin (own_bounds m a o) q
 
-known : (m : Market) (word : List Bool) (a : Activation) (ps : List Cents) → IsValid m → AllZip (λ o q. IsWithin (bounds_of_word m word o) q) m.orders a.mw → IsFeasible m a → AllZip (IsKnown m word a ps) m.orders a.mw
+known : (m : Market) (word : List Bool) (a : Activation) (ps : List Cents) → IsValid m → AllZip (λ o q. IsWithin (bounds_of_word m word o) q) m.orders a.mw → IsFeasible m a
+    → AllZip (IsKnown m word a ps) m.orders a.mw
 known m word a ps v w f =
     AllZip-both (λ o q. IsValidOrder m.zones (length m.gates) o × IsWithin (bounds_of_word m word o) q) (λ o q. IsWithin (own_bounds m a o) q) (IsKnown m word a ps)
     (λ o q h own. record { valid = h.0; within = h.1; own = own }) m.orders a.mw (AllZip-with _ _ m.orders a.mw v.orders w) f.orders
@@ -86,7 +88,8 @@ pub paid_consistent : (m : Market) (word : List Bool) (o : Optimum) (a : Activat
 paid_consistent m word o a gated v at w f s paid =
     let ps = o.potentials.cents in
     let held : AllZip (λ (o : Order) (q : ℕ). IsKnown m word a ps o q × IsPaidOrder ps o q) m.orders a.mw =
-    AllZip-both (IsKnown m word a ps) (IsPaidOrder ps) (λ (o : Order) (q : ℕ). IsKnown m word a ps o q × IsPaidOrder ps o q) (λ o q k h. (k, h)) m.orders a.mw (known m word a ps v s.within.orders f) (all_paid m o a gated at w paid) in
+    AllZip-both (IsKnown m word a ps) (IsPaidOrder ps) (λ (o : Order) (q : ℕ). IsKnown m word a ps o q × IsPaidOrder ps o q) (λ o q k h. (k, h)) m.orders a.mw (known m word a ps v s.within.orders f)
+    (all_paid m o a gated at w paid) in
     record {
       feasible = f;
       consistent = (
@@ -95,7 +98,8 @@ paid_consistent m word o a gated v at w f s paid =
           prices = s.potentials;
           orders =
               AllZip-both (λ (o : Order) (q : ℕ). IsKnown m word a ps o q × IsPaidOrder ps o q) (IsTightOrder (bounds_of_word m word) ps) (IsConsistentOrder (is_open m a) ps)
-              (λ o q h t. order_consistent (length m.gates) (state_of m.gates word) (is_open m a) o.gate o.side o.price.0 (price_at ps o.zone) o q h.0.valid.gate h.0.within h.0.own t h.1) m.orders a.mw held s.tight.orders;
+              (λ o q h t. order_consistent (length m.gates) (state_of m.gates word) (is_open m a) o.gate o.side o.price.0 (price_at ps o.zone) o q h.0.valid.gate h.0.within h.0.own t h.1) m.orders
+              a.mw held s.tight.orders;
           borders = s.tight.borders;
         },
       );

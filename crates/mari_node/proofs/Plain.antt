@@ -144,7 +144,8 @@ pub record AreBoundsOver (end : End) (m : Market) (o : Optimum) (places : List �
   pub plain : ArePlainBounds end m o bounds
   pub gated : (z : ℕ) → z < m.zones → All (IsNoLooser end m o z (int_at bounds z)) places
 
-raised_plain : (end : End) (m : Market) (o : Optimum) (z k : ℕ) (old new : ℤ) → k < length m.orders → IsPlainBound end m o z old → IsRaised end (order_at m k) (quantity_at o k) z old new → IsPlainBound end m o z new
+raised_plain : (end : End) (m : Market) (o : Optimum) (z k : ℕ) (old new : ℤ) → k < length m.orders → IsPlainBound end m o z old → IsRaised end (order_at m k) (quantity_at o k) z old new
+    → IsPlainBound end m o z new
 raised_plain end m o z k old new l p r = record {
   bound = by_from r.from;
   capped = omega (arith, ints, p.capped, r.kept);
@@ -173,14 +174,16 @@ tightest_over end m o a gated bounds w g h = record { one_each = h.plain.one_eac
   where
     set_by : (z : ℕ) (c : ℤ) → (c ≡ neg_ℤ CAP) ⊎ ((k : ℕ) × (k < length m.orders) × SetsThere end m o z c k) → IsBoundBy end m.orders a.mw z c
     set_by z c (inl e) = inl e
-    set_by z c (inr s) = inr (AnyZip-at (SetsAt end z c) m.orders a.mw s.0 no_order 0 s.1 (omega (arith, written_long m o a w, s.1)) (subst (SetsAt end z c (order_at m s.0)) (written_quantity m o a s.0 w s.1) s.2))
+    set_by z c (inr s) =
+        inr (AnyZip-at (SetsAt end z c) m.orders a.mw s.0 no_order 0 s.1 (omega (arith, written_long m o a w, s.1)) (subst (SetsAt end z c (order_at m s.0)) (written_quantity m o a s.0 w s.1) s.2))
 
     no_looser : (z : ℕ) → z < m.zones → IsPlainBound end m o z (int_at bounds z) → AllZip (λ order q. (d : ℤ) → SetsAt end z d order q → d ≤ℤ int_at bounds z) m.orders a.mw
     no_looser z b p = zip_by_gated m o a gated (λ order q. (d : ℤ) → SetsAt end z d order q → d ≤ℤ int_at bounds z) w g (h.gated z b) (λ k l none. p.plain k (l, none))
 
     below : (z : ℕ) (d : ℤ) → z < m.zones → IsPlainBound end m o z (int_at bounds z) → IsBoundBy end m.orders a.mw z d → d ≤ℤ int_at bounds z
     below z d b p (inl e) = omega (arith, ints, p.capped)
-    below z d b p (inr s) = AnyZip-meets (λ order q. (c : ℤ) → SetsAt end z c order q → c ≤ℤ int_at bounds z) (SetsAt end z d) (d ≤ℤ int_at bounds z) (λ order q f t. f d t) m.orders a.mw (no_looser z b p) s
+    below z d b p (inr s) =
+        AnyZip-meets (λ order q. (c : ℤ) → SetsAt end z c order q → c ≤ℤ int_at bounds z) (SetsAt end z d) (d ≤ℤ int_at bounds z) (λ order q f t. f d t) m.orders a.mw (no_looser z b p) s
 
     tightest : (z : ℕ) → z < m.zones → IsPlainBound end m o z (int_at bounds z) → IsTightest end m.orders a.mw z (int_at bounds z)
     tightest z b p = record { bound = set_by z (int_at bounds z) p.bound; tightest = λ d s. below z d b p s }

@@ -144,7 +144,8 @@ pub feasible_by : (m : Market) (a : Activation) → IsBounded m a → AllZip IsN
 feasible_by m a b whole runs rules =
     let rests : AllZip (Rests (is_open m a)) m.orders a.mw = all_rest (is_open m a) IsNotPartial m.orders a.mw whole (λ g t. t) in
     let first : AllZip (λ o q. (q ≤ o.greatest) × IsNotPartial o q) m.orders a.mw = both (λ o q. (q ≤ o.greatest) × IsNotPartial o q) (λ o q x y. (x, y)) m.orders a.mw b.orders whole in
-    let second : AllZip (λ o q. RunsWhereOpen (is_open m a) o q × Rests (is_open m a) o q) m.orders a.mw = both (λ o q. RunsWhereOpen (is_open m a) o q × Rests (is_open m a) o q) (λ o q x y. (x, y)) m.orders a.mw runs rests in
+    let second : AllZip (λ o q. RunsWhereOpen (is_open m a) o q × Rests (is_open m a) o q) m.orders a.mw =
+    both (λ o q. RunsWhereOpen (is_open m a) o q × Rests (is_open m a) o q) (λ o q x y. (x, y)) m.orders a.mw runs rests in
     record {
       orders = both (λ o q. IsWithin (own_bounds m a o) q) (λ o q x y. within_own (is_open m a) o q (record { most = x.0; whole = x.1; runs = y.0; rests = y.1 })) m.orders a.mw first second;
       gates = rules;
@@ -164,11 +165,13 @@ gateless_least n o fits none = by_gate o.gate fits none
 gateless_runs : (opens : ℕ → Bool) (o : Order) (q : ℕ) → is_some o.gate ≡ false → RunsWhereOpen opens o q
 gateless_runs opens o q none = λ g e t. let some : is_some o.gate ≡ true = ap is_some e in absurd (both_ways (is_some o.gate) none some)
 
-opened_at : (m : Market) (o : Optimum) (a : Activation) (gated : List ℕ) (word : List Bool) → AreGated m gated → IsWritten m o a → ((g : ℕ) → opens_in word g ≡ runs_among g m o gated) → opens_in word ≡ is_open m a
+opened_at : (m : Market) (o : Optimum) (a : Activation) (gated : List ℕ) (word : List Bool) → AreGated m gated → IsWritten m o a → ((g : ℕ) → opens_in word g ≡ runs_among g m o gated)
+    → opens_in word ≡ is_open m a
 opened_at m o a gated word at w runs = fun_ext (λ g. runs g ∙ runs_as_gated m o a gated g w at)
 
 -- an order that runs less than its least
-pub partial_at : (m : Market) (o : Optimum) (a : Activation) (gated : List ℕ) → IsValid m → AreGated m gated → IsWritten m o a → Any (λ k. IsPartial (order_at m k) (quantity_at o k)) gated → IsTrue false ↔ IsFeasible m a
+pub partial_at : (m : Market) (o : Optimum) (a : Activation) (gated : List ℕ) → IsValid m → AreGated m gated → IsWritten m o a → Any (λ k. IsPartial (order_at m k) (quantity_at o k)) gated
+    → IsTrue false ↔ IsFeasible m a
 partial_at m o a gated v at w some = (λ t. absurd (false≢true t), λ f. absurd (none_partial m a v (any_of_gated m o a gated IsPartial w at some) f))
 
 -- an order that rests though its gate runs
@@ -178,7 +181,8 @@ pub apart_at : (m : Market) (o : Optimum) (a : Activation) (gated : List ℕ) (w
     → IsTrue b ↔ IsFeasible m a
 apart_at m o a gated word b v at w runs is apart = (
   λ t. absurd (both_ways b apart t),
-  λ f. (is.1 (subst (λ (opens : ℕ → Bool). All (λ k. RunsWhereOpen opens (order_at m k) (quantity_at o k)) gated) (sym (opened_at m o a gated word at w runs)) (gated_of_zip m o a gated (RunsWhereOpen (is_open m a)) w at (run_together_of m a v f)))),
+  λ f. (is.1 (subst (λ (opens : ℕ → Bool). All (λ k. RunsWhereOpen opens (order_at m k) (quantity_at o k)) gated) (sym (opened_at m o a gated word at w runs))
+      (gated_of_zip m o a gated (RunsWhereOpen (is_open m a)) w at (run_together_of m a v f)))),
 )
 
 -- and where neither is so, the rules decide
@@ -189,8 +193,11 @@ pub feasible_by_gated : (m : Market) (o : Optimum) (a : Activation) (gated : Lis
     → IsTrue b ↔ KeepsGateRules m.gates (opens_in word) → IsTrue b ↔ IsFeasible m a
 feasible_by_gated m o a gated word b v at w bounded runs whole together rules =
     let opens = opened_at m o a gated word at w runs in
-    let all_whole : AllZip IsNotPartial m.orders a.mw = zip_by_gated m o a gated IsNotPartial w at whole (λ k l none _. let least = gateless_least (length m.gates) (order_at m k) (v.orders k no_order l).gate none in omega arith) in
-    let all_run : AllZip (RunsWhereOpen (is_open m a)) m.orders a.mw = zip_by_gated m o a gated (RunsWhereOpen (is_open m a)) w at (subst (λ (opens : ℕ → Bool). All (λ k. RunsWhereOpen opens (order_at m k) (quantity_at o k)) gated) opens together) (λ k l none. gateless_runs (is_open m a) (order_at m k) (quantity_at o k) none) in (
+    let all_whole : AllZip IsNotPartial m.orders a.mw =
+    zip_by_gated m o a gated IsNotPartial w at whole (λ k l none _. let least = gateless_least (length m.gates) (order_at m k) (v.orders k no_order l).gate none in omega arith) in
+    let all_run : AllZip (RunsWhereOpen (is_open m a)) m.orders a.mw =
+    zip_by_gated m o a gated (RunsWhereOpen (is_open m a)) w at (subst (λ (opens : ℕ → Bool). All (λ k. RunsWhereOpen opens (order_at m k) (quantity_at o k)) gated) opens together)
+    (λ k l none. gateless_runs (is_open m a) (order_at m k) (quantity_at o k) none) in (
       λ t. feasible_by m a bounded all_whole all_run (subst (KeepsGateRules m.gates) opens (rules.0 t)),
       λ f. rules.1 (subst (KeepsGateRules m.gates) (sym opens) f.gates),
     )
@@ -212,7 +219,8 @@ keeps_by_word gates word opens full begun ok = record {
   parents = λ g h t p.
       opened word opens h begun (ok.rules.parents g h (in_word 0 word opens g begun (omega (arith, there (λ (info : GateInfo). info.parent) gates g h p, full)) (ap opens (omega arith) ∙ t)) p);
   groups = λ g h k t u p q.
-      ok.rules.groups g h k (in_word 0 word opens g begun (omega (arith, there (λ (info : GateInfo). info.group) gates g k p, full)) (ap opens (omega arith) ∙ t)) (in_word 0 word opens h begun (omega (arith, there (λ (info : GateInfo). info.group) gates h k q, full)) (ap opens (omega arith) ∙ u)) p q;
+      ok.rules.groups g h k (in_word 0 word opens g begun (omega (arith, there (λ (info : GateInfo). info.group) gates g k p, full)) (ap opens (omega arith) ∙ t))
+      (in_word 0 word opens h begun (omega (arith, there (λ (info : GateInfo). info.group) gates h k q, full)) (ap opens (omega arith) ∙ u)) p q;
 }
 
 -- ---- the word of a prefix

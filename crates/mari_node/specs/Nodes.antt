@@ -25,7 +25,12 @@ bound_found potentials welfare = record { potentials = potentials; bound = welfa
 
 -- the solved optimum as a conflict, by a chain of zones
 abbrev pub conflict_found : Solved → List ℕ → Relaxed
-conflict_found s chain = record { potentials = s.potentials; bound = s.welfare; best = None; conflict = Some (record { chain = chain; potentials = s.potentials; activation = s.activation }) }
+conflict_found s chain = record {
+  potentials = s.potentials;
+  bound = s.welfare;
+  best = None;
+  conflict = Some (record { chain = chain; potentials = s.potentials; activation = s.activation });
+}
 
 -- the relaxed optimum of a word
 abbrev pub IsRelaxedOptimum : Market → List Bool → Optimum → Type 0

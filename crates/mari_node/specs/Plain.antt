@@ -20,7 +20,8 @@ pub record SetsPlainly (end : End) (m : Market) (o : Optimum) (k : ℕ) : Type 0
 -- the potentials keep the bounds that orders without a gate set
 abbrev pub ArePlainKept : Market → Optimum → Type 0
 ArePlainKept m o = (k : ℕ) → IsPlain m k
-    → IsConsistentTrade (own_standing (order_at m k).gate (quantity_at o k)) (order_at m k).side (order_at m k).price.0 (order_at m k).greatest (quantity_at o k) (price_at o.potentials.cents (order_at m k).zone)
+    → IsConsistentTrade (own_standing (order_at m k).gate (quantity_at o k)) (order_at m k).side (order_at m k).price.0 (order_at m k).greatest
+    (quantity_at o k) (price_at o.potentials.cents (order_at m k).zone)
 
 -- the order at this place is of zone z and sets the bound c
 abbrev pub SetsThere : End → Market → Optimum → ℕ → ℤ → ℕ → Type 0

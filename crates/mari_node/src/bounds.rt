@@ -163,7 +163,8 @@ pub(crate) fn bounds_from(
     requires kept { ArePlainKept market.now optimum.now }
 
     // The bounds of the activation that it is written as.
-    ensures { (a : TheActivation) → IsWritten market.now optimum.now a → IsFeasible market.now a → IfOk result (λ b. IsBoundedBy market.now optimum.now.flows.items b a) }
+    ensures { (a : TheActivation) → IsWritten market.now optimum.now a → IsFeasible market.now a
+        → IfOk result (λ b. IsBoundedBy market.now optimum.now.flows.items b a) }
 {
     let orders = market.orders.as_slice();
     let mut bounds = plain_bounds(alloc, market, places, optimum)?;

@@ -37,7 +37,8 @@ fn running(market: &Market, gated: &[usize], optimum: &Optimum) -> Option<OpenGa
     requires gated { AreGated market.now gated.now }
     requires fits { FitsOrders market.now optimum.now }
     ensures runs { IfSome result (λ runs. (g : ℕ) → opens_in runs g ≡ runs_among g market.now optimum.now gated.now) }
-    ensures whole { MatchOption result (Any (λ k. IsPartial (order_at market.now k) (quantity_at optimum.now k)) gated.now) (λ _. All (λ k. IsNotPartial (order_at market.now k) (quantity_at optimum.now k)) gated.now) }
+    ensures whole { MatchOption result (Any (λ k. IsPartial (order_at market.now k) (quantity_at optimum.now k)) gated.now)
+        (λ _. All (λ k. IsNotPartial (order_at market.now k) (quantity_at optimum.now k)) gated.now) }
 {
     let orders = market.orders.as_slice();
     let mut runs = OpenGates::none();

@@ -126,7 +126,8 @@ fn relaxed_node(
     requires ladders { IfSome places (λ p. AreOrderLadders market.now p.now) }
     requires optimum { IsRelaxedOptimum market.now (word_of prefix.now) optimum }
     ensures finding { IfOk result (IsRelaxedFinding market.now (word_of prefix.now)) }
-    ensures best { (a : TheActivation) → IsWritten market.now optimum a → IsAdmissible market.now a → IfOk result (λ relaxed. length (word_of prefix.now) < length market.now.gates → is_some relaxed.best ≡ true) }
+    ensures best { (a : TheActivation) → IsWritten market.now optimum a → IsAdmissible market.now a
+        → IfOk result (λ relaxed. length (word_of prefix.now) < length market.now.gates → is_some relaxed.best ≡ true) }
 {
     if prefix.length as usize == market.gates.as_slice().len() {
         last_node(alloc, market, gated, places, optimum)
@@ -153,7 +154,8 @@ fn finding_by(
     requires empty { IfErr found (λ fault. OfCut fault (λ _. NoneWithin (bounds_at market.now prefix.now) market.now)) }
     ensures finding { IfOk result (IsFinding market.now (word_of prefix.now)) }
     ensures empty { IfOk result (IsEmptyWhereNone market.now (word_of prefix.now)) }
-    ensures left { (optimum start : Option TheActivation) → IsWrittenOf market.now found optimum → IfOk result (λ finding. IsLeft market.now (word_of prefix.now) finding start (left_by optimum start)) }
+    ensures left { (optimum start : Option TheActivation) → IsWrittenOf market.now found optimum
+        → IfOk result (λ finding. IsLeft market.now (word_of prefix.now) finding start (left_by optimum start)) }
 {
     match found {
         Ok(optimum) => {

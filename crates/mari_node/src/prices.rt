@@ -77,7 +77,8 @@ pub(crate) fn contradiction_of(
     requires feasible { (a : TheActivation) → IsWritten market.now optimum.now a → IsFeasible market.now a }
 
     // Whether its activation is admissible.
-    ensures { (a : TheActivation) → IsWritten market.now optimum.now a → IfOk result (λ chain. MatchOption chain (IsAdmissible market.now a) (IsContradictoryChain market.now a)) }
+    ensures { (a : TheActivation) → IsWritten market.now optimum.now a
+        → IfOk result (λ chain. MatchOption chain (IsAdmissible market.now a) (IsContradictoryChain market.now a)) }
 {
     if none_loses(market, gated, optimum) {
         return Ok(None);

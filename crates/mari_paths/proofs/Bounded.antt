@@ -42,7 +42,8 @@ slots_are spans m slots few each =
     (λ k l. let there : k < length m.orders = omega (arith, long, l) in get_or-take (length m.orders) slots k no_slot there ∙ each k there ∙ sym (slots_at spans m k there))
 
 -- and place by place where they are the orders'
-pub slot_is : (spans : Order → Span) (m : Market) (slots : List Slot) (k : ℕ) → k < length m.orders → take (length m.orders) slots ≡ slots_of spans m.orders → slot_at slots k ≡ slot_of (spans (order_at m k)) (order_at m k)
+pub slot_is : (spans : Order → Span) (m : Market) (slots : List Slot) (k : ℕ) → k < length m.orders → take (length m.orders) slots ≡ slots_of spans m.orders
+    → slot_at slots k ≡ slot_of (spans (order_at m k)) (order_at m k)
 slot_is spans m slots k l e = sym (get_or-take (length m.orders) slots k no_slot l) ∙ ap (λ (ss : List Slot). slot_at ss k) e ∙ slots_at spans m k l
 
 -- the slot that is made of an order's bounds

@@ -149,7 +149,8 @@ module _ (m : Market) (slots : List Slot) (xs : List ℤ) (p : ℕ) (s : Slot) (
   zones_after k = elim (cases_eq k p) [
     | inl e ↦ ap (zone_of (slots_after m slots p s w)) e ∙ ap (λ (t : Slot). t.zone) here_after ∙ c.zone ∙ sym (ap (zone_of slots) e)
     | inr other ↦ elim (cases_eq k (stand_at m s)) [
-      | inl e ↦ ap (zone_of (slots_after m slots p s w)) e ∙ ap (λ (t : Slot). t.zone) (two_second slots p (stand_at m s) s (stand_in_of s.zone w) no_slot there) ∙ (stands_in s.zone w).zone ∙ sym stand_zone ∙ sym (ap (zone_of slots) e)
+      | inl e ↦ ap (zone_of (slots_after m slots p s w)) e
+          ∙ ap (λ (t : Slot). t.zone) (two_second slots p (stand_at m s) s (stand_in_of s.zone w) no_slot there) ∙ (stands_in s.zone w).zone ∙ sym stand_zone ∙ sym (ap (zone_of slots) e)
       | inr apart ↦ ap (λ (t : Slot). t.zone) (two_others slots p (stand_at m s) k s (stand_in_of s.zone w) no_slot other apart)
     ]
   ]
@@ -157,13 +158,15 @@ module _ (m : Market) (slots : List Slot) (xs : List ℤ) (p : ℕ) (s : Slot) (
   pub into_after : (z : ℕ) → sum_along (slot_into z) (slots_after m slots p s w) (amounts_after m xs p s v w) ≡ sum_along (slot_into z) slots xs
   into_after z = into_stays z slots xs p (stand_at m s) s (stand_in_of s.zone w) v w less long before there c.zone stand_zone (stands_in s.zone w).zone c.lost c.stood_in
 
-  pub worth_after : sum_along slot_gain (slots_after m slots p s w) (amounts_after m xs p s v w) +ℤ joint_gain m slots xs p ≡ sum_along slot_gain slots xs +ℤ joint_gain m (slots_after m slots p s w) (amounts_after m xs p s v w) p
+  pub worth_after : sum_along slot_gain (slots_after m slots p s w) (amounts_after m xs p s v w) +ℤ joint_gain m slots xs p
+      ≡ sum_along slot_gain slots xs +ℤ joint_gain m (slots_after m slots p s w) (amounts_after m xs p s v w) p
   worth_after =
       let place : length m.orders + zone_of slots p ≡ stand_at m s = ap (λ (z : ℕ). length m.orders + z) (sym c.zone) in
       let place_new : length m.orders + zone_of (slots_after m slots p s w) p ≡ stand_at m s = ap (λ (t : Slot). length m.orders + t.zone) here_after in
       ap (λ (k : ℕ). sum_along slot_gain (slots_after m slots p s w) (amounts_after m xs p s v w) +ℤ (gain_at slots xs p +ℤ gain_at slots xs k)) place
       ∙ worth_moves slots xs p (stand_at m s) s (stand_in_of s.zone w) v w long before there
-      ∙ ap (λ (k : ℕ). sum_along slot_gain slots xs +ℤ (gain_at (slots_after m slots p s w) (amounts_after m xs p s v w) p +ℤ gain_at (slots_after m slots p s w) (amounts_after m xs p s v w) k)) (sym place_new)
+      ∙ ap (λ (k : ℕ). sum_along slot_gain slots xs +ℤ (gain_at (slots_after m slots p s w) (amounts_after m xs p s v w) p +ℤ gain_at (slots_after m slots p s w) (amounts_after m xs p s v w) k))
+      (sym place_new)
 
   stand_ins_after : (z : ℕ) → z < m.zones → slot_at (slots_after m slots p s w) (length m.orders + z) ≡ stand_in_of z (int_at (amounts_after m xs p s v w) (length m.orders + z))
   stand_ins_after z l = elim (cases_eq z s.zone) [
@@ -300,7 +303,8 @@ change_made m slots mid_slots new xs mid ys p q s less a near l fits zone within
     (subst (λ (j : ℕ). ys ≡ set (set xs p (int_at xs p -ℤ less)) j (int_at mid j +ℤ less)) e (to_amounts ∙ ap (λ (zs : List ℤ). set zs q (int_at mid q +ℤ less)) g))
 
 -- what stands in is as before where the order's amount changed
-pub stood_before : (m : Market) (xs mid : List ℤ) (p q most : ℕ) (s : Slot) (v : ℤ) → p < length m.orders → s.zone < m.zones → StandInsNear most m xs → q ≡ stand_at m s → mid ≡ set xs p v → IsNear most (int_at mid q)
+pub stood_before : (m : Market) (xs mid : List ℤ) (p q most : ℕ) (s : Slot) (v : ℤ) → p < length m.orders → s.zone < m.zones → StandInsNear most m xs → q ≡ stand_at m s → mid ≡ set xs p v
+    → IsNear most (int_at mid q)
 stood_before m xs mid p q most s v l there near e f =
     let apart : stand_at m s ≢ p = omega (arith, l) in
     subst (λ (x : ℤ). IsNear most x) (sym (ap (int_at mid) e ∙ ap (λ (zs : List ℤ). int_at zs (stand_at m s)) f ∙ get_or-set_other xs p (stand_at m s) v (pos 0) apart)) (near s.zone there)
@@ -320,4 +324,5 @@ same_slot a b e =
     let by_price : ℤ → Slot = λ p. record { zone = b.zone; price = p; low = a.low; high = a.high } in
     let by_low : ℤ → Slot = λ l. record { zone = b.zone; price = b.price; low = l; high = a.high } in
     let by_high : ℤ → Slot = λ h. record { zone = b.zone; price = b.price; low = b.low; high = h } in
-    ap by_zone (eqb-true a.zone b.zone first.0) ∙ ap by_price ((Decides-int_eq a.price b.price).0 second.0) ∙ ap by_low ((Decides-int_eq a.low b.low).0 third.0) ∙ ap by_high ((Decides-int_eq a.high b.high).0 third.1)
+    ap by_zone (eqb-true a.zone b.zone first.0)
+    ∙ ap by_price ((Decides-int_eq a.price b.price).0 second.0) ∙ ap by_low ((Decides-int_eq a.low b.low).0 third.0) ∙ ap by_high ((Decides-int_eq a.high b.high).0 third.1)

@@ -102,7 +102,8 @@ pub record IsHalfway (slots : List Slot) (ladder : List Rung) (more left : ℤ) 
   pub total : int_sum (λ (r : Rung). int_at xs r.place) ladder ≡ least_of slots ladder +ℤ (more -ℤ left)
 
 -- a number changes at one rung's place alone
-sum_elsewhere : (rs : List Rung) (xs : List ℤ) (k : ℕ) (v : ℤ) → ((j : ℕ) → j < length rs → (rung_at rs j).place ≢ k) → int_sum (λ (r : Rung). int_at (set xs k v) r.place) rs ≡ int_sum (λ (r : Rung). int_at xs r.place) rs
+sum_elsewhere : (rs : List Rung) (xs : List ℤ) (k : ℕ) (v : ℤ) → ((j : ℕ) → j < length rs → (rung_at rs j).place ≢ k)
+    → int_sum (λ (r : Rung). int_at (set xs k v) r.place) rs ≡ int_sum (λ (r : Rung). int_at xs r.place) rs
 sum_elsewhere [] xs k v other = refl
 sum_elsewhere (r ∷ rs) xs k v other =
     omega (arith, ints, get_or-set_other xs k r.place v (pos 0) (other 0 (omega arith)), sum_elsewhere rs xs k v (λ j l. other (suc j) (omega (arith, l))))
@@ -127,7 +128,8 @@ sum_at_rung (r ∷ rs) xs (suc i) v l there once =
     )
 
 -- prices of a ladder's slots rise too
-slots_rise : (slots : List Slot) (ladder : List Rung) (i j : ℕ) → IsMeritOrder slots ladder → i ≤ j → j < length ladder → price_of slots (rung_at ladder i).place ≤ℤ price_of slots (rung_at ladder j).place
+slots_rise : (slots : List Slot) (ladder : List Rung) (i j : ℕ) → IsMeritOrder slots ladder → i ≤ j → j < length ladder
+    → price_of slots (rung_at ladder i).place ≤ℤ price_of slots (rung_at ladder j).place
 slots_rise slots ladder i j fine le l = omega (arith, ints, fine.rising i j no_rung le l, fine.price i no_rung (omega (arith, le, l)), fine.price j no_rung l)
 
 -- so the first rungs up to one are put in below a cent above its price, and no more than those before it at its price
@@ -149,7 +151,8 @@ before_it : (i j : ℕ) → j < i + 1 → (j ≡ i → ⊥) → j < i
 before_it i j l other = omega (arith, l, other)
 
 -- a rung more
-pub further : (slots : List Slot) (ladder : List Rung) (more left new_left part : ℤ) (i : ℕ) (xs : List ℤ) (v : ℤ) → IsMeritOrder slots ladder → AreInOrder slots ladder → AllZip IsWithinSlot slots xs → i < length ladder
+pub further : (slots : List Slot) (ladder : List Rung) (more left new_left part : ℤ) (i : ℕ) (xs : List ℤ) (v : ℤ)
+    → IsMeritOrder slots ladder → AreInOrder slots ladder → AllZip IsWithinSlot slots xs → i < length ladder
     → pos 0 <ℤ left → part ≡ int_min left (width_of slots (rung_at ladder i)) → new_left ≡ left -ℤ part → v ≡ (slot_at slots (rung_at ladder i).place).low +ℤ part
     → IsHalfway slots ladder more left i xs → IsHalfway slots ladder more new_left (i + 1) (set xs (rung_at ladder i).place v)
 further slots ladder more left new_left part i xs v fine a within l some part_is new v_is h =
@@ -189,7 +192,8 @@ rest_whole : (slots : List Slot) (ladder : List Rung) (more left : ℤ) (i j : �
 rest_whole slots ladder more left i j xs fine a within none le l w h =
     let out : more ≤ℤ first_widths slots i ladder = elim h.left_is [ inl e ↦ omega (arith, ints, e, none) | inr d ↦ d.1 ] in
     let next : first_widths slots (j + 1) ladder ≡ first_widths slots j ladder +ℤ width_of slots (rung_at ladder j) = int_sum_more (width_of slots) ladder j no_rung l in
-    let x : IsWithinSlot (slot_at slots (rung_at ladder j).place) (int_at xs (rung_at ladder j).place) = AllZip-at IsWithinSlot slots xs (rung_at ladder j).place no_slot (pos 0) (fine.there j no_rung l) within in
+    let x : IsWithinSlot (slot_at slots (rung_at ladder j).place) (int_at xs (rung_at ladder j).place) =
+    AllZip-at IsWithinSlot slots xs (rung_at ladder j).place no_slot (pos 0) (fine.there j no_rung l) within in
     omega (arith, ints, out, next, w, whole_to slots ladder j fine a l, widths_rise slots i j ladder a le, x.least, x.most)
 
 greatest_is : (slots : List Slot) (rs : List Rung) → greatest_of slots rs ≡ least_of slots rs +ℤ int_sum (width_of slots) rs
@@ -209,7 +213,8 @@ none_left slots ladder more left i none high is = elim (cases_lt i (length ladde
 pub run_out : (slots : List Slot) (ladder : List Rung) (more left : ℤ) (i : ℕ) (xs : List ℤ) → IsMeritOrder slots ladder → AreInOrder slots ladder → AllZip IsWithinSlot slots xs
     → (i < length ladder → left ≤ℤ pos 0) → IsHalfway slots ladder more left i xs → IsByMerit slots ladder (least_of slots ladder +ℤ more) xs
 run_out slots ladder more left i xs fine a within none h = record {
-  whole = λ j d l. subst (λ (r : Rung). supply_of slots ladder (r.price +ℤ pos 1) ≤ℤ (least_of slots ladder +ℤ more) → int_at xs r.place ≡ (slot_at slots r.place).high) (get_or_default ladder j no_rung d l)
+  whole = λ j d l. subst (λ (r : Rung). supply_of slots ladder (r.price +ℤ pos 1) ≤ℤ (least_of slots ladder +ℤ more) → int_at xs r.place ≡ (slot_at slots r.place).high)
+      (get_or_default ladder j no_rung d l)
       (λ w.
       let up : supply_of slots ladder (price_of slots (rung_at ladder j).place +ℤ pos 1) ≤ℤ (least_of slots ladder +ℤ more) =
       subst (λ (p : ℤ). supply_of slots ladder (p +ℤ pos 1) ≤ℤ (least_of slots ladder +ℤ more)) (fine.price j no_rung l) w in
@@ -219,7 +224,8 @@ run_out slots ladder more left i xs fine a within none h = record {
   total = λ low high. omega (arith, ints, h.total, low, high, h.some (omega (arith, ints, low)), none_left slots ladder more left i none high h.left_is);
 }
 
-sum_of_least : (slots : List Slot) (ladder : List Rung) (xs : List ℤ) → All (λ (r : Rung). int_at xs r.place ≡ (slot_at slots r.place).low) ladder → int_sum (λ (r : Rung). int_at xs r.place) ladder ≡ least_of slots ladder
+sum_of_least : (slots : List Slot) (ladder : List Rung) (xs : List ℤ) → All (λ (r : Rung). int_at xs r.place ≡ (slot_at slots r.place).low) ladder
+    → int_sum (λ (r : Rung). int_at xs r.place) ladder ≡ least_of slots ladder
 sum_of_least slots [] xs a = refl
 sum_of_least slots (r ∷ rs) xs a =
     omega (

@@ -28,23 +28,27 @@ supply_of_ladders slots (v ∷ vs) (c ∷ cs) p a = omega (arith, ints, a.0.supp
 supply_of_ladders slots [] (c ∷ cs) p a = absurd a
 supply_of_ladders slots (v ∷ vs) [] p a = absurd a
 
-same_supply : (slots : List Slot) (ladders : List (Vec Rung Global)) (curves : List Curve) (p : ℤ) → AreLadders slots ladders → AreCurvesOf slots ladders curves → supplied_by_all curves p ≡ supply_of_all slots p
+same_supply : (slots : List Slot) (ladders : List (Vec Rung Global)) (curves : List Curve) (p : ℤ) → AreLadders slots ladders → AreCurvesOf slots ladders curves
+    → supplied_by_all curves p ≡ supply_of_all slots p
 same_supply slots ladders curves p fine a = supply_of_ladders slots ladders curves p a ∙ fine.once (run_at p)
 
 -- the curves balance where the slots do
-pub balances : (slots : List Slot) (ladders : List (Vec Rung Global)) (curves : List Curve) (p : ℤ) → AreLadders slots ladders → AreCurvesOf slots ladders curves → IsBalancing (supplied_by_all curves) p → IsBalancing (supply_of_all slots) p
+pub balances : (slots : List Slot) (ladders : List (Vec Rung Global)) (curves : List Curve) (p : ℤ)
+    → AreLadders slots ladders → AreCurvesOf slots ladders curves → IsBalancing (supplied_by_all curves) p → IsBalancing (supply_of_all slots) p
 balances slots ladders curves p fine a b = record {
   here = subst (λ (x : ℤ). (p ≡ neg_ℤ BEYOND) ⊎ (x ≤ℤ pos 0)) (same_supply slots ladders curves p fine a) b.here;
   above = subst (λ (x : ℤ). (p +ℤ pos 1 ≡ BEYOND) ⊎ (pos 0 <ℤ x)) (same_supply slots ladders curves (p +ℤ pos 1) fine a) b.above;
 }
 
-same_sum : (ladder : List Rung) (xs ys : List ℤ) → All (λ (r : Rung). int_at ys r.place ≡ int_at xs r.place) ladder → int_sum (λ (r : Rung). int_at ys r.place) ladder ≡ int_sum (λ (r : Rung). int_at xs r.place) ladder
+same_sum : (ladder : List Rung) (xs ys : List ℤ) → All (λ (r : Rung). int_at ys r.place ≡ int_at xs r.place) ladder
+    → int_sum (λ (r : Rung). int_at ys r.place) ladder ≡ int_sum (λ (r : Rung). int_at xs r.place) ladder
 same_sum [] xs ys a = refl
 same_sum (r ∷ rs) xs ys a =
     omega (arith, ints, All-head (λ (q : Rung). int_at ys q.place ≡ int_at xs q.place) r rs a, same_sum rs xs ys (All-tail (λ (q : Rung). int_at ys q.place ≡ int_at xs q.place) r rs a))
 
 -- the ladder's slots stay as they are
-pub merit_stays : (slots : List Slot) (ladder : List Rung) (wanted : ℤ) (xs ys : List ℤ) → All (λ (r : Rung). int_at ys r.place ≡ int_at xs r.place) ladder → IsByMerit slots ladder wanted xs → IsByMerit slots ladder wanted ys
+pub merit_stays : (slots : List Slot) (ladder : List Rung) (wanted : ℤ) (xs ys : List ℤ) → All (λ (r : Rung). int_at ys r.place ≡ int_at xs r.place) ladder → IsByMerit slots ladder wanted xs
+    → IsByMerit slots ladder wanted ys
 merit_stays slots ladder wanted xs ys same a = record {
   whole = λ j d l w. same j d l ∙ a.whole j d l w;
   least = λ j d l w. same j d l ∙ a.least j d l w;
@@ -71,15 +75,19 @@ supply_rises slots (r ∷ rs) a b o l =
     )
 
 -- where borders carry all that is put in at a price, each slot puts in what it does at it
-pub runs_as_at : (slots : List Slot) (ladder : List Rung) (p wanted : ℤ) (xs : List ℤ) → AreInOrder slots ladder → All (λ (r : Rung). r.price ≡ price_of slots r.place) ladder → wanted ≡ supply_of slots ladder p
+pub runs_as_at : (slots : List Slot) (ladder : List Rung) (p wanted : ℤ) (xs : List ℤ) → AreInOrder slots ladder → All (λ (r : Rung). r.price ≡ price_of slots r.place) ladder
+    → wanted ≡ supply_of slots ladder p
     → IsByMerit slots ladder wanted xs → All (λ (r : Rung). int_at xs r.place ≡ run_at p (slot_at slots r.place)) ladder
 runs_as_at slots ladder p wanted xs o prices e a j d l =
     by_lt_z (get_or ladder j d).price p
-    (λ h. a.whole j d l (omega (arith, ints, e, supply_rises slots ladder ((get_or ladder j d).price +ℤ pos 1) p o (omega (arith, ints, h)))) ∙ sym (run_whole p (slot_at slots (get_or ladder j d).place) (omega (arith, ints, h, prices j d l))))
-    (λ h. a.least j d l (omega (arith, ints, e, supply_rises slots ladder p (get_or ladder j d).price o h)) ∙ sym (run_least p (slot_at slots (get_or ladder j d).place) (omega (arith, ints, h, prices j d l))))
+    (λ h. a.whole j d l (omega (arith, ints, e, supply_rises slots ladder ((get_or ladder j d).price +ℤ pos 1) p o (omega (arith, ints, h))))
+    ∙ sym (run_whole p (slot_at slots (get_or ladder j d).place) (omega (arith, ints, h, prices j d l))))
+    (λ h. a.least j d l (omega (arith, ints, e, supply_rises slots ladder p (get_or ladder j d).price o h))
+    ∙ sym (run_least p (slot_at slots (get_or ladder j d).place) (omega (arith, ints, h, prices j d l))))
 
 -- a zone of which this is the curve runs as its borders carry it
-pub merit_of_curve : (slots : List Slot) (ladder : List Rung) (c : Curve) (bs : List Border) (z : ℕ) (p more : ℤ) (xs : List ℤ) → IsCurveOf slots ladder c → c.least +ℤ more ≡ as_carried bs z (supplied p c)
+pub merit_of_curve : (slots : List Slot) (ladder : List Rung) (c : Curve) (bs : List Border) (z : ℕ) (p more : ℤ) (xs : List ℤ) → IsCurveOf slots ladder c
+    → c.least +ℤ more ≡ as_carried bs z (supplied p c)
     → IsByMerit slots ladder (least_of slots ladder +ℤ more) xs → IsByMerit slots ladder (as_carried bs z (supply_of slots ladder p)) xs
 merit_of_curve slots ladder c bs z p more xs of e a =
     subst (λ (w : ℤ). IsByMerit slots ladder w xs) (ap (λ (x : ℤ). x +ℤ more) (sym of.least) ∙ e ∙ ap (λ (x : ℤ). as_carried bs z x) (of.supply p)) a
@@ -110,13 +118,15 @@ zone_more slots ladders bs p zone u xs ys a there merit others h = record {
 }
 
 -- all zones have run
-pub all_run : (m : Market) (slots : List Slot) (ladders : List (Vec Rung Global)) (p : ℤ) (zone : ℕ) (xs : List ℤ) → AreLadders slots ladders → All IsOrderRange slots → length ladders ≡ m.zones → m.zones ≤ zone
+pub all_run : (m : Market) (slots : List Slot) (ladders : List (Vec Rung Global)) (p : ℤ) (zone : ℕ) (xs : List ℤ)
+    → AreLadders slots ladders → All IsOrderRange slots → length ladders ≡ m.zones → m.zones ≤ zone
     → IsBalancing (supply_of_all slots) p → AreZonesRun slots ladders m.borders p zone xs → RunsAt m slots ladders xs p
 all_run m slots ladders p zone xs a ranges long end balancing h = record {
   balancing = balancing;
   each = λ z v l. h.done z v (omega (arith, l, end)) (omega (arith, l, long));
   carried = λ z v l e.
       let there : z < length ladders = omega (arith, l, long) in
-      runs_as_at slots (get_or ladders z v).items p (as_carried m.borders z (supply_of slots (get_or ladders z v).items p)) xs (ladder_in_order slots (get_or ladders z v).items ranges (a.each z v there)) (a.each z v there).price e
+      runs_as_at slots (get_or ladders z v).items p (as_carried m.borders z (supply_of slots (get_or ladders z v).items p)) xs
+      (ladder_in_order slots (get_or ladders z v).items ranges (a.each z v there)) (a.each z v there).price e
       (h.done z v (omega (arith, l, end)) there);
 }

@@ -78,7 +78,8 @@ starts_running n slots bs xs fs short a b s =
       flows_long = sym (zip_long IsWithinLimits bs fs b);
       amounts = all;
       flows = b;
-      balance = λ z l. omega (arith, ints, sum_along-append (slot_into z) slots (stand_ins 0 short) xs short (zip_long IsWithinSlot slots xs a), into_at z 0 z short (omega arith) (omega (arith, s.long)), s.each z l);
+      balance = λ z l. omega
+          (arith, ints, sum_along-append (slot_into z) slots (stand_ins 0 short) xs short (zip_long IsWithinSlot slots xs a), into_at z 0 z short (omega arith) (omega (arith, s.long)), s.each z l);
     }
 
 stand_ins_long : (z : ℕ) (short : List ℤ) → length (stand_ins z short) ≡ length short
@@ -139,7 +140,8 @@ pub starts : (m : Market) (reals slots : List Slot) (ys xs fs short : List ℤ) 
     → AreShort m.zones reals m.borders ys fs short → ((z : ℕ) → IsNear 700000000 (int_at short z))
     → slots ≡ reals ++ stand_ins 0 short → xs ≡ ys ++ short → IsStarted m reals slots xs fs
 starts m reals slots ys xs fs short a within limits s near e f =
-    subst (λ (ss : List Slot). IsStarted m reals ss xs fs) (sym e) (subst (λ (zs : List ℤ). IsStarted m reals (reals ++ stand_ins 0 short) zs fs) (sym f) (started m reals ys fs short a within s near limits))
+    subst (λ (ss : List Slot). IsStarted m reals ss xs fs) (sym e)
+    (subst (λ (zs : List ℤ). IsStarted m reals (reals ++ stand_ins 0 short) zs fs) (sym f) (started m reals ys fs short a within s near limits))
 
 -- ---- what is filled is a network's, and of the orders' slots before others
 
@@ -147,7 +149,8 @@ pub filled_sides : (m : Market) (slots : List Slot) (xs : List ℤ) → AreFille
 filled_sides m slots xs a =
     let long : length m.orders ≡ length (take (length m.orders) slots) = sym (length-take-le (length m.orders) slots (omega (arith, a.long))) in
     zip_of (λ (o : Order) (s : Slot). CanPut o.side s.low × CanPut o.side s.high) m.orders (take (length m.orders) slots) no_order no_slot long
-    (λ k l. subst (λ (s : Slot). CanPut (order_at m k).side s.low × CanPut (order_at m k).side s.high) (sym (get_or-take (length m.orders) slots k no_slot l)) ((a.orders k l).low, (a.orders k l).high))
+    (λ k l. subst (λ (s : Slot). CanPut (order_at m k).side s.low × CanPut (order_at m k).side s.high) (sym (get_or-take (length m.orders) slots k no_slot l))
+    ((a.orders k l).low, (a.orders k l).high))
 
 pub filled_runs : (m : Market) (slots : List Slot) (xs fs : List ℤ) → AreFilled m slots xs → AllZip IsWithinLimits m.borders fs → AreEven m slots xs fs → IsRunning m.zones slots m.borders xs fs
 filled_runs m slots xs fs a limits even = record {
@@ -161,7 +164,8 @@ filled_runs m slots xs fs a limits even = record {
 pub filled_long : (m : Market) (slots : List Slot) (xs : List ℤ) → AreFilled m slots xs → length m.orders ≤ length xs
 filled_long m slots xs a = omega (arith, a.long, zip_long IsWithinSlot slots xs a.within)
 
-pub filled_slots : (spans : Order → Span) (m : Market) (slots : List Slot) (xs : List ℤ) → AreFilled m slots xs → take (length m.orders) slots ≡ slots_of spans m.orders → AreSlotsOf spans m (drop (length m.orders) slots) slots
+pub filled_slots : (spans : Order → Span) (m : Market) (slots : List Slot) (xs : List ℤ) → AreFilled m slots xs → take (length m.orders) slots ≡ slots_of spans m.orders
+    → AreSlotsOf spans m (drop (length m.orders) slots) slots
 filled_slots spans m slots xs a e = record {
   made = sym (take-append-drop (length m.orders) slots) ∙ ap (λ (ss : List Slot). ss ++ drop (length m.orders) slots) e;
   others = λ k d l.

@@ -118,7 +118,8 @@ stands_once slots n z rs once i j d l m same = elim (cases_lt i j) [
 pub sum_of_ladders : (zones : ℕ) (slots : List Slot) (bs : List Border) (p : Places) → All (λ (s : Slot). s.zone < zones) slots → p.on_ladders ≡ length slots → ArePlaces zones slots bs p
     → (f : Slot → ℤ) → int_sum (λ (v : Vec Rung Global). int_sum (λ (r : Rung). f (slot_at slots r.place)) v.items) p.ladders.items ≡ int_sum f slots
 sum_of_ladders zones slots bs p there on a f =
-    sum_by_terms (λ (v : Vec Rung Global). int_sum (λ (r : Rung). f (slot_at slots r.place)) v.items) (λ z. sum_of_zone (λ k. f (slot_at slots k)) slots z p.on_ladders) p.ladders.items zones a.ladders_long
+    sum_by_terms (λ (v : Vec Rung Global). int_sum (λ (r : Rung). f (slot_at slots r.place)) v.items)
+    (λ z. sum_of_zone (λ k. f (slot_at slots k)) slots z p.on_ladders) p.ladders.items zones a.ladders_long
     (λ z v l. (a.ladders z v l).rungs.once (λ k. f (slot_at slots k)))
     ∙ sum_of_zones (λ k. f (slot_at slots k)) slots zones p.on_ladders (λ k l. there k no_slot (omega (arith, l, on)))
     ∙ sym (sum_of_list f slots no_slot p.on_ladders (sym on))

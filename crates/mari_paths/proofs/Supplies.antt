@@ -53,11 +53,14 @@ steps_more : (slots : List Slot) (before : List Rung) (r : Rung) (base sum new_b
 steps_more slots before r base sum new_base steps new s price up same is base_is more_is a =
     subst (λ (ss : List Step). AreStepsOf slots (before ++ r ∷ []) new_base s.more ss) (sym is) (record {
       rising = rises_on (λ (t : Step). t.price) steps s a.rising (λ k d l. omega (arith, ints, same, a.cheap r.price up k d l));
-      cheap = λ p h. All-push (λ (t : Step). t.price ≤ℤ p) steps s (a.cheap p (All-pop (λ (q : Rung). q.price ≤ℤ p) (before ++ r ∷ []) before (Some r) refl h).0) (omega (arith, ints, same, (All-pop (λ (q : Rung). q.price ≤ℤ p) (before ++ r ∷ []) before (Some r) refl h).1));
+      cheap = λ p h. All-push (λ (t : Step). t.price ≤ℤ p) steps s (a.cheap p (All-pop (λ (q : Rung). q.price ≤ℤ p) (before ++ r ∷ []) before (Some r) refl h).0)
+          (omega (arith, ints, same, (All-pop (λ (q : Rung). q.price ≤ℤ p) (before ++ r ∷ []) before (Some r) refl h).1));
       base_is = omega (arith, ints, base_is, a.base_is, sum_push (λ (q : Rung). (slot_at slots q.place).low) before r);
-      sum_is = λ p h. last_below_push (λ (t : Step). t.price) (λ (t : Step). t.more) p (pos 0) steps s ∙ if_less s.price p s.more (more_below p (pos 0) steps) (All-pop (λ (t : Step). t.price <ℤ p) (steps ++ s ∷ []) steps (Some s) refl h).1;
+      sum_is = λ p h. last_below_push (λ (t : Step). t.price) (λ (t : Step). t.more) p (pos 0) steps s
+          ∙ if_less s.price p s.more (more_below p (pos 0) steps) (All-pop (λ (t : Step). t.price <ℤ p) (steps ++ s ∷ []) steps (Some s) refl h).1;
       supply = λ p.
-          slot_more (lt_z (slot_at slots r.place).price p) base (slot_at slots r.place).low (slot_at slots r.place).high sum s.more (more_below p (pos 0) steps) (supply_of slots before p) new_base (more_below p (pos 0) (steps ++ s ∷ []))
+          slot_more (lt_z (slot_at slots r.place).price p) base (slot_at slots r.place).low (slot_at slots r.place).high sum s.more (more_below p (pos 0) steps) (supply_of slots before p) new_base
+          (more_below p (pos 0) (steps ++ s ∷ []))
           base_is more_is (a.supply p) (λ e. a.sum_is p (λ k d l. omega (arith, ints, price, less (slot_at slots r.place).price p e, a.cheap r.price up k d l)))
           (last_below_push (λ (t : Step). t.price) (λ (t : Step). t.more) p (pos 0) steps s ∙ at_price s.price (slot_at slots r.place).price p s.more (more_below p (pos 0) steps) (same ∙ price))
           ∙ sym (sum_push (λ (q : Rung). run_at p (slot_at slots q.place)) before r);
@@ -70,4 +73,5 @@ pub steps_more_at : (slots : List Slot) (ladder : List Rung) (i : ℕ) (base sum
     → AreStepsOf slots (take i ladder) base sum steps → AreStepsOf slots (take (i + 1) ladder) new_base s.more new
 steps_more_at slots ladder i base sum new_base steps new s l fine same is base_is more_is a =
     subst (λ (rs : List Rung). AreStepsOf slots rs new_base s.more new) (sym (take_more ladder i no_rung l))
-    (steps_more slots (take i ladder) (rung_at ladder i) base sum new_base steps new s (fine.price i no_rung l) (rises_to (λ (q : Rung). q.price) ladder i no_rung fine.rising l) same is base_is more_is a)
+    (steps_more slots (take i ladder) (rung_at ladder i) base sum new_base steps new s (fine.price i no_rung l)
+    (rises_to (λ (q : Rung). q.price) ladder i no_rung fine.rising l) same is base_is more_is a)

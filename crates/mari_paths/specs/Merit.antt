@@ -147,6 +147,8 @@ as_carried bs z x = int_max (neg_ℤ (int_sum (into_over z) bs)) (int_min (int_s
 -- cheapest first; where borders carry all of it, each as at that price
 pub record RunsAt (m : Market) (slots : List Slot) (ladders : List (Vec Rung Global)) (xs : List ℤ) (p : ℤ) : Type 0 where
   pub balancing : IsBalancing (supply_of_all slots) p
-  pub each : (z : ℕ) (v : Vec Rung Global) → z < m.zones → let ladder = (slice_index_or ladders z v).items in IsByMerit slots ladder (as_carried m.borders z (supply_of slots ladder p)) xs
-  pub carried : (z : ℕ) (v : Vec Rung Global) → z < m.zones → let ladder = (slice_index_or ladders z v).items in as_carried m.borders z (supply_of slots ladder p) ≡ supply_of slots ladder p
+  pub each : (z : ℕ) (v : Vec Rung Global) → z < m.zones
+      → let ladder = (slice_index_or ladders z v).items in IsByMerit slots ladder (as_carried m.borders z (supply_of slots ladder p)) xs
+  pub carried : (z : ℕ) (v : Vec Rung Global) → z < m.zones
+      → let ladder = (slice_index_or ladders z v).items in as_carried m.borders z (supply_of slots ladder p) ≡ supply_of slots ladder p
       → All (λ (r : Rung). int_at xs r.place ≡ run_at p (slot_at slots r.place)) ladder

@@ -122,7 +122,8 @@ fn change_slots(
     requires there { All (λ k. k < length market.now.orders) gated.now }
     requires few { length gated.now ≤ length market.now.orders }
     requires zones { (k : ℕ) → k < length market.now.orders → zone_of slots.old k ≡ (order_at market.now k).zone }
-    requires rest { (k : ℕ) → k < length market.now.orders → Contains gated.now k ⊎ (slot_at slots.old k ≡ slot_of (bounds_at market.now prefix.now (order_at market.now k)) (order_at market.now k)) }
+    requires rest { (k : ℕ) → k < length market.now.orders
+        → Contains gated.now k ⊎ (slot_at slots.old k ≡ slot_of (bounds_at market.now prefix.now (order_at market.now k)) (order_at market.now k)) }
 
     // What runs, and what it is worth.
     requires filled { AreFilled market.now slots.old amounts.old }
@@ -136,7 +137,8 @@ fn change_slots(
     ensures orders { take (length market.now.orders) slots.new ≡ slots_of (bounds_at market.now prefix.now) market.now.orders }
 
     // The orders at other places keep their slots and amounts, and all slots their zones.
-    ensures others { (k : ℕ) → k < length market.now.orders → (Contains gated.now k → ⊥) → (slot_at slots.new k ≡ slot_at slots.old k) × (int_at amounts.new k ≡ int_at amounts.old k) }
+    ensures others { (k : ℕ) → k < length market.now.orders → (Contains gated.now k → ⊥)
+        → (slot_at slots.new k ≡ slot_at slots.old k) × (int_at amounts.new k ≡ int_at amounts.old k) }
     ensures zones { (k : ℕ) → zone_of slots.new k ≡ zone_of slots.old k }
 {
     let states = states_at(market, prefix);
@@ -176,7 +178,8 @@ pub fn set_bounds(
 
     // The same of what runs then, with the margins of all orders, where each zone puts in what it did.
     ensures filled { AreFilled market.now slots.new amounts.new }
-    ensures places { (places : PlacesRecord) → places.on_ladders ≡ length market.now.orders → ArePlaces market.now.zones slots.old market.now.borders places → ArePlaces market.now.zones slots.new market.now.borders places }
+    ensures places { (places : PlacesRecord) → places.on_ladders ≡ length market.now.orders → ArePlaces market.now.zones slots.old market.now.borders places
+        → ArePlaces market.now.zones slots.new market.now.borders places }
     ensures margins { AreMargins slots.new amounts.new market.now.zones (length market.now.orders) margins.new }
     ensures into { (z : ℕ) → sum_along (slot_into z) slots.new amounts.new ≡ sum_along (slot_into z) slots.old amounts.old }
     ensures worth { worth.new ≡ sum_along slot_gain slots.new amounts.new }

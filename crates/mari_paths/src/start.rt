@@ -310,7 +310,8 @@ pub fn start_from(
     ensures filled { IfOk result (λ s. AreFilled market.now s.slots.items s.amounts.items) }
     ensures reals { IfOk result (λ s. take (length market.now.orders) s.slots.items ≡ reals.items) }
     ensures near { IfOk result (λ s. StandInsNear most_short market.now s.amounts.items) }
-    ensures price { activation.entry ≡ None → IfOk result (λ s. (p : ℤ) × RunsAt market.now reals.items places.now.ladders.items (take (length market.now.orders) s.amounts.items) p) }
+    ensures price { activation.entry ≡ None
+        → IfOk result (λ s. (p : ℤ) × RunsAt market.now reals.items places.now.ladders.items (take (length market.now.orders) s.amounts.items) p) }
 
     // The flows, with which they are in balance.
     ensures limits { IfOk result (λ s. AllZip IsWithinLimits market.now.borders s.flows.items) }

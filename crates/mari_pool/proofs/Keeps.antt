@@ -103,7 +103,11 @@ may_settle_node m seen f word (n ∷ ns) (suc x) e may = may_settle_node m seen 
 
 -- a seat of the incumbent has seen a cutoff
 pub seat_cutoff : (m : Market) (budget workers : ℕ) (incumbent : IncumbentId) (p : Pooled) (seen : ℕ) → IsPool m budget workers incumbent p → incumbent.first ≤ seen → IsCutoff p.tree.market seen
-seat_cutoff m budget workers incumbent p seen h l = subst (λ (n : Market). IsCutoff n seen) (sym h.market_is) record { closed = pos incumbent.first; is_closed = h.closed; above = omega (arith, ints, l) }
+seat_cutoff m budget workers incumbent p seen h l = subst (λ (n : Market). IsCutoff n seen) (sym h.market_is) record {
+  closed = pos incumbent.first;
+  is_closed = h.closed;
+  above = omega (arith, ints, l);
+}
 
 -- to settle a taken node is allowed
 pub may_settle : (m : Market) (budget workers : ℕ) (incumbent : IncumbentId) (p : Pooled) (k x seen : ℕ) (f : Finding) (gates : List Bool)
@@ -115,7 +119,8 @@ may_settle m budget workers incumbent p k x seen f gates h l taken at may =
     (may_settle_node p.tree.market seen f gates p.tree.nodes x at (subst (λ (n : Market). MaySettle n seen f (new_node gates)) (sym h.market_is) may)) taken
 
 -- a pool of the same parts
-pub pool_same : (m : Market) (budget workers : ℕ) (incumbent : IncumbentId) (t t' : Grown) (ks ks' : List ℕ) (j j' : List JournalEntry) (r r' : ℕ) (turns : List ℕ) (returned : List Bool) (s s' : SeatView)
+pub pool_same : (m : Market) (budget workers : ℕ) (incumbent : IncumbentId) (t t' : Grown) (ks ks' : List ℕ) (j j' : List JournalEntry) (r r' : ℕ) (turns : List ℕ)
+    (returned : List Bool) (s s' : SeatView)
     → t' ≡ t → ks' ≡ ks → j' ≡ j → r' ≡ r → s' ≡ s
     → IsPool m budget workers incumbent (pool_of t ks j r turns returned s)
     → IsPool m budget workers incumbent (pool_of t' ks' j' r' turns returned s')
@@ -187,7 +192,8 @@ answer_full g (GiveBack k x) a b c e = absurd (cc)
 
 -- ---- the start
 
-pub start_keeps : (m n : Market) (b budget w workers : ℕ) (incumbent : IncumbentId) (t : Grown) (ks : List ℕ) (j : List JournalEntry) (room : ℕ) (turns : List ℕ) (returned : List Bool) (seat : SeatView)
+pub start_keeps : (m n : Market) (b budget w workers : ℕ) (incumbent : IncumbentId) (t : Grown) (ks : List ℕ) (j : List JournalEntry) (room : ℕ) (turns : List ℕ)
+    (returned : List Bool) (seat : SeatView)
     → m ≡ n → b ≡ budget → w ≡ workers → IsValid m → IsBudget b → IsFresh incumbent seat
     → IsClosedWelfare m (pos incumbent.first) → t ≡ seed m b → ks ≡ first_key ∷ [] → j ≡ [] → 2 * b + 2 * w + 2 ≤ room
     → turns ≡ replicate b 0 → returned ≡ replicate (w + 1) false

@@ -137,7 +137,8 @@ length_waiting key n q r h = length_permutation _ _ h.waiting ∙ length-append 
 pub more_by_back : (key n : ℕ) (p q r : Queued) → q.keys ≡ p.keys ++ key ∷ [] → q.waiting ≡ p.waiting → q.room ≡ p.room → n ≡ length p.keys → IsBack q r n → IsMore key 1 p r
 more_by_back key n p q r ks ws room at h =
     let e : n ≡ length p.keys + 0 = omega (arith, at) in
-    let joins : IsPermutation ((length p.keys + 0) ∷ p.waiting) r.waiting = subst (λ (x : ℕ). IsPermutation (x ∷ p.waiting) r.waiting) e (subst (λ (l : List ℕ). IsPermutation (n ∷ l) r.waiting) ws h.joins) in
+    let joins : IsPermutation ((length p.keys + 0) ∷ p.waiting) r.waiting =
+    subst (λ (x : ℕ). IsPermutation (x ∷ p.waiting) r.waiting) e (subst (λ (l : List ℕ). IsPermutation (n ∷ l) r.waiting) ws h.joins) in
     record {
       keys = h.keys ∙ ks;
       waiting = IsPermutation-trans (p.waiting ++ (length p.keys + 0) ∷ []) ((length p.keys + 0) ∷ p.waiting) r.waiting (IsPermutation-to_front p.waiting (length p.keys + 0)) joins;
@@ -152,7 +153,8 @@ more_one key n m p q r h k e =
     let all : IsPermutation ((p.waiting ++ numbers_from (length p.keys) n) ++ (length p.keys + n) ∷ []) r.waiting =
     IsPermutation-trans _ (q.waiting ++ (length p.keys + n) ∷ []) _ (IsPermutation-append_left ((length p.keys + n) ∷ []) (p.waiting ++ numbers_from (length p.keys) n) q.waiting h.waiting) last in
     subst (λ (j : ℕ). IsMore key j p r) (sym next) (record {
-      keys = k.keys ∙ ap (λ (ks : List ℕ). ks ++ key ∷ []) h.keys ∙ append_assoc p.keys (replicate n key) (key ∷ []) ∙ ap (λ (ks : List ℕ). p.keys ++ ks) (replicate_more n key ∙ ap (λ (j : ℕ). replicate j key) (sym e ∙ next));
+      keys = k.keys ∙ ap (λ (ks : List ℕ). ks ++ key ∷ []) h.keys
+          ∙ append_assoc p.keys (replicate n key) (key ∷ []) ∙ ap (λ (ks : List ℕ). p.keys ++ ks) (replicate_more n key ∙ ap (λ (j : ℕ). replicate j key) (sym e ∙ next));
       waiting = subst (λ (ws : List ℕ). IsPermutation ws r.waiting) (append_assoc p.waiting (numbers_from (length p.keys) n) ((length p.keys + n) ∷ [])) all;
       room = k.room ∙ h.room;
     })
@@ -187,7 +189,8 @@ queue_taken nodes q r x k h f = record {
     each : (y : ℕ) → count_by (λ z. z == y) r.waiting ≡ waits_in (state_at (with_state (Taken k) nodes x) y)
     each y = elim (cases_eq x y) [
       | inl e ↦
-          let here : waits_in (state_at (with_state (Taken k) nodes x) y) ≡ 0 = ap (λ (z : ℕ). waits_in (state_at (with_state (Taken k) nodes x) z)) (sym e) ∙ ap waits_in (state_same_as (Taken k) Untaken nodes x waits) in
+          let here : waits_in (state_at (with_state (Taken k) nodes x) y) ≡ 0 =
+          ap (λ (z : ℕ). waits_in (state_at (with_state (Taken k) nodes x) z)) (sym e) ∙ ap waits_in (state_same_as (Taken k) Untaken nodes x waits) in
           let was : waits_in (state_at nodes y) ≡ 1 = ap (λ (z : ℕ). waits_in (state_at nodes z)) (sym e) ∙ ap waits_in waits in
           omega (arith, here, was, h.each y, times_permuted y q.waiting (x ∷ r.waiting) f.leaves, times_same y x r.waiting e)
       | inr n ↦
@@ -206,7 +209,8 @@ queue_back nodes q r x k h f taken = record {
     each : (y : ℕ) → count_by (λ z. z == y) r.waiting ≡ waits_in (state_at (with_state Untaken nodes x) y)
     each y = elim (cases_eq x y) [
       | inl e ↦
-          let here : waits_in (state_at (with_state Untaken nodes x) y) ≡ 1 = ap (λ (z : ℕ). waits_in (state_at (with_state Untaken nodes x) z)) (sym e) ∙ ap waits_in (state_same_as Untaken (Taken k) nodes x taken) in
+          let here : waits_in (state_at (with_state Untaken nodes x) y) ≡ 1 =
+          ap (λ (z : ℕ). waits_in (state_at (with_state Untaken nodes x) z)) (sym e) ∙ ap waits_in (state_same_as Untaken (Taken k) nodes x taken) in
           let was : waits_in (state_at nodes y) ≡ 0 = ap (λ (z : ℕ). waits_in (state_at nodes z)) (sym e) ∙ ap waits_in taken in
           omega (arith, here, was, h.each y, times_permuted y (x ∷ q.waiting) r.waiting f.joins, times_same y x q.waiting e)
       | inr n ↦
@@ -225,7 +229,8 @@ queue_done nodes q s x k h taken done = record {
     each : (y : ℕ) → count_by (λ z. z == y) q.waiting ≡ waits_in (state_at (with_state s nodes x) y)
     each y = elim (cases_eq x y) [
       | inl e ↦
-          let here : waits_in (state_at (with_state s nodes x) y) ≡ 0 = ap (λ (z : ℕ). waits_in (state_at (with_state s nodes x) z)) (sym e) ∙ ap waits_in (state_same_as s (Taken k) nodes x taken) ∙ done in
+          let here : waits_in (state_at (with_state s nodes x) y) ≡ 0 =
+          ap (λ (z : ℕ). waits_in (state_at (with_state s nodes x) z)) (sym e) ∙ ap waits_in (state_same_as s (Taken k) nodes x taken) ∙ done in
           let was : waits_in (state_at nodes y) ≡ 0 = ap (λ (z : ℕ). waits_in (state_at nodes z)) (sym e) ∙ ap waits_in taken in
           omega (arith, here, was, h.each y)
       | inr n ↦ h.each y ∙ sym (ap waits_in (state_other s nodes x y (λ e. n (sym e))))

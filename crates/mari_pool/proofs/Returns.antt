@@ -32,7 +32,8 @@ pub left_taken : (p : Pooled) (k x : ℕ) → state_at p.tree.nodes x ≡ Some (
 left_taken p k x e =
     let at : IsAt p.tree.nodes x (Taken k) = node_at p.tree.nodes x (Taken k) e in
     let next : suc x ≡ x + 1 = omega arith in
-    let rest : drop (x + 1) (with_state Untaken p.tree.nodes x) ≡ drop (x + 1) p.tree.nodes = subst (λ (j : ℕ). drop j (with_state Untaken p.tree.nodes x) ≡ drop j p.tree.nodes) next (drop_changed (in_state Untaken) p.tree.nodes x) in
+    let rest : drop (x + 1) (with_state Untaken p.tree.nodes x) ≡ drop (x + 1) p.tree.nodes =
+    subst (λ (j : ℕ). drop j (with_state Untaken p.tree.nodes x) ≡ drop j p.tree.nodes) next (drop_changed (in_state Untaken) p.tree.nodes x) in
     let here : returns_of x (drop x p.tree.nodes) ≡ GiveBack k x ∷ returns_of (x + 1) (drop (x + 1) p.tree.nodes) =
     ap (returns_of x) (at_next p.tree.nodes x at.node at.there) ∙ ap (λ (s : NodeState). returning x s ++ returns_of (x + 1) (drop (x + 1) p.tree.nodes)) at.state_is in
     ap (λ (ns : List TreeNode). entered_by (entered p (GiveBack k x)) (returns_of (x + 1) ns)) rest ∙ sym

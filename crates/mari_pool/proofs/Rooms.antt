@@ -102,10 +102,25 @@ entry_paid g (Branch k x cutoff) before after l may paid = by_full g.full refl
     by_full : (full : Bool) → g.full ≡ full → still_owed (grown g (Branch k x cutoff)) after + 1 ≤ still_owed g before
     by_full true e =
         rw e
-        (omega (arith, owed-append true (with_state state g.nodes x) (map new_node kids), owed_new true kids, branch_owes true (length g.nodes) kids, owed_state true state (Taken k) g.nodes x may.0.taken))
+        (omega (
+          arith,
+          owed-append true (with_state state g.nodes x) (map new_node kids),
+          owed_new true kids,
+          branch_owes true (length g.nodes) kids,
+          owed_state true state (Taken k) g.nodes x may.0.taken,
+        ))
     by_full false e =
         rw e
-        (omega (arith, owed-append false (with_state state g.nodes x) (map new_node kids), owed_new false kids, branch_owes false (length g.nodes) kids, owed_state false state (Taken k) g.nodes x may.0.taken, count, may.1, paid))
+        (omega (
+          arith,
+          owed-append false (with_state state g.nodes x) (map new_node kids),
+          owed_new false kids,
+          branch_owes false (length g.nodes) kids,
+          owed_state false state (Taken k) g.nodes x may.0.taken,
+          count,
+          may.1,
+          paid,
+        ))
 entry_paid g (Full k x cutoff) before after l may paid = by_full g.full refl
   where
     by_full : (full : Bool) → g.full ≡ full → still_owed (grown g (Full k x cutoff)) after + 1 ≤ still_owed g before

@@ -31,7 +31,15 @@ pub record Pooled : Type 0 where
 
 -- at the start the empty word waits, with the greatest key
 abbrev pub new_pool : Market → ℕ → ℕ → ℕ → SeatView → Pooled
-new_pool m budget workers room seat = record { tree = seed m budget; keys = first_key ∷ []; journal = []; room = room; turns = replicate budget 0; returned = replicate (workers + 1) false; seat = seat }
+new_pool m budget workers room seat = record {
+  tree = seed m budget;
+  keys = first_key ∷ [];
+  journal = [];
+  room = room;
+  turns = replicate budget 0;
+  returned = replicate (workers + 1) false;
+  seat = seat;
+}
 
 -- ---- the journal's room
 
@@ -135,7 +143,9 @@ keys_after g e keys key = keys ++ replicate (length (grown g e).nodes - length g
 -- at it
 abbrev pub settled_with : Pooled → ℕ → ℕ → ℕ → Finding → Pooled
 settled_with p worker node seen finding =
-    record (entered (meeting p seen) (settling p.tree worker node seen finding)) { keys = keys_after p.tree (settling p.tree worker node seen finding) p.keys (child_key finding) }
+    record (entered (meeting p seen) (settling p.tree worker node seen finding)) {
+      keys = keys_after p.tree (settling p.tree worker node seen finding) p.keys (child_key finding);
+    }
 
 -- what the entry says of a node that was settled
 abbrev pub answer_of : Grown → Entry → Settled

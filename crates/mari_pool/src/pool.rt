@@ -50,9 +50,25 @@ impl<'m, N: SearchName> Model for Pool<'m, N> {
 
     ghost Value = { Pooled };
 
-    ghost view = { λ p. record { tree = p.tree; keys = p.queue.keys; journal = p.journal.items; room = vec_capacity p.journal; turns = p.turns.items; returned = p.returned.items; seat = p.seat } };
+    ghost view = { λ p. record {
+      tree = p.tree;
+      keys = p.queue.keys;
+      journal = p.journal.items;
+      room = vec_capacity p.journal;
+      turns = p.turns.items;
+      returned = p.returned.items;
+      seat = p.seat;
+    } };
 
-    ghost invariant = { λ p. IsPool N.market N.budget N.workers N.incumbent (record { tree = p.tree; keys = p.queue.keys; journal = p.journal.items; room = vec_capacity p.journal; turns = p.turns.items; returned = p.returned.items; seat = p.seat }) × (taken_among p.tree.nodes ≡ p.taken) × IsQueueOf p.tree.nodes p.queue × (p.queue.room ≡ p.tree.budget) };
+    ghost invariant = { λ p. IsPool N.market N.budget N.workers N.incumbent (record {
+      tree = p.tree;
+      keys = p.queue.keys;
+      journal = p.journal.items;
+      room = vec_capacity p.journal;
+      turns = p.turns.items;
+      returned = p.returned.items;
+      seat = p.seat;
+    }) × (taken_among p.tree.nodes ≡ p.taken) × IsQueueOf p.tree.nodes p.queue × (p.queue.room ≡ p.tree.budget) };
 }
 
 /// Why a pool has no tree yet.
@@ -168,8 +184,10 @@ impl<'m, N: SearchName> Pool<'m, N> {
         requires incumbent { (incumbent.now ≡ N.incumbent) × (seat.old.incumbent ≡ N.incumbent) }
         requires finding { MaySettle N.market seat.old.seen finding (new_node (word_of ticket.prefix)) }
         ensures stale { (IsTakenAt self.old ticket.node ticket.turn ticket.worker (word_of ticket.prefix) → ⊥) → (result ≡ Stale) × (self.new ≡ self.old) }
-        ensures settled { IsTakenAt self.old ticket.node ticket.turn ticket.worker (word_of ticket.prefix) → self.new ≡ settled_with self.old ticket.worker ticket.node seat.old.seen finding }
-        ensures answer { IsTakenAt self.old ticket.node ticket.turn ticket.worker (word_of ticket.prefix) → result ≡ answer_of self.old.tree (settling self.old.tree ticket.worker ticket.node seat.old.seen finding) }
+        ensures settled { IsTakenAt self.old ticket.node ticket.turn ticket.worker (word_of ticket.prefix)
+            → self.new ≡ settled_with self.old ticket.worker ticket.node seat.old.seen finding }
+        ensures answer { IsTakenAt self.old ticket.node ticket.turn ticket.worker (word_of ticket.prefix)
+            → result ≡ answer_of self.old.tree (settling self.old.tree ticket.worker ticket.node seat.old.seen finding) }
         ensures seat { seat.new ≡ seat.old }
     {
         if !self.is_fresh(&ticket) {
@@ -200,7 +218,8 @@ impl<'m, N: SearchName> Pool<'m, N> {
 
     /// Gives a ticket's node back. False where the ticket is stale or its worker number gave a ticket back before.
     pub fn give_back(&mut self, ticket: Ticket<N>) -> bool
-        ensures given { IsTakenAt self.old ticket.node ticket.turn ticket.worker (word_of ticket.prefix) → slice_get self.old.returned ticket.worker ≡ Some false → (result ≡ true) × (self.new ≡ giving_back self.old ticket.worker ticket.node) }
+        ensures given { IsTakenAt self.old ticket.node ticket.turn ticket.worker (word_of ticket.prefix)
+            → slice_get self.old.returned ticket.worker ≡ Some false → (result ≡ true) × (self.new ≡ giving_back self.old ticket.worker ticket.node) }
         ensures stale { (IsTakenAt self.old ticket.node ticket.turn ticket.worker (word_of ticket.prefix) → ⊥) → (result ≡ false) × (self.new ≡ self.old) }
         ensures again { slice_get self.old.returned ticket.worker ≡ Some true → (result ≡ false) × (self.new ≡ self.old) }
     {
@@ -248,7 +267,8 @@ impl<'m, N: SearchName> Pool<'m, N> {
     /// The worker that has taken a node, if there is one.
     fn taker(&self, node: u32) -> Option<u32>
         ensures facts { IsGrowth self.now.tree }
-        ensures taker { MatchOption result ((worker : ℕ) → state_at self.now.tree.nodes node ≡ Some (Taken worker) → ⊥) (λ worker. state_at self.now.tree.nodes node ≡ Some (Taken worker)) }
+        ensures taker { MatchOption result ((worker : ℕ) → state_at self.now.tree.nodes node ≡ Some (Taken worker) → ⊥)
+            (λ worker. state_at self.now.tree.nodes node ≡ Some (Taken worker)) }
     {
         self.tree.taker(node)
     }

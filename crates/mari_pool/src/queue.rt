@@ -36,7 +36,8 @@ impl Model for Queue {
 
     ghost view = { λ q. record { keys = q.keys.items; waiting = map number_in (heap_items q.waiting); room = q.room } };
 
-    ghost invariant = { λ q. IsHeap by_key (heap_items q.waiting) × All (IsKeyed q.keys.items) (heap_items q.waiting) × (length q.keys.items ≤ q.room) × (q.room ≤ MOST_NODES) × (q.room ≤ vec_capacity q.keys) × (q.room ≤ heap_capacity q.waiting) };
+    ghost invariant = { λ q. IsHeap by_key (heap_items q.waiting) × All (IsKeyed q.keys.items) (heap_items q.waiting) × (length q.keys.items ≤ q.room)
+        × (q.room ≤ MOST_NODES) × (q.room ≤ vec_capacity q.keys) × (q.room ≤ heap_capacity q.waiting) };
 }
 
 /// The key of a node's children: the bound of what was found at the node.

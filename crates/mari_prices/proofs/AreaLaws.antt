@@ -122,7 +122,8 @@ numbered_areas m a values xs areas v h k =
           let fy = first_is m a values xs y h l in
           let fz = first_is m a values xs z h o in (
             λ e.
-                let one : first_at xs y ≡ first_at xs z = n.apart (first_at xs y) (first_at xs z) (omega (arith, fy.0, h.one_each)) (omega (arith, fz.0, h.one_each)) (f.own y ly) (f.own z lz) (sym (n.as_first y ly) ∙ e ∙ n.as_first z lz) in
+                let one : first_at xs y ≡ first_at xs z = n.apart (first_at xs y) (first_at xs z) (omega (arith, fy.0, h.one_each)) (omega (arith, fz.0, h.one_each)) (f.own y ly) (f.own z lz)
+                (sym (n.as_first y ly) ∙ e ∙ n.as_first z lz) in
                 area_on m a y (first_at xs y) z (area_back m a (first_at xs y) y fy.1) (subst (λ (x : ℕ). InOneArea m a x z) (sym one) fz.1),
             λ j. n.as_first y ly ∙ ap (area_at areas) (same_first m a values xs y z v h l o j) ∙ sym (n.as_first z lz),
           );

@@ -45,7 +45,8 @@ priced end m a bounds xs v e = record {
       let own = own_price end m a bounds z v e.own there in
       record {
         low = omega (arith, ints, own.low, e.spread.spreading.above z s k);
-        high = spread_least (LeadsTo (along_of end) m.borders a.flow) (int_at bounds) (λ _. CAP) xs e.spread.spreading (λ y h. (own_price end m a bounds y v e.own (omega (arith, h, e.one_each))).high) (λ x y h. omega (arith, ints)) z s k;
+        high = spread_least (LeadsTo (along_of end) m.borders a.flow) (int_at bounds) (λ _. CAP) xs e.spread.spreading (λ y h. (own_price end m a bounds y v e.own (omega (arith, h, e.one_each))).high)
+            (λ x y h. omega (arith, ints)) z s k;
       };
 }
 
@@ -203,8 +204,10 @@ after_of : (lead : ℕ → ℕ → Type 0) (own : ℕ → ℤ) (xs : List (Optio
     → lead y z × ((t : SettledZone) → entry_at xs y ≡ Some t → s.value ≡ t.value)
 after_of lead own xs z y s e (inl f) = let none = f.previous in absurd (cc)
 after_of lead own xs z y s e (inr a) =
-    let same : a.before ≡ y = (let k = a.previous in cc) in
-    (subst (λ (x : ℕ). lead x z) same a.leads, λ t k. let there : entry_at xs y ≡ Some a.entry = subst (λ (x : ℕ). entry_at xs x ≡ Some a.entry) same a.settled in let one : a.entry ≡ t = cc in a.value ∙ ap (λ (x : SettledZone). x.value) one)
+    let same : a.before ≡ y = (let k = a.previous in cc) in (
+      subst (λ (x : ℕ). lead x z) same a.leads,
+      λ t k. let there : entry_at xs y ≡ Some a.entry = subst (λ (x : ℕ). entry_at xs x ≡ Some a.entry) same a.settled in let one : a.entry ≡ t = cc in a.value ∙ ap (λ (x : SettledZone). x.value) one,
+    )
 
 -- along a chain the value stays, and each zone leads to the next
 record Carries (m : Market) (a : Activation) (xs : List (Option SettledZone)) (z : ℕ) (rest : List ℕ) (s : SettledZone) : Type 0 where
@@ -254,5 +257,6 @@ trail_contradicts m a bounds uppers xs last chain v f e g h t =
     record {
       chain = subst (IsContradiction m a) (sym t.trail.items) (all.chain, contradicts);
       short = omega (arith, t.short, e.one_each);
-      zones = subst (All (λ (z : ℕ). z < m.zones)) (sym t.trail.items) (All-weaker (λ (z : ℕ). z < length xs) (λ (z : ℕ). z < m.zones) (λ z l. omega (arith, l, e.one_each)) (t.first ∷ t.trail.rest) all.there);
+      zones = subst (All (λ (z : ℕ). z < m.zones)) (sym t.trail.items)
+          (All-weaker (λ (z : ℕ). z < length xs) (λ (z : ℕ). z < m.zones) (λ z l. omega (arith, l, e.one_each)) (t.first ∷ t.trail.rest) all.there);
     }

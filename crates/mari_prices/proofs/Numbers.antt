@@ -100,5 +100,6 @@ push_old_area f xs ys n count count' v first e made same h back at read before =
     let own : v ≡ area_at xs (f n) = read ∙ get_or_default xs first v 0 (omega (arith, e, at, before)) ∙ ap (area_at xs) at in
     let adds : Adds (area_at xs) (area_at (xs ++ v ∷ [])) n (area_at xs (f n)) = subst (Adds (area_at xs) (area_at (xs ++ v ∷ [])) n) own (pushed xs v n e) in (
       ap length made ∙ omega (arith, length_push xs v, e),
-      subst (λ (zs : List ℕ). IsNumbering f (area_at zs) (n + 1) count') (sym made) (subst (IsNumbering f (area_at (xs ++ v ∷ [])) (n + 1)) (sym same) (old_area f (area_at xs) (area_at (xs ++ v ∷ [])) n count h back before adds)),
+      subst (λ (zs : List ℕ). IsNumbering f (area_at zs) (n + 1) count') (sym made)
+          (subst (IsNumbering f (area_at (xs ++ v ∷ [])) (n + 1)) (sym same) (old_area f (area_at xs) (area_at (xs ++ v ∷ [])) n count h back before adds)),
     )

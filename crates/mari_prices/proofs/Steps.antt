@@ -56,7 +56,15 @@ record Fits (lead : ℕ → ℕ → Type 0) (own : ℕ → ℤ) (xs : List (Opti
   short : e.depth + free_zones xs ≤ length xs + 1
 
 after_kept : (lead : ℕ → ℕ → Type 0) (xs : List (Option SettledZone)) (z w : ℕ) (e s : SettledZone) → entry_at xs z ≡ None → IsAfter lead xs w s → IsAfter lead (set xs z (Some e)) w s
-after_kept lead xs z w e s free a = record { before = a.before; entry = a.entry; settled = entry_kept xs z a.before e a.entry free a.settled; leads = a.leads; previous = a.previous; value = a.value; depth = a.depth }
+after_kept lead xs z w e s free a = record {
+  before = a.before;
+  entry = a.entry;
+  settled = entry_kept xs z a.before e a.entry free a.settled;
+  leads = a.leads;
+  previous = a.previous;
+  value = a.value;
+  depth = a.depth;
+}
 
 source_kept : (lead : ℕ → ℕ → Type 0) (own : ℕ → ℤ) (xs : List (Option SettledZone)) (z w : ℕ) (e s : SettledZone)
     → entry_at xs z ≡ None → IsByItself own w s ⊎ IsAfter lead xs w s

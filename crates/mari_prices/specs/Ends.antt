@@ -101,6 +101,7 @@ depth_of (Some s) = s.depth
 -- the chain to each zone is one longer than that to the zone before
 pub record AreTrails (xs : List (Option SettledZone)) : Type 0 where
   pub settled : AllSettled xs
-  pub before : (z y : ℕ) (s : SettledZone) → entry_at xs z ≡ Some s → s.previous ≡ Some y → (t : SettledZone) × (entry_at xs y ≡ Some t) × (s.depth ≡ t.depth + 1)
+  pub before : (z y : ℕ) (s : SettledZone) → entry_at xs z ≡ Some s → s.previous ≡ Some y
+      → (t : SettledZone) × (entry_at xs y ≡ Some t) × (s.depth ≡ t.depth + 1)
   pub some : (z : ℕ) (s : SettledZone) → entry_at xs z ≡ Some s → 1 ≤ s.depth
   pub short : (z : ℕ) (s : SettledZone) → entry_at xs z ≡ Some s → s.depth ≤ length xs

@@ -27,7 +27,8 @@ pub(crate) fn chain_by(
     requires ends { (a : TheActivation) × AreEnds market.now a bounds.now least.now }
 
     // A chain that shows that no prices are consistent; or some are, and no least price is above the upper bound.
-    ensures chain { (a : TheActivation) → AreEnds market.now a bounds.now least.now → IfOk result (λ chain. MatchOption chain (IsAdmissible market.now a) (IsContradictoryChain market.now a)) }
+    ensures chain { (a : TheActivation) → AreEnds market.now a bounds.now least.now
+        → IfOk result (λ chain. MatchOption chain (IsAdmissible market.now a) (IsContradictoryChain market.now a)) }
     ensures none { IfOk result (λ chain. IfNone chain (AreUncontradicted (length least.now) least.now bounds.now.greatest.items)) }
 {
     // Whose bounds these are, only clauses say.
@@ -50,7 +51,8 @@ pub fn contradiction_between(
 ) -> Result<Option<Items<u32>>, AllocError>
     requires valid { IsValid market.now }
     requires bounded { (a : TheActivation) × IsBoundedBy market.now flow.now bounds.now a }
-    ensures { (a : TheActivation) → IsBoundedBy market.now flow.now bounds.now a → IfOk result (λ chain. MatchOption chain (IsAdmissible market.now a) (IsContradictoryChain market.now a)) }
+    ensures { (a : TheActivation) → IsBoundedBy market.now flow.now bounds.now a
+        → IfOk result (λ chain. MatchOption chain (IsAdmissible market.now a) (IsContradictoryChain market.now a)) }
 {
     let least = spread_of(alloc, market, flow, &bounds.least, End::Least)?;
     chain_by(alloc, market, bounds, &least)

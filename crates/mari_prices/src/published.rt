@@ -58,7 +58,8 @@ fn nearest_prices(
 ) -> Result<Vec<Cents>, Memory>
     requires intervals { AreInOrder least.now greatest.now }
     ensures one_each { IfOk result (λ prices. length prices.items ≡ length least.now) }
-    ensures nearest { IfOk result (λ prices. (z : ℕ) → z < length least.now → IsNearest (price_at least.now z) (price_at greatest.now z) reference.0 (price_at prices.items z)) }
+    ensures nearest { IfOk result
+        (λ prices. (z : ℕ) → z < length least.now → IsNearest (price_at least.now z) (price_at greatest.now z) reference.0 (price_at prices.items z)) }
 {
     let mut prices = Vec::with_capacity(alloc, least.len())?;
     for (zone, low) in least.iter().enumerate() {

@@ -46,7 +46,8 @@ module _ (books : Books) (ok : IsAccepted books) (past : List PastBlock) (first 
   name-orders : NameOrders books.bids.bids (numbers_of books past run) (market_at books past run).orders
   name-orders =
       let R : ℕ → Order → Type 0 = λ number o. IsSomeAnd (slice_get books.bids.bids number) (IsOrderOf o) in
-      let each : All (λ i. R i (order-of i)) (numbers_of books past run) = λ k d l. rw (slice_get-get_or books.bids.bids (get_or (numbers_of books past run) k d) no_bid (numbers-there k d l)) (record { zone = refl; side = refl }) in
+      let each : All (λ i. R i (order-of i)) (numbers_of books past run) =
+      λ k d l. rw (slice_get-get_or books.bids.bids (get_or (numbers_of books past run) k d) no_bid (numbers-there k d l)) (record { zone = refl; side = refl }) in
       rw front (zip-map R order-of (numbers_of books past run) each)
 
   small-orders : All (λ (o : Order). o.greatest ≤ 9999) (take (length (numbers_of books past run)) (market_at books past run).orders)

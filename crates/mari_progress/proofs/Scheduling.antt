@@ -121,7 +121,8 @@ module _ (books : Books) (ok : IsAccepted books) (blocks : List Block) (kept : O
 pub also-is : (books : Books) (blocks : List Block) (kept : Option Scheduled) → KeepsPrices books blocks kept → (run : ℕ) → run ≡ run_after blocks → run ≤ length books.runs.runs
     → (if (run_numbered books run).direct then kept_for (run_numbered books run).quarter kept else None) ≡ also_after books blocks
 also-is books blocks kept keeps run is last =
-    let P : ℕ → Type 0 = λ r. (if (run_numbered books run).direct then kept_for (run_numbered books run).quarter kept else None) ≡ (if (run_numbered books r).direct then scheduled_prices (run_numbered books r).quarter blocks else None) in
+    let P : ℕ → Type 0 = λ r. (if (run_numbered books run).direct then kept_for (run_numbered books run).quarter kept else None)
+    ≡ (if (run_numbered books r).direct then scheduled_prices (run_numbered books r).quarter blocks else None) in
     subst P is (by (run_numbered books run).direct)
   where
     by : (t : Bool) → (if t then kept_for (run_numbered books run).quarter kept else None) ≡ (if t then scheduled_prices (run_numbered books run).quarter blocks else None)

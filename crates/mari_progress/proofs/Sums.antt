@@ -99,9 +99,12 @@ module _ (books : Books) (blocks : List Block) (sums : Ledger) (so_far : AreTota
             (λ provider. let more = over-more books [] blocks b provider in omega (arith, ints, more)) (range_with_len 0 (length books.bids.providers));
         one_each = so_far.one_each;
         rents = so_far.rents;
-        operators_within = rw (many b) (All-weaker (LineIsWithin (length blocks * most_of_operator)) (LineIsWithin ((length blocks + 1) * most_of_operator)) (λ l s. record { payment = omega (arith, s.payment); rent = omega (arith, s.rent) }) sums.operators so_far.operators_within);
-        providers_within = rw (many b) (All-weaker (MoneyIsWithin (length blocks * most_of_provider)) (MoneyIsWithin ((length blocks + 1) * most_of_provider)) (λ q s. omega (arith, s)) sums.providers so_far.providers_within);
-        rents_within = rw (many b) (All-weaker (MoneyIsWithin (length blocks * most_of_run)) (MoneyIsWithin ((length blocks + 1) * most_of_run)) (λ q s. omega (arith, s)) sums.rents so_far.rents_within);
+        operators_within = rw (many b) (All-weaker (LineIsWithin (length blocks * most_of_operator)) (LineIsWithin ((length blocks + 1) * most_of_operator))
+            (λ l s. record { payment = omega (arith, s.payment); rent = omega (arith, s.rent) }) sums.operators so_far.operators_within);
+        providers_within = rw (many b)
+            (All-weaker (MoneyIsWithin (length blocks * most_of_provider)) (MoneyIsWithin ((length blocks + 1) * most_of_provider)) (λ q s. omega (arith, s)) sums.providers so_far.providers_within);
+        rents_within =
+            rw (many b) (All-weaker (MoneyIsWithin (length blocks * most_of_run)) (MoneyIsWithin ((length blocks + 1) * most_of_run)) (λ q s. omega (arith, s)) sums.rents so_far.rents_within);
         nets = so_far.nets;
       }
 
@@ -118,7 +121,8 @@ module _ (books : Books) (blocks : List Block) (sums : Ledger) (so_far : AreTota
     adds-up few =
         ledgers_add_up (10 ^ 21) most_of_run sums settled.ledger (omega arith) (so_far.one_each ∙ sym is.one_each) as-many-providers (so_far.rents ∙ sym is.rents)
         (record {
-          operators = All-weaker (LineIsWithin (length blocks * most_of_operator)) (LineIsWithin (10 ^ 21)) (λ l s. record { payment = omega (arith, few, s.payment); rent = omega (arith, few, s.rent) }) sums.operators so_far.operators_within;
+          operators = All-weaker (LineIsWithin (length blocks * most_of_operator)) (LineIsWithin (10 ^ 21))
+              (λ l s. record { payment = omega (arith, few, s.payment); rent = omega (arith, few, s.rent) }) sums.operators so_far.operators_within;
           providers = All-weaker (MoneyIsWithin (length blocks * most_of_provider)) (MoneyIsWithin (10 ^ 21)) (λ q s. omega (arith, few, s)) sums.providers so_far.providers_within;
           rents = All-weaker (MoneyIsWithin (length blocks * most_of_run)) (MoneyIsWithin (10 ^ 21)) (λ q s. omega (arith, few, s)) sums.rents so_far.rents_within;
         }) is.balanced.small
@@ -144,11 +148,15 @@ module _ (books : Books) (blocks : List Block) (sums : Ledger) (so_far : AreTota
               ∙ amounts-same (λ x. amount_over books [] blocks x +ℤ amount_in books blocks p x) (amount_over books [] (blocks ++ p ∷ [])) (λ x. sym (over-more books [] blocks p x)) all;
           one_each = ap length operators ∙ along-length lines_together sums.operators settled.ledger.operators (is.one_each ∙ sym so_far.one_each) ∙ so_far.one_each;
           rents = ap length rents ∙ along-length together sums.rents settled.ledger.rents (is.rents ∙ sym so_far.rents) ∙ so_far.rents;
-          operators_within = rw (many p, operators) (All-weaker (LineIsWithin (length blocks * most_of_operator + most_of_operator)) (LineIsWithin ((length blocks + 1) * most_of_operator)) (λ l s. record { payment = omega (arith, s.payment); rent = omega (arith, s.rent) }) _
-              (sums_within lines_together (LineIsWithin (length blocks * most_of_operator)) (LineIsWithin most_of_operator) (LineIsWithin (length blocks * most_of_operator + most_of_operator)) (lines_within _ _)
+          operators_within = rw (many p, operators) (All-weaker (LineIsWithin (length blocks * most_of_operator + most_of_operator)) (LineIsWithin ((length blocks + 1) * most_of_operator))
+              (λ l s. record { payment = omega (arith, s.payment); rent = omega (arith, s.rent) }) _
+              (sums_within lines_together (LineIsWithin (length blocks * most_of_operator)) (LineIsWithin most_of_operator)
+              (LineIsWithin (length blocks * most_of_operator + most_of_operator)) (lines_within _ _)
               sums.operators settled.ledger.operators (so_far.one_each ∙ sym is.one_each) so_far.operators_within is.balanced.operators_small));
-          providers_within = rw (many p, providers) (All-weaker (MoneyIsWithin (length blocks * most_of_provider + most_of_provider)) (MoneyIsWithin ((length blocks + 1) * most_of_provider)) (λ q s. omega (arith, s)) _
-              (sums_within together (MoneyIsWithin (length blocks * most_of_provider)) (MoneyIsWithin most_of_provider) (MoneyIsWithin (length blocks * most_of_provider + most_of_provider)) (sum_within _ _)
+          providers_within = rw (many p, providers)
+              (All-weaker (MoneyIsWithin (length blocks * most_of_provider + most_of_provider)) (MoneyIsWithin ((length blocks + 1) * most_of_provider)) (λ q s. omega (arith, s)) _
+              (sums_within together (MoneyIsWithin (length blocks * most_of_provider)) (MoneyIsWithin most_of_provider)
+              (MoneyIsWithin (length blocks * most_of_provider + most_of_provider)) (sum_within _ _)
               sums.providers settled.ledger.providers as-many-providers so_far.providers_within is.balanced.providers_small));
           rents_within = rw (many p, rents) (All-weaker (MoneyIsWithin (length blocks * most_of_run + most_of_run)) (MoneyIsWithin ((length blocks + 1) * most_of_run)) (λ q s. omega (arith, s)) _
               (sums_within together (MoneyIsWithin (length blocks * most_of_run)) (MoneyIsWithin most_of_run) (MoneyIsWithin (length blocks * most_of_run + most_of_run)) (sum_within _ _)
@@ -168,7 +176,8 @@ no-totals books ledger operators providers rents within = record {
   providers = providers ∙ nothing-each (length books.bids.providers) 0;
   one_each = ap length operators ∙ length-replicate (length books.zones.operators) no_line;
   rents = ap length rents ∙ length-replicate (length books.borders.borders) nothing;
-  operators_within = All-weaker (LineIsWithin 0) (LineIsWithin (0 * most_of_operator)) (λ l s. record { payment = omega (arith, s.payment); rent = omega (arith, s.rent) }) ledger.operators within.operators;
+  operators_within =
+      All-weaker (LineIsWithin 0) (LineIsWithin (0 * most_of_operator)) (λ l s. record { payment = omega (arith, s.payment); rent = omega (arith, s.rent) }) ledger.operators within.operators;
   providers_within = All-weaker (MoneyIsWithin 0) (MoneyIsWithin (0 * most_of_provider)) (λ q s. omega (arith, s)) ledger.providers within.providers;
   rents_within = All-weaker (MoneyIsWithin 0) (MoneyIsWithin (0 * most_of_run)) (λ q s. omega (arith, s)) ledger.rents within.rents;
   nets = ap (int_sum net_of) operators ∙ no-nets (length books.zones.operators);

@@ -50,7 +50,8 @@ pub record IsScheduled (books : Books) (blocks : List Block) (kept : Scheduled) 
 -- none; so for each run to come they are those of the scheduled block of its quarter
 pub record KeepsPrices (books : Books) (blocks : List Block) (kept : Option Scheduled) : Type 0 where
   pub last : kept ≡ last_scheduled blocks
-  pub same : (r : ℕ) → length blocks < r → r ≤ length books.runs.runs → scheduled_prices (run_numbered books r).quarter blocks ≡ kept_for (run_numbered books r).quarter kept
+  pub same : (r : ℕ) → length blocks < r → r ≤ length books.runs.runs
+      → scheduled_prices (run_numbered books r).quarter blocks ≡ kept_for (run_numbered books r).quarter kept
   pub priced : IfSome kept (IsScheduled books blocks)
 
 -- what is kept stands for blocks of the first runs: what they left, the sums of their ledgers, the scheduled prices,

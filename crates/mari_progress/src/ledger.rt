@@ -34,7 +34,8 @@ pub fn ledger_of(
 
     // Exactly the run's operators' lines, providers' amounts and rents.
     ensures operators { IfOk result (λ ledger. ledger.operators ≡ operator_lines books.now.zones made.now.market activation.now prices.now.cents) }
-    ensures providers { IfOk result (λ ledger. ledger.providers ≡ provider_amounts books.now.bids made.now.bids activation.now prices.now.cents (scheduled_or prices.now.cents (option_map (λ scheduled. scheduled.now.cents) also.entry))) }
+    ensures providers { IfOk result (λ ledger. ledger.providers ≡ provider_amounts books.now.bids made.now.bids activation.now prices.now.cents
+        (scheduled_or prices.now.cents (option_map (λ scheduled. scheduled.now.cents) also.entry))) }
     ensures rents { IfOk result (λ ledger. ledger.rents ≡ rents_of made.now.market activation.now prices.now.cents) }
 
     // So a day's ledgers can be added up, and what some operators pay, the others get.

@@ -74,7 +74,8 @@ impl Progress {
         requires accepted { IsAccepted books.now }
         requires last { run ≤ length books.now.runs.runs }
         requires after { (blocks : List PrintedBlock) × IsProgress books.now blocks self.now × (run ≡ run_after blocks) }
-        ensures market { (blocks : List PrintedBlock) → IsProgress books.now blocks self.now → run ≡ run_after blocks → IfOk result (λ made. made ≡ market_after books.now blocks) }
+        ensures market { (blocks : List PrintedBlock) → IsProgress books.now blocks self.now → run ≡ run_after blocks
+            → IfOk result (λ made. made ≡ market_after books.now blocks) }
         ensures of_books { IfOk result (IsMarketOf books.now) }
     {
         let made = self.remaining.market_of(alloc, books, run)?;
@@ -86,8 +87,10 @@ impl Progress {
     pub fn also(&self, books: &Books, run: u32) -> Option<&Prices>
         requires first { 1 ≤ run }
         requires last { run ≤ length books.now.runs.runs }
-        ensures after { (blocks : List PrintedBlock) → IsProgress books.now blocks self.now → run ≡ run_after blocks → option_map (λ scheduled. scheduled.now.cents) result ≡ also_after books.now blocks }
-        ensures prices { (blocks : List PrintedBlock) → IsProgress books.now blocks self.now → IfSome result (λ scheduled. ArePrices (market_after books.now blocks).market scheduled.now.cents) }
+        ensures after { (blocks : List PrintedBlock) → IsProgress books.now blocks self.now → run ≡ run_after blocks
+            → option_map (λ scheduled. scheduled.now.cents) result ≡ also_after books.now blocks }
+        ensures prices { (blocks : List PrintedBlock) → IsProgress books.now blocks self.now
+            → IfSome result (λ scheduled. ArePrices (market_after books.now blocks).market scheduled.now.cents) }
     {
         self.kept_for(run_entry(books, run))
     }
@@ -106,8 +109,10 @@ impl Progress {
     pub fn add(&mut self, books: &Books, run: u32, settled: SettledRun)
         requires accepted { IsAccepted books.now }
         requires last { run ≤ length books.now.runs.runs }
-        requires next { (blocks : List PrintedBlock) × (block : PrintedRun) × IsProgress books.now blocks self.old × (run ≡ run_after blocks) × IsNextRun books.now blocks block settled }
-        ensures { (blocks : List PrintedBlock) (block : PrintedRun) → IsProgress books.now blocks self.old → run ≡ run_after blocks → IsNextRun books.now blocks block settled
+        requires next { (blocks : List PrintedBlock) × (block : PrintedRun) × IsProgress books.now blocks self.old × (run ≡ run_after blocks)
+            × IsNextRun books.now blocks block settled }
+        ensures { (blocks : List PrintedBlock) (block : PrintedRun) → IsProgress books.now blocks self.old → run ≡ run_after blocks
+            → IsNextRun books.now blocks block settled
             → IsProgress books.now (blocks ++ published_block block ∷ []) self.new }
     {
         let SettledRun {

@@ -46,8 +46,10 @@ pub contradiction_test : (m : Market) (x : Prefix) (a : Activation) (os : List O
 contradiction_test m x a os qs first last upper lower answer v w same_os same_qs u l t =
     let opens : opens_gate x ≡ is_open m a = sym (opens_as_decided m x a v w.gates) in
     bounds_test m a first last upper lower answer
-    (subst (λ (f : ℕ → Bool). IsLeastUpper f last m.orders a.mw upper) opens (subst (λ (ys : List ℕ). IsLeastUpper (opens_gate x) last m.orders ys upper) same_qs (subst (λ (xs : List Order). IsLeastUpper (opens_gate x) last xs qs upper) same_os u)))
-    (subst (λ (f : ℕ → Bool). IsGreatestLower f first m.orders a.mw lower) opens (subst (λ (ys : List ℕ). IsGreatestLower (opens_gate x) first m.orders ys lower) same_qs (subst (λ (xs : List Order). IsGreatestLower (opens_gate x) first xs qs lower) same_os l)))
+    (subst (λ (f : ℕ → Bool). IsLeastUpper f last m.orders a.mw upper) opens
+    (subst (λ (ys : List ℕ). IsLeastUpper (opens_gate x) last m.orders ys upper) same_qs (subst (λ (xs : List Order). IsLeastUpper (opens_gate x) last xs qs upper) same_os u)))
+    (subst (λ (f : ℕ → Bool). IsGreatestLower f first m.orders a.mw lower) opens
+    (subst (λ (ys : List ℕ). IsGreatestLower (opens_gate x) first m.orders ys lower) same_qs (subst (λ (xs : List Order). IsGreatestLower (opens_gate x) first xs qs lower) same_os l)))
     t
 
 -- an order's bounds at a word that decides every gate are those of each feasible activation of that word
@@ -64,7 +66,8 @@ same_span m x a o v e fits = by_gate o.gate o.least fits
         let bit : bit_of x g ≡ is_open m a g = sym (opens-decisions x x.length g (omega (arith, full))) ∙ sym (open_at m x a g h e) in
         state_decided m.gates x g (is_open m a g) (parents_earlier m v) h (omega (arith, full)) bit ∙ closed_or_open (is_open m a g)
 
-    by_gate : (gate : Option ℕ) (least : ℕ) → MatchOption gate (least ≡ 0) (λ g. (g < length m.gates) × (1 ≤ least)) → span_of (state_of m.gates (word_of x)) gate o ≡ span_of (λ g. if is_open m a g then Open else Closed) gate o
+    by_gate : (gate : Option ℕ) (least : ℕ) → MatchOption gate (least ≡ 0) (λ g. (g < length m.gates) × (1 ≤ least))
+        → span_of (state_of m.gates (word_of x)) gate o ≡ span_of (λ g. if is_open m a g then Open else Closed) gate o
     by_gate None least f = refl
     by_gate (Some g) least f = ap (λ (s : GateState). gated_span s o) (at g f.0)
 

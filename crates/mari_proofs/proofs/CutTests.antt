@@ -39,7 +39,8 @@ pub tests_balance : (bounds : Order → Span) (m : Market) (side : CutSide) (set
 tests_balance bounds m side set orders borders put carried answer p os c bs t =
     let put_is : put ≡ int_sum (put_of side bounds set) m.orders = p ∙ ap (int_sum (put_of side bounds set)) os in
     let carried_is : carried ≡ int_sum (carried_of side set) m.borders = c ∙ ap (int_sum (carried_of side set)) bs in
-    let same : Exceeds side put carried ≡ CannotBalance bounds m side set = ap (λ (x : ℤ). Exceeds side x carried) put_is ∙ ap (λ (x : ℤ). Exceeds side (int_sum (put_of side bounds set) m.orders) x) carried_is ∙ sym (balance_test bounds m side set) in
+    let same : Exceeds side put carried ≡ CannotBalance bounds m side set =
+    ap (λ (x : ℤ). Exceeds side x carried) put_is ∙ ap (λ (x : ℤ). Exceeds side (int_sum (put_of side bounds set) m.orders) x) carried_is ∙ sym (balance_test bounds m side set) in
     subst (λ (P : Type 0). IsTrue answer ↔ P) same t
 
 -- with the bounds as a table of states has them
@@ -56,7 +57,8 @@ pub cut_test : (f g : Order → Span) (m : Market) (cut : CutRecord) (set : List
     → set ≡ cut.zones → ((o : Order) → GateFits (length m.gates) o → f o ≡ g o) → IsRising 0 m.zones set
     → IsTrue answer ↔ CannotBalance f m cut.side set → IsTrue answer ↔ IsCut g m cut
 cut_test f g m cut set answer v same e rising t =
-    let side : IsTrue answer ↔ CannotBalance g m cut.side cut.zones = subst (λ (zs : List ℕ). IsTrue answer ↔ CannotBalance g m cut.side zs) same (subst (λ (P : Type 0). IsTrue answer ↔ P) (same_balance f g m cut.side set v e) t) in (
+    let side : IsTrue answer ↔ CannotBalance g m cut.side cut.zones =
+    subst (λ (zs : List ℕ). IsTrue answer ↔ CannotBalance g m cut.side zs) same (subst (λ (P : Type 0). IsTrue answer ↔ P) (same_balance f g m cut.side set v e) t) in (
       λ yes. record { zones = subst (λ (zs : List ℕ). IsRising 0 m.zones zs) same rising; side = side.0 yes },
       λ is. side.1 is.side,
     )

@@ -31,7 +31,8 @@ at_order f (Some g) o = refl
 
 parts_by : (state : ℕ → GateState) (ps : List Cents) (o : Order) (gate : Option ℕ) (side : Side)
     → best_trade side o.price.0 (price_at ps o.zone) (span_of state gate o)
-    ≡ (of_offer (λ (x : Offer). gain_at (level_of Inject (price_at ps x.zone)) x) (offer_by gate Inject side o) +ℤ of_offer (λ (x : Offer). gain_at (level_of Withdraw (price_at ps x.zone)) x) (offer_by gate Withdraw side o))
+    ≡ (of_offer (λ (x : Offer). gain_at (level_of Inject (price_at ps x.zone)) x) (offer_by gate Inject side o) +ℤ of_offer (λ (x : Offer). gain_at (level_of Withdraw (price_at ps x.zone)) x)
+    (offer_by gate Withdraw side o))
     +ℤ of_gated (λ (q : Order). best_trade side o.price.0 (price_at ps o.zone) (span_of state gate o)) gate o
 parts_by state ps o (Some g) side = omega (arith, ints)
 parts_by state ps o None Inject =

@@ -77,7 +77,8 @@ word_where_run m x a v full run =
     each : (g : ℕ) → g < length m.gates → is_open m a g ≡ bit_of x g
     each g h = same_tests (is_open m a g) (bit_of x g)
         (λ e. sym (opens-decisions x x.length g (omega arith)) ∙ runs_open (opens_gate x) g m.orders a.mw run e)
-        (λ e. open_runs (opens_gate x) g m.orders a.mw (AllZip-long (λ (o : Order) q. RunsAsDecided (opens_gate x) o.gate q) m.orders a.mw run) (v.gates g h).used run (opens-decisions x x.length g (omega arith) ∙ e))
+        (λ e. open_runs (opens_gate x) g m.orders a.mw (AllZip-long (λ (o : Order) q. RunsAsDecided (opens_gate x) o.gate q) m.orders a.mw run) (v.gates g h).used run
+        (opens-decisions x x.length g (omega arith) ∙ e))
 
 -- the gates of an activation of that word are open as the prefix decides
 pub open_at : (m : Market) (x : Prefix) (a : Activation) (g : ℕ) → g < length m.gates → gate_word_of m a ≡ word_of x → is_open m a g ≡ opens_gate x g
@@ -90,14 +91,16 @@ length_of_word m x a e = sym (length-map-range_with_len (bit_of x) 0 x.length) �
 pub opens_as_decided : (m : Market) (x : Prefix) (a : Activation) → IsValid m → gate_word_of m a ≡ word_of x → is_open m a ≡ opens_gate x
 opens_as_decided m x a v e = fun_ext (λ g. elim (cases_lt g (length m.gates)) [
   | inl l ↦ open_at m x a g l e
-  | inr l ↦ none_past m.zones (length m.gates) g m.orders a.mw v.orders l ∙ sym (get_or_past (word_of x) g false (omega (arith, length_of_word m x a e, length-map-range_with_len (bit_of x) 0 x.length)))
+  | inr l ↦ none_past m.zones (length m.gates) g m.orders a.mw v.orders l
+      ∙ sym (get_or_past (word_of x) g false (omega (arith, length_of_word m x a e, length-map-range_with_len (bit_of x) 0 x.length)))
 ])
 
 within_test : (b : Bool) (o : Order) (q : ℕ) → 1 ≤ o.least → IsWithin (gated_span (if b then Open else Closed) o) q → b ≡ nat_lt 0 q
 within_test true o q l w = let at : o.least ≤ q = w.least in let some : 0 < q = omega arith in grind (arith, nat_tests)
 within_test false o q l w = let at : q ≤ 0 = w.most in grind (arith, nat_tests)
 
-runs_within : (opens : ℕ → Bool) (n : ℕ) (gate : Option ℕ) (o : Order) (q : ℕ) → MatchOption gate (o.least ≡ 0) (λ h. (h < n) × (1 ≤ o.least)) → IsWithin (span_of (λ g. if opens g then Open else Closed) gate o) q → RunsAsDecided opens gate q
+runs_within : (opens : ℕ → Bool) (n : ℕ) (gate : Option ℕ) (o : Order) (q : ℕ)
+    → MatchOption gate (o.least ≡ 0) (λ h. (h < n) × (1 ≤ o.least)) → IsWithin (span_of (λ g. if opens g then Open else Closed) gate o) q → RunsAsDecided opens gate q
 runs_within opens n None o q f w = tt
 runs_within opens n (Some g) o q f w = within_test (opens g) o q f.1 w
 

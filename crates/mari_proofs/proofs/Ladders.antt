@@ -95,9 +95,11 @@ ladder_take z before x rungs e up small a =
       rising = rises_on (λ (r : Rung). r.price) rungs new a.rising (a.cheap x.price up);
       small = subst (λ (n : ℕ). All (IsSmallRung n) (rungs ++ new ∷ [])) (sym long)
           (All-push (IsSmallRung (length before + 1)) rungs new (λ k d l. wider (length before) (length before + 1) (get_or rungs k d) (omega arith) (a.small k d l)) small);
-      cheap = λ p h. All-push (λ (r : Rung). r.price ≤ℤ p) rungs new (a.cheap p (All-pop (λ (y : Offer). y.price ≤ℤ p) (before ++ x ∷ []) before (Some x) refl h).0) (All-pop (λ (y : Offer). y.price ≤ℤ p) (before ++ x ∷ []) before (Some x) refl h).1;
+      cheap = λ p h. All-push (λ (r : Rung). r.price ≤ℤ p) rungs new (a.cheap p (All-pop (λ (y : Offer). y.price ≤ℤ p) (before ++ x ∷ []) before (Some x) refl h).0)
+          (All-pop (λ (y : Offer). y.price ≤ℤ p) (before ++ x ∷ []) before (Some x) refl h).1;
       whole = λ p h.
-          last_below_push (λ (r : Rung). r.price) (gain_of p) p (pos 0) rungs new ∙ if_less x.price p (gain_of p new) (gain_from p (pos 0) rungs) (All-pop (λ (r : Rung). r.price <ℤ p) (rungs ++ new ∷ []) rungs (Some new) refl h).1
+          last_below_push (λ (r : Rung). r.price) (gain_of p) p (pos 0) rungs new
+          ∙ if_less x.price p (gain_of p new) (gain_from p (pos 0) rungs) (All-pop (λ (r : Rung). r.price <ℤ p) (rungs ++ new ∷ []) rungs (Some new) refl h).1
           ∙ ap (gain_of p) (sym (last_push rungs new));
       gain = λ p.
           last_below_push (λ (r : Rung). r.price) (gain_of p) p (pos 0) rungs new
@@ -279,7 +281,8 @@ ladder_take_at offers i e rungs new n up l fine is a =
     let long : length (take i offers) ≡ i = length-take-le i offers (omega (arith, l)) in
     subst (IsLadderOf x.zone (take (i + 1) offers)) (sym is)
     (subst (λ (xs : List Offer). IsLadderOf x.zone xs (rungs ++ rung_after (last_rung rungs) x ∷ [])) (sym (take_more offers i e l))
-    (ladder_take x.zone (take i offers) x rungs refl (rises_to (λ (y : Offer). y.price) offers i e up l) (next_small (length (take i offers)) (last_rung rungs) x n (last_small (length (take i offers)) rungs a.small) (fine i e l)) a))
+    (ladder_take x.zone (take i offers) x rungs refl (rises_to (λ (y : Offer). y.price) offers i e up l)
+    (next_small (length (take i offers)) (last_rung rungs) x n (last_small (length (take i offers)) rungs a.small) (fine i e l)) a))
 
 pub ladder_skip_at : (z : ℕ) (offers : List Offer) (i : ℕ) (e : Offer) (rungs : List Rung) → i < length offers
     → ((get_or offers i e).zone ≡ z → ⊥) → IsLadderOf z (take i offers) rungs → IsLadderOf z (take (i + 1) offers) rungs

@@ -85,7 +85,8 @@ pub walk_ends : (m : Market) (holds : List Bool → LeafRecord → Type 0) (item
     → AreParts m holds ([] ∷ []) items
 walk_ends m holds items i at h is before =
     none_left m holds ([] ∷ []) items
-    (subst (λ (o : Option Prefix). LeavesWords m holds ([] ∷ []) items (left_at m.gates o)) is (subst (λ (xs : List TreeItem). LeavesWords m holds ([] ∷ []) xs (left_at m.gates at)) (take_all i items h) before))
+    (subst (λ (o : Option Prefix). LeavesWords m holds ([] ∷ []) items (left_at m.gates o)) is
+    (subst (λ (xs : List TreeItem). LeavesWords m holds ([] ∷ []) xs (left_at m.gates at)) (take_all i items h) before))
 
 -- ---- a tree that fails at a place doesn't hold
 

@@ -13,7 +13,8 @@ use Rattle.mari_gates.specs.Preorder.{waiting_after, left_at}
 -- the item fits a prefix, and the next prefix or none is what is then left
 abbrev pub FitsItem : Market → (List Bool → LeafRecord → Type 0) → Prefix → TreeItem → Option Prefix → Type 0
 FitsItem m holds x (Leaf leaf) next = holds (word_of x) leaf × (left_at m.gates next ≡ waiting_after m.gates (word_of x))
-FitsItem m holds x Branch next = (length (word_of x) < length m.gates) × (left_at m.gates next ≡ children m.gates (word_of x) ++ waiting_after m.gates (word_of x))
+FitsItem m holds x Branch next =
+    (length (word_of x) < length m.gates) × (left_at m.gates next ≡ children m.gates (word_of x) ++ waiting_after m.gates (word_of x))
 
 -- the item is a branch at a prefix that decides every gate
 abbrev pub IsFullBranch : Market → Prefix → TreeItem → Type 0

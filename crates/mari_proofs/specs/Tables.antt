@@ -125,7 +125,8 @@ sum_below f (suc n) = sum_below f n +ℤ f n
 pub record AreLaddersOf (m : Market) (side : Side) (ladders : List (Vec Rung Global)) : Type 0 where
   pub one_each : length ladders ≡ m.zones
   pub each : (z : ℕ) → z < m.zones → IsLadder (ladder_at ladders z)
-  pub gain : (levels : ℕ → ℤ) → sum_below (λ z. gain_from (levels z) (pos 0) (ladder_at ladders z)) m.zones ≡ int_sum (λ (o : Order). of_offer (λ (x : Offer). gain_at (levels x.zone) x) (offer_of side o)) m.orders
+  pub gain : (levels : ℕ → ℤ) → sum_below (λ z. gain_from (levels z) (pos 0) (ladder_at ladders z)) m.zones
+      ≡ int_sum (λ (o : Order). of_offer (λ (x : Offer). gain_at (levels x.zone) x) (offer_of side o)) m.orders
 
 -- the orders of a gate, each once: a sum over them is one over the market's orders of a gate
 pub record AreGated (m : Market) (os : List Order) : Type 0 where

@@ -175,8 +175,10 @@ pub fn dual_value(market: &Market, prefix: &Prefix, potentials: &Prices) -> Quar
 
     // What it shows of activations.
     ensures weak_duality { (a : Activation) → IsWithinBounds (bounds_at market.now prefix.now) market.now a → welfare_of market.now a ≤ℤ result.0 }
-    ensures equal_where_tight { (a : Activation) → IsWithinBounds (bounds_at market.now prefix.now) market.now a → IsTight (bounds_at market.now prefix.now) market.now a potentials.now.cents → welfare_of market.now a ≡ result.0 }
-    ensures tight_where_equal { (a : Activation) → IsWithinBounds (bounds_at market.now prefix.now) market.now a → welfare_of market.now a ≡ result.0 → IsTight (bounds_at market.now prefix.now) market.now a potentials.now.cents }
+    ensures equal_where_tight { (a : Activation) → IsWithinBounds (bounds_at market.now prefix.now) market.now a
+        → IsTight (bounds_at market.now prefix.now) market.now a potentials.now.cents → welfare_of market.now a ≡ result.0 }
+    ensures tight_where_equal { (a : Activation) → IsWithinBounds (bounds_at market.now prefix.now) market.now a → welfare_of market.now a ≡ result.0
+        → IsTight (bounds_at market.now prefix.now) market.now a potentials.now.cents }
 {
     let states = states_at(market, prefix);
     let total = total_value(market, &states, potentials.cents.as_slice());

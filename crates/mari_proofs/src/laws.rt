@@ -19,8 +19,10 @@ use mari_market::Market;
 /// The call does nothing: its contract is the law.
 pub fn one_gate_word(market: &Market)
     requires { IsValid market.now }
-    ensures welfare { (a b : Activation) → IsAdmissible market.now a → IsAdmissible market.now b → gate_word_of market.now a ≡ gate_word_of market.now b → welfare_of market.now a ≡ welfare_of market.now b }
-    ensures prices { (a b : Activation) → IsAdmissible market.now a → IsAdmissible market.now b → gate_word_of market.now a ≡ gate_word_of market.now b → (ps : List Cents) → IsConsistent market.now a ps → IsConsistent market.now b ps }
+    ensures welfare { (a b : Activation) → IsAdmissible market.now a → IsAdmissible market.now b → gate_word_of market.now a ≡ gate_word_of market.now b
+        → welfare_of market.now a ≡ welfare_of market.now b }
+    ensures prices { (a b : Activation) → IsAdmissible market.now a → IsAdmissible market.now b
+        → gate_word_of market.now a ≡ gate_word_of market.now b → (ps : List Cents) → IsConsistent market.now a ps → IsConsistent market.now b ps }
 {}
 
 /// The first activations of a market have one gate word and one welfare, and the same consistent and published prices.
@@ -35,10 +37,14 @@ pub fn one_first(market: &Market)
     ensures welfare { (a b : Activation) → IsFirst market.now a → IsFirst market.now b → welfare_of market.now a ≡ welfare_of market.now b }
 
     // So its prices are one too.
-    ensures prices { (a b : Activation) → IsFirst market.now a → IsFirst market.now b → (ps : List Cents) → IsConsistent market.now a ps → IsConsistent market.now b ps }
-    ensures least { (a b : Activation) → IsFirst market.now a → IsFirst market.now b → (z : ℕ) (c : ℤ) → IsLeastPrice market.now a z c → IsLeastPrice market.now b z c }
-    ensures greatest { (a b : Activation) → IsFirst market.now a → IsFirst market.now b → (z : ℕ) (c : ℤ) → IsGreatestPrice market.now a z c → IsGreatestPrice market.now b z c }
-    ensures published { (a b : Activation) → IsFirst market.now a → IsFirst market.now b → (ps qs : List Cents) → ArePublishedPrices market.now a ps → ArePublishedPrices market.now b qs → (z : ℕ) → z < market.now.zones → price_at ps z ≡ price_at qs z }
+    ensures prices { (a b : Activation) → IsFirst market.now a → IsFirst market.now b → (ps : List Cents) → IsConsistent market.now a ps
+        → IsConsistent market.now b ps }
+    ensures least { (a b : Activation) → IsFirst market.now a → IsFirst market.now b → (z : ℕ) (c : ℤ) → IsLeastPrice market.now a z c
+        → IsLeastPrice market.now b z c }
+    ensures greatest { (a b : Activation) → IsFirst market.now a → IsFirst market.now b → (z : ℕ) (c : ℤ) → IsGreatestPrice market.now a z c
+        → IsGreatestPrice market.now b z c }
+    ensures published { (a b : Activation) → IsFirst market.now a → IsFirst market.now b → (ps qs : List Cents)
+        → ArePublishedPrices market.now a ps → ArePublishedPrices market.now b qs → (z : ℕ) → z < market.now.zones → price_at ps z ≡ price_at qs z }
 {}
 
 /// Where every gate closed has the optimal welfare, that gate word is the first: an optimal activation which opens no
@@ -48,7 +54,8 @@ pub fn one_first(market: &Market)
 pub fn closed_first(market: &Market)
     requires { IsValid market.now }
     ensures first { (a : Activation) → IsOptimal market.now a → gate_word_of market.now a ≡ all_closed market.now → IsFirst market.now a }
-    ensures none_open { (a b : Activation) → IsFirst market.now a → IsAdmissible market.now b → gate_word_of market.now b ≡ all_closed market.now → welfare_of market.now b ≡ welfare_of market.now a → gate_word_of market.now a ≡ all_closed market.now }
+    ensures none_open { (a b : Activation) → IsFirst market.now a → IsAdmissible market.now b → gate_word_of market.now b ≡ all_closed market.now
+        → welfare_of market.now b ≡ welfare_of market.now a → gate_word_of market.now a ≡ all_closed market.now }
 {}
 
 /// What welfare isn't negative, and that the closed welfare is one number.

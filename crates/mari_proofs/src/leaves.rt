@@ -100,7 +100,8 @@ pub fn check_leaf(market: &Market, prefix: &Prefix, leaf: &Leaf, cutoff: Quarter
     ensures holds { IsTrue result ↔ LeafHolds market.now cutoff.0 (word_of prefix.now) leaf.now }
 
     // No admissible activation whose gates begin as the prefix says is better than the cutoff.
-    ensures bounds { IsTrue result → (a : Activation) → IsAdmissible market.now a → take prefix.now.length (gate_word_of market.now a) ≡ word_of prefix.now → welfare_of market.now a ≤ℤ cutoff.0 }
+    ensures bounds { IsTrue result → (a : Activation) → IsAdmissible market.now a → take prefix.now.length (gate_word_of market.now a) ≡ word_of prefix.now
+        → welfare_of market.now a ≤ℤ cutoff.0 }
     ensures excludes { IsTrue result → ExcludesWord market.now (word_of prefix.now) leaf.now }
     ensures rises { IsTrue result → (w : ℤ) → cutoff.0 ≤ℤ w → LeafHolds market.now w (word_of prefix.now) leaf.now }
 {

@@ -122,8 +122,10 @@ pub fn check_tree(
 
     // Gate words that come before the word have less welfare, so an activation of the word which reaches the cutoff is
     // the first.
-    ensures earlier { result ≡ TreeVerdict.Holds → (a : Activation) → IsAdmissible market.now a → ComesBefore (gate_word_of market.now a) (word_of word.now) → welfare_of market.now a ≤ℤ (cutoff.0 -ℤ pos 1) }
-    ensures first { result ≡ TreeVerdict.Holds → (a : Activation) → IsAdmissible market.now a → welfare_of market.now a ≡ cutoff.0 → gate_word_of market.now a ≡ word_of word.now → IsFirst market.now a }
+    ensures earlier { result ≡ TreeVerdict.Holds → (a : Activation) → IsAdmissible market.now a → ComesBefore (gate_word_of market.now a) (word_of word.now)
+        → welfare_of market.now a ≤ℤ (cutoff.0 -ℤ pos 1) }
+    ensures first { result ≡ TreeVerdict.Holds → (a : Activation)
+        → IsAdmissible market.now a → welfare_of market.now a ≡ cutoff.0 → gate_word_of market.now a ≡ word_of word.now → IsFirst market.now a }
 {
     walk(market, None, tree, cutoff, word)
 }
@@ -149,8 +151,10 @@ pub fn check_tree_by(
 
     // Gate words that come before the word have less welfare, so an activation of the word which reaches the cutoff is
     // the first.
-    ensures earlier { result ≡ TreeVerdict.Holds → (a : Activation) → IsAdmissible market.now a → ComesBefore (gate_word_of market.now a) (word_of word.now) → welfare_of market.now a ≤ℤ (cutoff.0 -ℤ pos 1) }
-    ensures first { result ≡ TreeVerdict.Holds → (a : Activation) → IsAdmissible market.now a → welfare_of market.now a ≡ cutoff.0 → gate_word_of market.now a ≡ word_of word.now → IsFirst market.now a }
+    ensures earlier { result ≡ TreeVerdict.Holds → (a : Activation) → IsAdmissible market.now a → ComesBefore (gate_word_of market.now a) (word_of word.now)
+        → welfare_of market.now a ≤ℤ (cutoff.0 -ℤ pos 1) }
+    ensures first { result ≡ TreeVerdict.Holds → (a : Activation)
+        → IsAdmissible market.now a → welfare_of market.now a ≡ cutoff.0 → gate_word_of market.now a ≡ word_of word.now → IsFirst market.now a }
 {
     walk(market, Some(table), tree, cutoff, word)
 }

@@ -29,7 +29,8 @@ abbrev pub state : Kept → ℕ → Ahead → List ℕ → ComeState
 state k n a unread = record { kept = k; lines = n; ahead = a; unread = unread }
 
 -- in a block that has a zone, room for a bid, and no demand
-may_follow : (k : Kept) (b : Listing) (x : BidLine) → 0 < length b.zones → b.demands ≡ [] → length b.bids < MOST_BIDS → after k (held.Listing b) (line.Bid x) ≡ Some (kept_with k (held.Listing (with_bids b (b.bids ++ x ∷ []))), None)
+may_follow : (k : Kept) (b : Listing) (x : BidLine) → 0 < length b.zones → b.demands ≡ [] → length b.bids < MOST_BIDS
+    → after k (held.Listing b) (line.Bid x) ≡ Some (kept_with k (held.Listing (with_bids b (b.bids ++ x ∷ []))), None)
 may_follow k b x zone none room =
     let zones : ltb 0 (length b.zones) ≡ true = lt-ltb 0 (length b.zones) zone in
     let demands : is_empty b.demands ≡ true = ap is_empty none in
@@ -38,7 +39,8 @@ may_follow k b x zone none room =
 
 -- the first of the bids is taken
 first_taken : (k : Kept) (b : Listing) (x : BidLine) (n : ℕ) (following : List ℕ) → InRange (line.Bid x) → 0 < length b.zones → b.demands ≡ [] → length b.bids < MOST_BIDS
-    → IsTaken (state (kept_with k (held.Listing b)) n mark.Whole (line_text (line.Bid x) ++ following)) (state (kept_with k (held.Listing (with_bids b (b.bids ++ x ∷ [])))) (n + 1) mark.Whole following) None
+    → IsTaken (state (kept_with k (held.Listing b)) n mark.Whole (line_text (line.Bid x) ++ following))
+    (state (kept_with k (held.Listing (with_bids b (b.bids ++ x ∷ [])))) (n + 1) mark.Whole following) None
 first_taken k b x n following range zone none room = record {
   here = spelling (line.Bid x);
   following = following;

@@ -87,7 +87,8 @@ line_more text left n a =
       before = a.before;
       here = a.here;
       after = a.after ++ left;
-      parts = ap (λ (t : List ℕ). t ++ left) a.parts ∙ append_assoc (text_of_lines a.before) (a.here ++ 10 ∷ a.after) left ∙ ap (λ (t : List ℕ). text_of_lines a.before ++ t) (append_assoc a.here (10 ∷ a.after) left);
+      parts = ap (λ (t : List ℕ). t ++ left) a.parts
+          ∙ append_assoc (text_of_lines a.before) (a.here ++ 10 ∷ a.after) left ∙ ap (λ (t : List ℕ). text_of_lines a.before ++ t) (append_assoc a.here (10 ∷ a.after) left);
       whole = a.whole;
       begins = a.begins;
       number = a.number;
@@ -101,7 +102,8 @@ order_more text left n a =
       before = a.before;
       here = a.here;
       after = a.after ++ left;
-      parts = ap (λ (t : List ℕ). t ++ left) a.parts ∙ append_assoc (text_of_lines a.before) (line_text a.here ++ a.after) left ∙ ap (λ (t : List ℕ). text_of_lines a.before ++ t) (append_assoc (line_text a.here) a.after left);
+      parts = ap (λ (t : List ℕ). t ++ left) a.parts
+          ∙ append_assoc (text_of_lines a.before) (line_text a.here ++ a.after) left ∙ ap (λ (t : List ℕ). text_of_lines a.before ++ t) (append_assoc (line_text a.here) a.after left);
       begins = a.begins;
       number = a.number;
       in_range = a.in_range;

@@ -120,8 +120,11 @@ full_in_range b f =
     let market = all_join InRange (map line.Zone b.zones) _ (to_map line.Zone b.zones f.zones.1) (all_join InRange (map line.Border b.borders) _ (to_map line.Border b.borders f.borders.1)
     (all_join InRange (map line.Bid b.bids) (demand_lines 1 b.demands) (to_map line.Bid b.bids f.bids.1) (to_demands 1 b.demands (omega arith) (omega (arith, few)) f.demands.1))) in
     let run : Between 1 1000 b.heading.run = f.heading.0 in
-    let ending = all_join InRange (map line.Operator b.operators) _ (to_map line.Operator b.operators f.operators.1) (all_join InRange (map line.Provider b.providers) (line.End b.heading.run ∷ []) (to_map line.Provider b.providers f.providers.1) (run, tt)) in
-    (f.heading, (f.welfare, all_join InRange (market_lines b) (tree_lines b.tree ++ ending_lines b) market (all_join InRange (tree_lines b.tree) (ending_lines b) (f.tree.0, to_items b.tree f.tree.1) ending)))
+    let ending = all_join InRange (map line.Operator b.operators) _ (to_map line.Operator b.operators f.operators.1)
+    (all_join InRange (map line.Provider b.providers) (line.End b.heading.run ∷ []) (to_map line.Provider b.providers f.providers.1) (run, tt)) in (
+      f.heading,
+      (f.welfare, all_join InRange (market_lines b) (tree_lines b.tree ++ ending_lines b) market (all_join InRange (tree_lines b.tree) (ending_lines b) (f.tree.0, to_items b.tree f.tree.1) ending)),
+    )
 
 block_in_range : (b : Block) → BlockFits b → Fit (block_lines b)
 block_in_range (block.Published b) f = full_in_range b f
@@ -190,7 +193,8 @@ block_few (block.Published b) f =
     let p : length (map line.Provider b.providers) ≤ 4096 = let n = length-map b.providers line.Provider in omega (arith, n, fp) in
     let market = two _ _ 64 (256 + (4096 + 512)) z (two _ _ 256 (4096 + 512) x (two _ _ 4096 512 d m)) in
     let ending : length (ending_lines b) ≤ 64 + (4096 + 1) = two _ _ 64 (4096 + 1) o (two _ (line.End b.heading.run ∷ []) 4096 1 p (omega arith)) in
-    let following = two (market_lines b) (tree_lines b.tree ++ ending_lines b) (64 + (256 + (4096 + 512))) ((1 + 200000) + (64 + (4096 + 1))) market (two (tree_lines b.tree) (ending_lines b) (1 + 200000) (64 + (4096 + 1)) t ending) in
+    let following = two (market_lines b) (tree_lines b.tree ++ ending_lines b) (64 + (256 + (4096 + 512))) ((1 + 200000) + (64 + (4096 + 1))) market
+    (two (tree_lines b.tree) (ending_lines b) (1 + 200000) (64 + (4096 + 1)) t ending) in
     omega (arith, following)
 
 blocks_few : (bs : List Block) → All BlockFits bs → length (flat_map block_lines bs) ≤ most_block * length bs
@@ -210,5 +214,6 @@ lines_few p h =
     let b : length (flat_map block_lines p.blocks) ≤ 300000000 = let m = blocks_few p.blocks h.blocks in omega (arith, m, runs) in
     let o : length (map line.TotalOperator p.operators) ≤ 64 = let n = length-map p.operators line.TotalOperator in omega (arith, n, fo) in
     let q : length (map line.TotalProvider p.providers) ≤ 1638400 = let n = length-map p.providers line.TotalProvider in omega (arith, n, fp) in
-    let all = two (flat_map block_lines p.blocks) (closing_lines p) 300000000 (64 + (1638400 + 1)) b (two (map line.TotalOperator p.operators) _ 64 (1638400 + 1) o (two (map line.TotalProvider p.providers) done 1638400 1 q (omega arith))) in
+    let all = two (flat_map block_lines p.blocks) (closing_lines p) 300000000 (64 + (1638400 + 1)) b
+    (two (map line.TotalOperator p.operators) _ 64 (1638400 + 1) o (two (map line.TotalProvider p.providers) done 1638400 1 q (omega arith))) in
     omega (arith, all)

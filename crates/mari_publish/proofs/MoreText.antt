@@ -77,7 +77,8 @@ line_stays text piece n a = record {
   before = a.before;
   here = a.here;
   after = a.after ++ piece;
-  parts = ap (λ (xs : List ℕ). xs ++ piece) a.parts ∙ append_assoc (text_of_lines a.before) (a.here ++ 10 ∷ a.after) piece ∙ ap (λ (xs : List ℕ). text_of_lines a.before ++ xs) (append_assoc a.here (10 ∷ a.after) piece);
+  parts = ap (λ (xs : List ℕ). xs ++ piece) a.parts
+      ∙ append_assoc (text_of_lines a.before) (a.here ++ 10 ∷ a.after) piece ∙ ap (λ (xs : List ℕ). text_of_lines a.before ++ xs) (append_assoc a.here (10 ∷ a.after) piece);
   whole = a.whole;
   begins = a.begins;
   number = a.number;
@@ -89,7 +90,8 @@ order_stays text piece n a = record {
   before = a.before;
   here = a.here;
   after = a.after ++ piece;
-  parts = ap (λ (xs : List ℕ). xs ++ piece) a.parts ∙ append_assoc (text_of_lines a.before) (line_text a.here ++ a.after) piece ∙ ap (λ (xs : List ℕ). text_of_lines a.before ++ xs) (append_assoc (line_text a.here) a.after piece);
+  parts = ap (λ (xs : List ℕ). xs ++ piece) a.parts
+      ∙ append_assoc (text_of_lines a.before) (line_text a.here ++ a.after) piece ∙ ap (λ (xs : List ℕ). text_of_lines a.before ++ xs) (append_assoc (line_text a.here) a.after piece);
   begins = a.begins;
   number = a.number;
   in_range = a.in_range;

@@ -80,7 +80,8 @@ has_room bytes rest n p k a = room_kept a.before p k a.stands
 -- one line more
 pub more_text : (before : List Line) (l : Line) (here after : List ℕ) → spelling l ≡ here → text_of_lines before ++ (here ++ 10 ∷ after) ≡ text_of_lines (before ++ l ∷ []) ++ after
 more_text before l here after e =
-    let one : text_of_lines (before ++ l ∷ []) ≡ text_of_lines before ++ (here ++ 10 ∷ []) = flat_map-append line_text before (l ∷ []) ∙ ap (λ (xs : List ℕ). text_of_lines before ++ xs) (append-nil (spelling l ++ 10 ∷ []) ∙ ap (λ (xs : List ℕ). xs ++ 10 ∷ []) e) in
+    let one : text_of_lines (before ++ l ∷ []) ≡ text_of_lines before ++ (here ++ 10 ∷ []) =
+    flat_map-append line_text before (l ∷ []) ∙ ap (λ (xs : List ℕ). text_of_lines before ++ xs) (append-nil (spelling l ++ 10 ∷ []) ∙ ap (λ (xs : List ℕ). xs ++ 10 ∷ []) e) in
     sym (ap (λ (xs : List ℕ). xs ++ after) one ∙ append_assoc (text_of_lines before) (here ++ 10 ∷ []) after ∙ ap (λ (xs : List ℕ). text_of_lines before ++ xs) (append_assoc here (10 ∷ []) after))
 
 pub shorter : (rest here after : List ℕ) → rest ≡ here ++ 10 ∷ after → length after < length rest

@@ -128,9 +128,21 @@ listing_step p b (line.Zone z) h fits e =
     let room : length b.zones < 64 = ltb-true _ _ s1.1 in
     let len = length_push b.zones z in
     let f = fits.1 in
-    let new : HeldFits p made = (fits.0, record { zones = omega (arith, len, room); borders = f.borders; bids = f.bids; border_later = λ _. omega (arith, len); bid_later = λ _. omega (arith, len); demand_later = λ _. omega (arith, len) }) in
-    subst (λ x. Moves p (held.Listing b) (line.Zone z) x) t.1
-    (one_more (front_lines p) _ (listing_lines b) (line.Zone z) (zone_more b.heading b.welfare b.zones z b.borders b.bids b.demands (none b.borders s3.0) (none b.bids s3.1) (none b.demands s2.1)), new)
+    let new : HeldFits p made = (
+      fits.0,
+      record {
+        zones = omega (arith, len, room);
+        borders = f.borders;
+        bids = f.bids;
+        border_later = λ _. omega (arith, len);
+        bid_later = λ _. omega (arith, len);
+        demand_later = λ _. omega (arith, len);
+      },
+    ) in
+    subst (λ x. Moves p (held.Listing b) (line.Zone z) x) t.1 (
+      one_more (front_lines p) _ (listing_lines b) (line.Zone z) (zone_more b.heading b.welfare b.zones z b.borders b.bids b.demands (none b.borders s3.0) (none b.bids s3.1) (none b.demands s2.1)),
+      new,
+    )
 listing_step p b (line.Border x) h fits e =
     let made = held.Listing (record { heading = b.heading; welfare = b.welfare; zones = b.zones; borders = b.borders ++ x ∷ []; bids = b.bids; demands = b.demands }) in
     let t = cond_some (ltb 0 (length b.zones) && is_empty b.bids && is_empty b.demands && ltb (length b.borders) 256) made h e in
@@ -176,7 +188,8 @@ listing_step p b _ h fits e = absurd cc
 more_items : (xs : List Line) (t : Line) (is : List TreeItem) (i : TreeItem) (ps : List Line) (l : Line) → item_lines i ≡ ps ++ l ∷ []
     → xs ++ t ∷ (flat_map item_lines (is ++ i ∷ []) ++ []) ≡ (xs ++ t ∷ (flat_map item_lines is ++ ps)) ++ l ∷ []
 more_items xs t is i ps l e =
-    let m : flat_map item_lines (is ++ i ∷ []) ≡ flat_map item_lines is ++ (ps ++ l ∷ []) = flat_map-append item_lines is (i ∷ []) ∙ ap (λ (x : List Line). flat_map item_lines is ++ x) (append-nil (item_lines i) ∙ e) in
+    let m : flat_map item_lines (is ++ i ∷ []) ≡ flat_map item_lines is ++ (ps ++ l ∷ []) =
+    flat_map-append item_lines is (i ∷ []) ∙ ap (λ (x : List Line). flat_map item_lines is ++ x) (append-nil (item_lines i) ∙ e) in
     one_more xs _ (t ∷ (flat_map item_lines is ++ ps)) l
     (ap (λ (ys : List Line). t ∷ ys) (append-nil (flat_map item_lines (is ++ i ∷ [])) ∙ m ∙ sym (append_assoc (flat_map item_lines is) ps (l ∷ []))))
 
@@ -251,9 +264,11 @@ ending_step p n (line.Operator o) h fits e =
     let s = and_parts (is_empty n.providers) (ltb (length n.operators) 64) t.0 in
     let room : length n.operators < 64 = ltb-true _ _ s.1 in
     let len = length_push n.operators o in
-    let lines : (ps : List AmountLine) → ps ≡ [] → listing_lines n.listing ++ line.Tree (length n.tree) ∷ (flat_map item_lines n.tree ++ (map line.Operator (n.operators ++ o ∷ []) ++ map line.Provider ps))
+    let lines : (ps : List AmountLine) → ps ≡ []
+    → listing_lines n.listing ++ line.Tree (length n.tree) ∷ (flat_map item_lines n.tree ++ (map line.Operator (n.operators ++ o ∷ []) ++ map line.Provider ps))
     ≡ (listing_lines n.listing ++ line.Tree (length n.tree) ∷ (flat_map item_lines n.tree ++ (map line.Operator n.operators ++ map line.Provider ps))) ++ line.Operator o ∷ []
-    = λ ps none. subst (λ (qs : List AmountLine). listing_lines n.listing ++ line.Tree (length n.tree) ∷ (flat_map item_lines n.tree ++ (map line.Operator (n.operators ++ o ∷ []) ++ map line.Provider qs))
+    = λ ps none. subst
+    (λ (qs : List AmountLine). listing_lines n.listing ++ line.Tree (length n.tree) ∷ (flat_map item_lines n.tree ++ (map line.Operator (n.operators ++ o ∷ []) ++ map line.Provider qs))
     ≡ (listing_lines n.listing ++ line.Tree (length n.tree) ∷ (flat_map item_lines n.tree ++ (map line.Operator n.operators ++ map line.Provider qs))) ++ line.Operator o ∷ []) (sym none)
     (ap (λ (xs : List Line). listing_lines n.listing ++ line.Tree (length n.tree) ∷ (flat_map item_lines n.tree ++ xs)) (push_nil (λ x. line.Operator x) n.operators o)
     ∙ more_pending (listing_lines n.listing) (line.Tree (length n.tree)) (flat_map item_lines n.tree) (map line.Operator n.operators ++ []) (line.Operator o)) in
@@ -271,7 +286,8 @@ ending_step p n (line.Provider a) h fits e =
     let f = fits.1 in
     subst (λ x. Moves p (held.Ending n) (line.Provider a) x) t.1 (
       one_more (front_lines p) _ (ending_part n) (line.Provider a)
-          (ap (λ (xs : List Line). listing_lines n.listing ++ line.Tree (length n.tree) ∷ (flat_map item_lines n.tree ++ xs)) (one_more (map line.Operator n.operators) _ (map line.Provider n.providers) (line.Provider a) (map_push (λ x. line.Provider x) n.providers a))
+          (ap (λ (xs : List Line). listing_lines n.listing ++ line.Tree (length n.tree) ∷ (flat_map item_lines n.tree ++ xs))
+          (one_more (map line.Operator n.operators) _ (map line.Provider n.providers) (line.Provider a) (map_push (λ x. line.Provider x) n.providers a))
           ∙ more_pending (listing_lines n.listing) (line.Tree (length n.tree)) (flat_map item_lines n.tree) (map line.Operator n.operators ++ map line.Provider n.providers) (line.Provider a)),
       (fits.0, record { listing = f.listing; some = f.some; operators = f.operators; providers = omega (arith, len, room) }),
     )
@@ -285,7 +301,8 @@ totals_step p os ps (line.TotalOperator o) h fits e =
     let s = and_parts (is_empty ps) (ltb (length os) 64) t.0 in
     let room : length os < 64 = ltb-true _ _ s.1 in
     let len = length_push os o in
-    let lines : (qs : List AmountLine) → qs ≡ [] → map line.TotalOperator (os ++ o ∷ []) ++ map line.TotalProvider qs ≡ (map line.TotalOperator os ++ map line.TotalProvider qs) ++ line.TotalOperator o ∷ []
+    let lines : (qs : List AmountLine) → qs ≡ []
+    → map line.TotalOperator (os ++ o ∷ []) ++ map line.TotalProvider qs ≡ (map line.TotalOperator os ++ map line.TotalProvider qs) ++ line.TotalOperator o ∷ []
     = λ qs none.
     subst
     (λ (qs : List AmountLine). map line.TotalOperator (os ++ o ∷ []) ++ map line.TotalProvider qs ≡ (map line.TotalOperator os ++ map line.TotalProvider qs) ++ line.TotalOperator o ∷ [])
@@ -299,7 +316,8 @@ totals_step p os ps (line.TotalProvider a) h fits e =
     let room : length ps < 1638400 = ltb-true _ _ t.0 in
     let len = length_push ps a in
     subst (λ x. Moves p (held.Totals os ps) (line.TotalProvider a) x) t.1 (
-      one_more (front_lines p) _ (held_lines (held.Totals os ps)) (line.TotalProvider a) (one_more (map line.TotalOperator os) _ (map line.TotalProvider ps) (line.TotalProvider a) (map_push (λ x. line.TotalProvider x) ps a)),
+      one_more (front_lines p) _ (held_lines (held.Totals os ps)) (line.TotalProvider a)
+          (one_more (map line.TotalOperator os) _ (map line.TotalProvider ps) (line.TotalProvider a) (map_push (λ x. line.TotalProvider x) ps a)),
       (fits.0, omega (arith, len, room)),
     )
 totals_step p os ps _ h fits e = absurd cc

@@ -62,7 +62,8 @@ module _ (Took : List Part → Type 0) (text : List ℕ) (parts : List Part) (co
   took-all none = record { parts = parts; first = come_parts come text parts taken.stands; none = none; took = taken.took }
 
   -- the text has a fault
-  pub fault-reported : {X : Type 0} (Breaks : List Part → Part → X → Type 0) (reader : ReaderState) (f : TextFault) → IsNext text parts (Err f) → PartsReport Took Breaks text reader (Err (stop_of_text f))
+  pub fault-reported : {X : Type 0} (Breaks : List Part → Part → X → Type 0) (reader : ReaderState) (f : TextFault) → IsNext text parts (Err f)
+      → PartsReport Took Breaks text reader (Err (stop_of_text f))
   fault-reported Breaks reader (fault.BadLine n) h = (h.0, took-all h.1)
   fault-reported Breaks reader (fault.BadOrder n) h = (h.0, took-all h.1)
   fault-reported Breaks reader (fault.Truncated n) h = absurd h
@@ -82,9 +83,6 @@ pub record TakesSome (Took : List Part → Type 0) (reader : ReaderState) (text 
   pub parts : List Part
   pub taken : HasTaken Took text parts reader.come
   pub none : NoPart text parts
-
-pub takes-none : (Took : List Part → Type 0) (reader : ReaderState) → ComesFrom reader.come [] [] → Took [] → TakesSome Took reader []
-takes-none Took reader stands took = record { parts = []; taken = record { stands = stands; took = took }; none = nothing-held }
 
 module _ (Took : List Part → Type 0) (page rest : Option (List ℕ)) (given : ℕ) (old : ReaderState) (u : Under (TakesSome Took old) page rest given) where
   pub some-taken : TookFirst Took u.text
@@ -129,12 +127,14 @@ module _ (Took : List Part → Type 0) (page rest : Option (List ℕ)) (given : 
         )
         parts-stop (OfPart stop) h =
             let front = given-front (u.text ++ piece) more (with-piece _ _ _ _ u piece n many within is_piece) in
-            let own : BrokeAt Breaks (take most_given ((u.text ++ piece) ++ more)) stop = subst (λ (xs : List ℕ). BrokeAt Breaks xs stop) front.1 (broke-stays Breaks (u.text ++ piece) front.0 stop h) in
+            let own : BrokeAt Breaks (take most_given ((u.text ++ piece) ++ more)) stop =
+            subst (λ (xs : List ℕ). BrokeAt Breaks xs stop) front.1 (broke-stays Breaks (u.text ++ piece) front.0 stop h) in
             subst (λ (xs : List ℕ). BrokeAt Breaks (take most_given xs) stop) same own
         parts-stop NoMemory h = subst (TookFirst Now) same (first-stays Now (u.text ++ piece) more h)
 
         -- and nothing more is read
-        module _ {S : Type 0} (rest_of : S → Option (List ℕ)) (calls : S → ℕ) (before after : S) (begun : rest_of before ≡ rest) (left_is : rest_of after ≡ option_map (λ l. drop n l) rest) (call : calls after ≡ counted (calls before)) (few : n ≤ MOST_PIECE) where
+        module _ {S : Type 0} (rest_of : S → Option (List ℕ)) (calls : S → ℕ) (before after : S) (begun : rest_of before ≡ rest) (left_is : rest_of after ≡ option_map (λ l. drop n l) rest)
+            (call : calls after ≡ counted (calls before)) (few : n ≤ MOST_PIECE) where
           line-stops : (f : TextFault) → IsLineFault (u.text ++ piece) f → StopsAtFault rest_of calls whole f after
           line-stops f h =
               let left : (left : List ℕ) × (rest ≡ Some left) × (u.text ++ left ≡ whole) = u.reported whole is in

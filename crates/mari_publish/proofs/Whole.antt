@@ -129,7 +129,8 @@ between_step ls p k (line.Unpublished h count) x s e =
     let new : Kept = record { held = held.Between; counts = one_unpublished k.counts } in
     let t = cond_some (ltb (k.counts.published + k.counts.unpublished) 1000) (new, Some (part.Block (block.Unpublished h count))) x e in
     subst (λ y. Next ls p (line.Unpublished h count) y) t.1
-    (block_next ls p k new held.Between (line.Unpublished h count) (block.Unpublished h count) s tt (room_of ls p k held.Between s t.0) (sym (first (front_lines p) (line.Unpublished h count))) (omega arith) refl)
+    (block_next ls p k new held.Between (line.Unpublished h count) (block.Unpublished h count) s tt (room_of ls p k held.Between s t.0)
+    (sym (first (front_lines p) (line.Unpublished h count))) (omega arith) refl)
 between_step ls p k (line.TotalOperator t) x s e =
     subst (λ y. Next ls p (line.TotalOperator t) y) (some_is (kept_with k (held.Totals (t ∷ []) []), None) x e)
     (moved ls p k held.Between (held.Totals (t ∷ []) []) (line.TotalOperator t) s (first (front_lines p) (line.TotalOperator t), ((omega arith, omega arith), omega arith)))
@@ -142,7 +143,8 @@ end_step ls p k g run x s e =
     let t = cond_some (eqb run g.listing.heading.run) (new, Some (part.Block (full_block g))) x e in
     let same_run : run ≡ g.listing.heading.run = eqb-true _ _ t.0 in
     let b = g.listing in
-    let goal1 = ended (front_lines p) (map line.Zone b.zones ++ (map line.Border b.borders ++ (map line.Bid b.bids ++ demand_lines 1 b.demands))) (flat_map item_lines g.tree) (map line.Operator g.operators) (map line.Provider g.providers)
+    let goal1 = ended (front_lines p) (map line.Zone b.zones ++ (map line.Border b.borders ++ (map line.Bid b.bids ++ demand_lines 1 b.demands))) (flat_map item_lines g.tree)
+    (map line.Operator g.operators) (map line.Provider g.providers)
     (line.Run b.heading) (line.Welfare b.welfare) (line.Tree (length g.tree)) (line.End b.heading.run) in
     let goal2 = subst (λ n. (front_lines p ++ ending_part g) ++ line.End n ∷ [] ≡ front_lines p ++ block_lines (full_block g)) (sym same_run) goal1 in
     let f = s.fits.1 in
@@ -155,7 +157,14 @@ one_more_line : (F : List Line) (a b : Line) → F ++ (a ∷ b ∷ []) ≡ (F ++
 one_more_line F a b = sym (append_assoc F (a ∷ []) (b ∷ []))
 
 no_lists : (h : _) (w : ℕ) → ListingFits (record { heading = h; welfare = w; zones = []; borders = []; bids = []; demands = [] })
-no_lists h w = record { zones = omega arith; borders = omega arith; bids = omega arith; border_later = λ no. absurd (omega arith); bid_later = λ no. absurd (omega arith); demand_later = λ no. absurd (omega arith) }
+no_lists h w = record {
+  zones = omega arith;
+  borders = omega arith;
+  bids = omega arith;
+  border_later = λ no. absurd (omega arith);
+  bid_later = λ no. absurd (omega arith);
+  demand_later = λ no. absurd (omega arith);
+}
 
 -- a line that may follow is the next line of what has come
 pub next : (ls : List Line) (p : Publication) (k : Kept) (h : Held) (l : Line) (x : Kept × Option Part) → Stands ls p k h → after k h l ≡ Some x → Next ls p l x

@@ -18,7 +18,14 @@ use Rattle.mari_lines.specs.Spelling.{spelling}
 
 -- what has been gathered, as a publication
 abbrev pub seen : Gathered → Publication
-seen g = record { date = unwrap_or g.date []; quarters = g.quarters; budget = g.budget; blocks = g.blocks.items; operators = g.operators; providers = g.providers }
+seen g = record {
+  date = unwrap_or g.date [];
+  quarters = g.quarters;
+  budget = g.budget;
+  blocks = g.blocks.items;
+  operators = g.operators;
+  providers = g.providers;
+}
 
 -- a line was taken, with the part that is whole with it; or there was none, and nothing changed
 abbrev pub Took : Kept → List ℕ → Kept → Result (Option Part) TakeFault → Type 0

@@ -45,7 +45,8 @@ growing_lines g = listing_lines g.listing ++ line.Tree g.count ∷ (flat_map ite
 
 -- of a block after its tree
 abbrev pub ending_part : Ending → List Line
-ending_part e = listing_lines e.listing ++ line.Tree (length e.tree) ∷ (flat_map item_lines e.tree ++ (map line.Operator e.operators ++ map line.Provider e.providers))
+ending_part e =
+    listing_lines e.listing ++ line.Tree (length e.tree) ∷ (flat_map item_lines e.tree ++ (map line.Operator e.operators ++ map line.Provider e.providers))
 
 -- the lines of what is held
 abbrev pub held_lines : Held → List Line
@@ -80,25 +81,58 @@ is_empty xs = length xs == 0
 -- in a block before its tree: zones, borders, bids, demands, and then the tree
 abbrev pub after_listing : Listing → Line → Option Held
 after_listing b (line.Zone z) = if is_empty b.borders && is_empty b.bids && is_empty b.demands && nat_lt (length b.zones) MOST_ZONES
-    then Some (held.Listing (record { heading = b.heading; welfare = b.welfare; zones = b.zones ++ z ∷ []; borders = b.borders; bids = b.bids; demands = b.demands })) else None
+    then Some (held.Listing (record {
+      heading = b.heading;
+      welfare = b.welfare;
+      zones = b.zones ++ z ∷ [];
+      borders = b.borders;
+      bids = b.bids;
+      demands = b.demands;
+    })) else None
 after_listing b (line.Border x) = if nat_lt 0 (length b.zones) && is_empty b.bids && is_empty b.demands && nat_lt (length b.borders) MOST_BORDERS
-    then Some (held.Listing (record { heading = b.heading; welfare = b.welfare; zones = b.zones; borders = b.borders ++ x ∷ []; bids = b.bids; demands = b.demands })) else None
+    then Some (held.Listing (record {
+      heading = b.heading;
+      welfare = b.welfare;
+      zones = b.zones;
+      borders = b.borders ++ x ∷ [];
+      bids = b.bids;
+      demands = b.demands;
+    })) else None
 after_listing b (line.Bid x) = if nat_lt 0 (length b.zones) && is_empty b.demands && nat_lt (length b.bids) MOST_BIDS
-    then Some (held.Listing (record { heading = b.heading; welfare = b.welfare; zones = b.zones; borders = b.borders; bids = b.bids ++ x ∷ []; demands = b.demands })) else None
+    then Some (held.Listing (record {
+      heading = b.heading;
+      welfare = b.welfare;
+      zones = b.zones;
+      borders = b.borders;
+      bids = b.bids ++ x ∷ [];
+      demands = b.demands;
+    })) else None
 after_listing b (line.Demand place mw) = if nat_lt 0 (length b.zones) && place == length b.demands + 1
-    then Some (held.Listing (record { heading = b.heading; welfare = b.welfare; zones = b.zones; borders = b.borders; bids = b.bids; demands = b.demands ++ mw ∷ [] })) else None
+    then Some (held.Listing (record {
+      heading = b.heading;
+      welfare = b.welfare;
+      zones = b.zones;
+      borders = b.borders;
+      bids = b.bids;
+      demands = b.demands ++ mw ∷ [];
+    })) else None
 after_listing b (line.Tree n) = if nat_lt 0 (length b.zones)
     then Some (held.Growing (record { listing = b; count = n; tree = []; pending = Nothing })) else None
 after_listing b _ = None
 
 -- the item of a conflict's four lines
 abbrev pub conflict_item : List ℕ → List Cents → List ℤ → List ℕ → TreeItem
-conflict_item zones prices flows mws = items.Leaf (leaves.Conflict (record { chain = zones; potentials = record { cents = prices }; activation = record { mw = mws; flow = flows } }))
+conflict_item zones prices flows mws = items.Leaf (leaves.Conflict (record {
+  chain = zones;
+  potentials = record { cents = prices };
+  activation = record { mw = mws; flow = flows };
+}))
 
 -- in a tree: an item where one is due, and after the last one an operator
 abbrev pub after_growing : Growing → Pending → Line → Option Held
 after_growing g Nothing line.Branch = if nat_lt (length g.tree) g.count then Some (with_item g items.Branch) else None
-after_growing g Nothing (line.Bound prices) = if nat_lt (length g.tree) g.count then Some (with_item g (items.Leaf (leaves.Bound (record { cents = prices })))) else None
+after_growing g Nothing (line.Bound prices) =
+    if nat_lt (length g.tree) g.count then Some (with_item g (items.Leaf (leaves.Bound (record { cents = prices })))) else None
 after_growing g Nothing (line.Cut cut) = if nat_lt (length g.tree) g.count then Some (with_item g (items.Leaf (leaves.Cut cut))) else None
 after_growing g Nothing (line.Conflict zones) = if nat_lt (length g.tree) g.count then Some (with_pending g (Zones zones)) else None
 after_growing g Nothing (line.Operator o) = if length g.tree == g.count
@@ -177,7 +211,14 @@ after k _ _ = None
 abbrev pub grown : Publication → Option Part → Publication
 grown p None = p
 grown p (Some (part.Head date quarters budget)) = record { date = date; quarters = quarters; budget = budget; blocks = []; operators = []; providers = [] }
-grown p (Some (part.Block b)) = record { date = p.date; quarters = p.quarters; budget = p.budget; blocks = p.blocks ++ b ∷ []; operators = p.operators; providers = p.providers }
+grown p (Some (part.Block b)) = record {
+  date = p.date;
+  quarters = p.quarters;
+  budget = p.budget;
+  blocks = p.blocks ++ b ∷ [];
+  operators = p.operators;
+  providers = p.providers;
+}
 grown p (Some (part.Totals os ps)) = record { date = p.date; quarters = p.quarters; budget = p.budget; blocks = p.blocks; operators = os; providers = ps }
 
 -- the lines of the parts so far, and of what is held

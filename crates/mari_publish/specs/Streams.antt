@@ -73,7 +73,8 @@ StopStates Took Breaks page (OfPart stop) = BrokeAt Breaks (take most_given page
 StopStates Took Breaks page NoMemory = TookFirst Took page
 
 -- what is said of the page of a name, where pages are reported
-abbrev pub ReadStates : {X : Type 0} → (Took : List Part → Type 0) → (Breaks : List Part → Part → X → Type 0) → Option (List ℕ) → Result (Unit {0}) (ReadStop X) → Type 0
+abbrev pub ReadStates : {X : Type 0}
+    → (Took : List Part → Type 0) → (Breaks : List Part → Part → X → Type 0) → Option (List ℕ) → Result (Unit {0}) (ReadStop X) → Type 0
 ReadStates Took Breaks None (Ok done) = ⊥
 ReadStates Took Breaks None (Err why) = MissStates Took why
 ReadStates Took Breaks (Some page) (Ok done) = (length page ≤ most_given) × TookPublication Took page
@@ -205,7 +206,8 @@ pub record AllTaken (Took : List Part → Type 0) (text : List ℕ) (reader : Re
   pub no_fault : NoFault text
 
 -- how far the text that has come is taken
-abbrev pub PartsReport : {X : Type 0} → (Took : List Part → Type 0) → (Breaks : List Part → Part → X → Type 0) → List ℕ → ReaderState → Result (Unit {0}) (ReadStop X) → Type 0
+abbrev pub PartsReport : {X : Type 0}
+    → (Took : List Part → Type 0) → (Breaks : List Part → Part → X → Type 0) → List ℕ → ReaderState → Result (Unit {0}) (ReadStop X) → Type 0
 PartsReport Took Breaks text reader (Ok done) = AllTaken Took text reader
 PartsReport Took Breaks text reader (Err (Unopened f)) = ⊥
 PartsReport Took Breaks text reader (Err (OfFetch f)) = ⊥
@@ -214,10 +216,12 @@ PartsReport Took Breaks text reader (Err (OfPart stop)) = BrokeAt Breaks text st
 PartsReport Took Breaks text reader (Err NoMemory) = TookFirst Took text
 
 -- how far a page is taken that is read to its end, or as far as could be; and on any shelf
-abbrev pub PiecesReport : {X : Type 0} → (Took : List Part → Type 0) → (Breaks : List Part → Part → X → Type 0) → List ℕ → ReaderState → Result (Unit {0}) (ReadStop X) → Type 0
+abbrev pub PiecesReport : {X : Type 0}
+    → (Took : List Part → Type 0) → (Breaks : List Part → Part → X → Type 0) → List ℕ → ReaderState → Result (Unit {0}) (ReadStop X) → Type 0
 PiecesReport Took Breaks page reader (Ok done) = (length page ≤ most_given) × AllTaken Took page reader
 PiecesReport Took Breaks page reader (Err why) = StopStates Took Breaks page why
 
-abbrev pub SomePieces : {X : Type 0} → (Took : List Part → Type 0) → (Breaks : List Part → Part → X → Type 0) → ReaderState → Result (Unit {0}) (ReadStop X) → Type 0
+abbrev pub SomePieces : {X : Type 0}
+    → (Took : List Part → Type 0) → (Breaks : List Part → Part → X → Type 0) → ReaderState → Result (Unit {0}) (ReadStop X) → Type 0
 SomePieces Took Breaks reader (Ok done) = (text : List ℕ) × AllTaken Took text reader
 SomePieces Took Breaks reader (Err why) = SomeStates Took Breaks (Err why)

@@ -106,7 +106,8 @@ pub fn next_part(alloc: Global, coming: &mut Coming) -> Result<Option<Part>, Tex
     requires reader { IsCome (come_of coming.old) }
     ensures handled { coming.new.handled ≤ vec_len coming.new.bytes }
     ensures next { (text : List ℕ) (parts : List PartValue) → ComesFrom (come_of coming.old) text parts → IsNext text parts result }
-    ensures stands { (text : List ℕ) (parts : List PartValue) → ComesFrom (come_of coming.old) text parts → ComesFrom (come_of coming.new) text (with_answer parts result) }
+    ensures stands { (text : List ℕ) (parts : List PartValue) → ComesFrom (come_of coming.old) text parts
+        → ComesFrom (come_of coming.new) text (with_answer parts result) }
     ensures no_line { result ≡ Ok None → HasNoLine (come_of coming.new) }
 {
     'lines: loop {
@@ -146,7 +147,8 @@ pub fn forget(coming: &mut Coming)
 pub fn append(coming: &mut Coming, piece: &[u8]) -> Result<(), Memory>
     requires handled { coming.old.handled ≤ vec_len coming.old.bytes }
     ensures handled { coming.new.handled ≤ vec_len coming.new.bytes }
-    ensures appended { (text : List ℕ) (parts : List PartValue) → ComesFrom (come_of coming.old) text parts → OnOk result (ComesFrom (come_of coming.new) (text ++ piece.now) parts) }
+    ensures appended { (text : List ℕ) (parts : List PartValue) → ComesFrom (come_of coming.old) text parts
+        → OnOk result (ComesFrom (come_of coming.new) (text ++ piece.now) parts) }
     ensures same { OnErr result (come_of coming.new ≡ come_of coming.old) }
     ensures held { OnErr result (vec_len coming.new.bytes ≡ vec_len coming.old.bytes) }
 {

@@ -29,11 +29,13 @@ pub fn lines_give()
         → after old old.held line ≡ Some (new, x) → Gives (lines ++ line ∷ []) (with_part parts x) new }
     ensures room { (lines : List AnyLine) (parts : List AnyPart) (kept : AnyKept) → Gives lines parts kept
         → HasRoom kept.held kept.counts × (kept.counts.published + kept.counts.unpublished ≤ MOST_RUNS) }
-    ensures few { (lines : List AnyLine) (parts : List AnyPart) (kept : AnyKept) → AllByRecursion InRange lines → Gives lines parts kept → length lines < 2 ^ 31 }
+    ensures few { (lines : List AnyLine) (parts : List AnyPart) (kept : AnyKept) → AllByRecursion InRange lines → Gives lines parts kept
+        → length lines < 2 ^ 31 }
     ensures block { (p : ThePublication) (published unpublished : ℕ) (b : AFullBlock) → FullFits b → published + unpublished < MOST_RUNS
         → after_all p (kept_at held.Between published unpublished) (full_lines b)
         ≡ Some (grown p (Some (part.Block (block.Published b))), kept_at held.Between (published + 1) unpublished) }
-    ensures closing { (p : ThePublication) (published unpublished : ℕ) (operators : List AMoneyLine) (providers : List AnAmountLine) → SumsFit operators providers
+    ensures closing { (p : ThePublication) (published unpublished : ℕ) (operators : List AMoneyLine) (providers : List AnAmountLine)
+        → SumsFit operators providers
         → after_all p (kept_at held.Between published unpublished) (closing_lines_by operators providers published unpublished)
         ≡ Some (grown p (Some (part.Totals operators providers)), kept_at held.Done published unpublished) }
 {}

@@ -35,7 +35,8 @@ impl Model for TextReader {
 
     ghost view = { λ r. record { come = come_of r.coming; waits = r.waits; bytes = vec_len r.coming.bytes } };
 
-    ghost invariant = { λ r. (r.coming.handled ≤ vec_len r.coming.bytes) × IsCome (come_of r.coming) × (r.waits ≡ true → HasNoLine (come_of r.coming)) × (r.waits ≡ true → KeepsFew (come_of r.coming)) };
+    ghost invariant = { λ r. (r.coming.handled ≤ vec_len r.coming.bytes) × IsCome (come_of r.coming) × (r.waits ≡ true → HasNoLine (come_of r.coming))
+        × (r.waits ≡ true → KeepsFew (come_of r.coming)) };
 }
 
 impl TextReader {
@@ -65,7 +66,8 @@ impl TextReader {
 
     /// Appends to the text. When out of memory the reader stays as it is.
     pub fn push(&mut self, piece: &[u8]) -> Result<(), Memory>
-        ensures pushed { (text : List ℕ) (parts : List PartValue) → ComesFrom self.old.come text parts → OnOk result (ComesFrom self.new.come (text ++ piece.now) parts) }
+        ensures pushed { (text : List ℕ) (parts : List PartValue) → ComesFrom self.old.come text parts
+            → OnOk result (ComesFrom self.new.come (text ++ piece.now) parts) }
         ensures waits { OnOk result (self.new.waits ≡ false) }
         ensures same { OnErr result (self.new ≡ self.old) }
     {
@@ -82,7 +84,8 @@ impl TextReader {
     pub fn next(&mut self, alloc: Global) -> Result<Option<Part>, TextFault>
         // What it is, and what the reader stands for then: after an error, for what it stood for.
         ensures next { (text : List ℕ) (parts : List PartValue) → ComesFrom self.old.come text parts → IsNext text parts result }
-        ensures stands { (text : List ℕ) (parts : List PartValue) → ComesFrom self.old.come text parts → ComesFrom self.new.come text (with_answer parts result) }
+        ensures stands { (text : List ℕ) (parts : List PartValue) → ComesFrom self.old.come text parts
+            → ComesFrom self.new.come text (with_answer parts result) }
         ensures waits { self.new.waits ≡ found_none result }
 
         // Where no further part is whole, at most `MOST_LINE` bytes are kept after the handled lines, and at most twice
@@ -91,7 +94,8 @@ impl TextReader {
         ensures held { found_none result ≡ true → self.new.bytes ≤ 2 * MOST_LINE }
 
         // The text so far and the parts given have no other answer, in whatever pieces the text came.
-        ensures one { (text : List ℕ) (parts : List PartValue) (answer : Result (Option PartValue) TextFaultValue) → ComesFrom self.old.come text parts → IsNext text parts answer → SameAnswer answer result }
+        ensures one { (text : List ℕ) (parts : List PartValue) (answer : Result (Option PartValue) TextFaultValue)
+            → ComesFrom self.old.come text parts → IsNext text parts answer → SameAnswer answer result }
 
         // A part that is there and a fault stay what they are, whatever text comes after them.
         ensures part { (text more : List ℕ) (parts : List PartValue) (x : PartValue) → HasPart text parts x → HasPart (text ++ more) parts x }
@@ -115,7 +119,8 @@ impl TextReader {
 
         // Each answer comes exactly where it is due.
         ensures text { (text : List ℕ) (parts : List PartValue) (p : PublicationValue) → ComesFrom self.come text parts → IsText text p → IsOk result }
-        ensures truncated { (text : List ℕ) (parts : List PartValue) (n : ℕ) → ComesFrom self.come text parts → TruncatedAt text n → result ≡ Err (text_fault.Truncated n) }
+        ensures truncated { (text : List ℕ) (parts : List PartValue) (n : ℕ) → ComesFrom self.come text parts → TruncatedAt text n
+            → result ≡ Err (text_fault.Truncated n) }
     {
         let whole = is_whole(&self.coming);
         let number = self.coming.lines + 1;

@@ -95,7 +95,8 @@ fn take_parts<W, P: PartsSoFar<W>>(
     so_far: &mut P,
     with: &mut W,
 ) -> Result<(), ReadStop<P::Stop>>
-    requires { (first : P) × (lent : W) × (text : List ℕ) × (parts : List ThePart) × HasTaken (P.Took first lent so_far.old with.old) text parts reader.old.come }
+    requires { (first : P) × (lent : W) × (text : List ℕ) × (parts : List ThePart)
+        × HasTaken (P.Took first lent so_far.old with.old) text parts reader.old.come }
     ensures report { (first : P) (lent : W) (text : List ℕ) (parts : List ThePart) → HasTaken (P.Took first lent so_far.old with.old) text parts reader.old.come
         → PartsReport (P.Took first lent so_far.new with.new) (P.Breaks first lent so_far.new with.new) text reader.new result }
     ensures written { Counts (IsPartFault P.IsFault result) (P.faults with.old) (P.faults with.new) }

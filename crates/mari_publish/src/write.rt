@@ -320,7 +320,8 @@ pub fn closing_text(
 pub fn write_text(alloc: Global, publication: &Publication) -> Result<Vec<u8>, Memory>
     requires { HasText publication.now }
     ensures text { IfOk result (λ text. text.items ≡ text_of publication.now) }
-    ensures parts { IfOk result (λ text. text.items ≡ head_text_of publication.now.date publication.now.quarters publication.now.budget ++ (flat_map block_text_of publication.now.blocks ++ total_text_of publication.now)) }
+    ensures parts { IfOk result (λ text. text.items ≡ head_text_of publication.now.date publication.now.quarters publication.now.budget
+        ++ (flat_map block_text_of publication.now.blocks ++ total_text_of publication.now)) }
 {
     let mut out = Vec::new(alloc);
     put_head(

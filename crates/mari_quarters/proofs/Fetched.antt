@@ -13,7 +13,8 @@ use Rattle.mari_quarters.specs.Quarters.{FetchesText, RefusesAfterFiles}
 use Rattle.mari_quarters.specs.Stages.{FetchesOne, IsOfBlocks}
 
 -- the market files gave no books
-pub files-fetched : (count before now : ℕ) (fault : BooksFault) → NamesAFile {T = Books} (Err fault) → RefusesByCheck {T = Books} (Err fault) → FetchesBooks count before now (Err fault) → FetchesText count before now (Err fault)
+pub files-fetched : (count before now : ℕ) (fault : BooksFault) → NamesAFile {T = Books} (Err fault) → RefusesByCheck {T = Books} (Err fault) → FetchesBooks count before now (Err fault)
+    → FetchesText count before now (Err fault)
 files-fetched count before now (why.Fetch number f) named check e = inl (named, e)
 files-fetched count before now (why.Refused refusal) named check e = inl (check, e)
 files-fetched count before now why.Memory named check some = record { count = some.count; within = omega (arith, some.within); fetched = some.fetched }
@@ -27,7 +28,8 @@ page-fetched count before mid now why.Memory e (inl same) is = record { count = 
 page-fetched count before mid now why.Memory e (inr one) is = record { count = count + 1; within = omega arith; fetched = one_more count before mid now e one }
 
 -- all pages were had
-pub text-fetched : (count before mid now : ℕ) (result : Result JointText BooksFault) → mid ≡ counted_by count before → now ≡ counted mid → ((f : Fetch) → IsFetchFault f result → ⊥) → RefusesAfterFiles result
+pub text-fetched : (count before mid now : ℕ) (result : Result JointText BooksFault) → mid ≡ counted_by count before → now ≡ counted mid → ((f : Fetch) → IsFetchFault f result → ⊥)
+    → RefusesAfterFiles result
     → FetchesText count before now result
 text-fetched count before mid now (Ok printed) e one unasked late = one_more count before mid now e one
 text-fetched count before mid now (Err (why.Fetch number f)) e one unasked late = absurd (unasked f refl)

@@ -35,7 +35,8 @@ others job pages before after (status.Invalid run fault) d u = tt
 others job pages before after status.Missing d u = tt
 others job pages before after status.TooLong d u = tt
 
-pub of-no-books : (job : Job) (pages : Pages) (before after : Option (List ℕ)) (result : Status) (fault : BooksFault) → ReportsNoBooks fault before after result → KeepsPromise job pages before after result
+pub of-no-books : (job : Job) (pages : Pages) (before after : Option (List ℕ)) (result : Status) (fault : BooksFault) → ReportsNoBooks fault before after result
+    → KeepsPromise job pages before after result
 of-no-books job pages before after result fault reports = others job pages before after result (no-done before after result fault reports) (no-unpublished before after result fault reports)
 
 module _ (job : Job) (pages : Pages) (books : Books) (gives : HasBooks pages job.folder books) (before after : Option (List ℕ))
@@ -61,7 +62,8 @@ module _ (job : Job) (pages : Pages) (books : Books) (gives : HasBooks pages job
     taken = day.taken;
   }
 
-  whole-or-not : (first within : ℕ) → WroteReachDay books job.nodes first within before after → (b : Bool) → (within == 0) ≡ b → KeepsPromise job pages before after (if b then status.Done else status.Unpublished)
+  whole-or-not : (first within : ℕ) → WroteReachDay books job.nodes first within before after → (b : Bool) → (within == 0) ≡ b
+      → KeepsPromise job pages before after (if b then status.Done else status.Unpublished)
   whole-or-not first within day true e = wrote first within true e day
   whole-or-not first within day false e = wrote first within false e day
 

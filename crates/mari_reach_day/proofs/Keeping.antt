@@ -28,7 +28,8 @@ module _ (books : Books) (ok : IsAccepted books) (budget : ℕ) (blocks : List R
       by : (o : Option ReachBlock) → slice_get blocks k ≡ o → option_map block_of o ≡ Some b → IsSoundBlock books (take k (blocks_of blocks)) b
       by None f g = absurd (none-some b g)
       by (Some r) f g =
-          let own : IsSoundBlock books (take k (blocks_of blocks)) (block_of r) = subst (λ (bs : List Block). IsSoundBlock books bs (block_of r)) (sym (take-map block_of k blocks)) (sound books budget (take k blocks) r (part.each k r f)) in
+          let own : IsSoundBlock books (take k (blocks_of blocks)) (block_of r) =
+          subst (λ (bs : List Block). IsSoundBlock books bs (block_of r)) (sym (take-map block_of k blocks)) (sound books budget (take k blocks) r (part.each k r f)) in
           subst (IsSoundBlock books (take k (blocks_of blocks))) (same_Some (block_of r) b g) own
 
   -- no bid above its offer

@@ -38,5 +38,6 @@ pub next_run : (books : Books) (budget : ℕ) (blocks : List ReachBlock) (r : Re
 next_run books budget blocks r is settled of = record { sound = sound books budget blocks r is; adds = of }
 
 -- what is kept with one block more
-pub one_more : (books : Books) (blocks : List ReachBlock) (r : ReachBlock) (after : Progress) → IsProgress books (blocks_of blocks ++ block.Published r.block ∷ []) after → IsProgress books (blocks_of (blocks ++ r ∷ [])) after
+pub one_more : (books : Books) (blocks : List ReachBlock) (r : ReachBlock) (after : Progress) → IsProgress books (blocks_of blocks ++ block.Published r.block ∷ []) after
+    → IsProgress books (blocks_of (blocks ++ r ∷ [])) after
 one_more books blocks r after is = subst (λ (bs : List Block). IsProgress books bs after) (sym (blocks_more blocks r)) is

@@ -28,8 +28,10 @@ after_market market ending tree =
     ∙ sym (flat_map-append reach_line_text (map reach.Shared market) (tree ++ map reach.Shared ending))
 
 -- what was appended part by part is the text of the block
-pub block_of_parts : (books : Books) (r : ReachBlock) (out a b d e f : List ℕ) → out ≡ [] → a ≡ out ++ reach_line_text (reach.Run r.block.heading r.claim) → b ≡ a ++ line_text (line.Welfare r.block.welfare)
-    → d ≡ b ++ text_of_lines (market_lines r.block) → e ≡ d ++ text_of_reach_lines (reach_tree_lines books r.gated r.tree) → f ≡ e ++ text_of_lines (ending_lines r.block) → f ≡ reach_block_text books r
+pub block_of_parts : (books : Books) (r : ReachBlock) (out a b d e f : List ℕ) → out ≡ [] → a ≡ out ++ reach_line_text (reach.Run r.block.heading r.claim)
+    → b ≡ a ++ line_text (line.Welfare r.block.welfare)
+    → d ≡ b ++ text_of_lines (market_lines r.block) → e ≡ d ++ text_of_reach_lines (reach_tree_lines books r.gated r.tree) → f ≡ e ++ text_of_lines (ending_lines r.block)
+    → f ≡ reach_block_text books r
 block_of_parts books r out a b d e f none ea eb ed ee ef =
     let run = reach_line_text (reach.Run r.block.heading r.claim) in
     let welfare = line_text (line.Welfare r.block.welfare) in

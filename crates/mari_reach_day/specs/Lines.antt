@@ -58,7 +58,8 @@ reach_part_text books budget blocks = part_text_by (reach_head books.date books.
 
 -- the last lines: the totals, and how many runs have the first activation, and how many one within a gap
 abbrev pub reach_end : Books → List ReachBlock → List ℕ
-reach_end books blocks = text_of_lines (closing_lines_by (operator_totals books (blocks_of blocks)) (provider_totals books (blocks_of blocks)) (first_in blocks) (within_in blocks))
+reach_end books blocks =
+    text_of_lines (closing_lines_by (operator_totals books (blocks_of blocks)) (provider_totals books (blocks_of blocks)) (first_in blocks) (within_in blocks))
 
 -- the text of a day
 abbrev pub reach_text : Books → (budget : ℕ) → List ReachBlock → List ℕ

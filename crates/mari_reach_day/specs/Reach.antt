@@ -50,7 +50,8 @@ blocks_of blocks = map block_of blocks
 
 -- the block of the run after the blocks printed before, of the market that they leave
 abbrev pub IsReachBlock : Books → (budget : ℕ) → (before : List ReachBlock) → ReachBlock → Type 0
-IsReachBlock books budget before r = IsReachOf books budget (run_after (blocks_of before)) (market_after books (blocks_of before)) (also_after books (blocks_of before)) r
+IsReachBlock books budget before r =
+    IsReachOf books budget (run_after (blocks_of before)) (market_after books (blocks_of before)) (also_after books (blocks_of before)) r
 
 -- the blocks of the first runs in order, each after the blocks printed before it
 abbrev pub IsReachPart : Books → (budget : ℕ) → List ReachBlock → Type 0

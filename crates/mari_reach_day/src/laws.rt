@@ -16,8 +16,10 @@ use mari_remain::Books;
 pub fn reach_days_keep(books: &Books)
     requires { IsAccepted books.now }
     ensures offers { (budget : ℕ) (blocks : List PrintedReach) → IsReachPart books.now budget blocks → KeepsOffers books.now (blocks_of blocks) }
-    ensures blocks { (budget : ℕ) (blocks : List PrintedReach) → IsReachPart books.now budget blocks → (k : ℕ) (b : PrintedBlock) → slice_get (blocks_of blocks) k ≡ Some b → BlockSumsToZero b }
-    ensures totals { (budget : ℕ) (blocks : List PrintedReach) → IsReachPart books.now budget blocks → net_sum (operator_totals books.now (blocks_of blocks)) ≡ pos 0 }
+    ensures blocks { (budget : ℕ) (blocks : List PrintedReach)
+        → IsReachPart books.now budget blocks → (k : ℕ) (b : PrintedBlock) → slice_get (blocks_of blocks) k ≡ Some b → BlockSumsToZero b }
+    ensures totals { (budget : ℕ) (blocks : List PrintedReach) → IsReachPart books.now budget blocks
+        → net_sum (operator_totals books.now (blocks_of blocks)) ≡ pos 0 }
 {
     let _books = books;
 }

@@ -57,7 +57,8 @@ pub fn run_reached(
     requires budget { IsBudget budget }
 
     // The block, whatever blocks these are.
-    ensures done { (blocks : List PrintedReach) → IsProgress books.now (blocks_of blocks) progress.now → run ≡ run_after (blocks_of blocks) → IfOk result (IsReachDone books.now budget blocks) }
+    ensures done { (blocks : List PrintedReach) → IsProgress books.now (blocks_of blocks) progress.now → run ≡ run_after (blocks_of blocks)
+        → IfOk result (IsReachDone books.now budget blocks) }
     ensures fits { IfOk result (λ done. ReachFits done.block) }
 {
     let made = progress.market_of(alloc, books, run)?;

@@ -95,7 +95,8 @@ pub record FirstAfter (rest : List ℕ) : Type 0 where
   pub after : rest ≡ 50 ∷ 32 ∷ text
   pub first : InRange (line.Head date quarters budget) × (spelling (line.Head date quarters budget) ≡ codes "mari 1 " ++ text)
 
-first_after : (date : List ℕ) (quarters budget : ℕ) (rest : List ℕ) → ReachInRange (reach.Head date quarters budget) → reach_spelling (reach.Head date quarters budget) ≡ codes "mari " ++ rest → FirstAfter rest
+first_after : (date : List ℕ) (quarters budget : ℕ) (rest : List ℕ)
+    → ReachInRange (reach.Head date quarters budget) → reach_spelling (reach.Head date quarters budget) ≡ codes "mari " ++ rest → FirstAfter rest
 unfolding spelling
 first_after date quarters budget rest r e = record {
   date = date;
@@ -162,11 +163,6 @@ gap_words gap r = only_split 32 (money_text gap) (lacks_space (money_text gap) (
 pub claim_word : (x : Claim) (word gap : List ℕ) → claim_fields x ≡ word ∷ words_of gap → (g : Quarters) × (x ≡ Within g) × (word ≡ codes "within") × (words_of gap ≡ money_text g ∷ [])
 claim_word First word gap e = let none : words_of gap ≡ [] = cc in absurd (some_words 32 gap none)
 claim_word (Within g) word gap e = (g, refl, cc, cc)
-
--- the one of one word is another
-pub lone_claim : (x : Claim) (text : List ℕ) → claim_fields x ≡ text ∷ [] → text ≡ codes "first"
-lone_claim First text e = cc
-lone_claim (Within g) text e = absurd cc
 
 some_claim : (x : Claim) → claim_fields x ≡ [] → ⊥
 some_claim First e = absurd cc

@@ -66,7 +66,8 @@ same_runs g h a b r s e =
     let claim = same_claim a b r.1 s.1 claims in
     cc
 
-same_prices : (a b : List ℕ) (p q : Cents) → ReachInRange (reach.Price a p) → ReachInRange (reach.Price b q) → reach_fields (reach.Price a p) ≡ reach_fields (reach.Price b q) → reach.Price a p ≡ reach.Price b q
+same_prices : (a b : List ℕ) (p q : Cents) → ReachInRange (reach.Price a p) → ReachInRange (reach.Price b q) → reach_fields (reach.Price a p) ≡ reach_fields (reach.Price b q)
+    → reach.Price a p ≡ reach.Price b q
 same_prices a b p q r s e =
     let zone : a ≡ b = cc in
     let text : price_text p ≡ price_text q = cc in

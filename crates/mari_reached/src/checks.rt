@@ -97,7 +97,8 @@ pub(crate) fn is_first_by(
     requires market { IsValid market.now }
     requires attained { IsAttained market.now attained.now }
     ensures first { IfOk result (λ holds. IsTrue holds → IsFirst market.now attained.now.activation) }
-    ensures tree { IfOk result (λ holds. IsTrue holds → ReachHolds market.now (pos attained.now.welfare) (gate_word_of market.now attained.now.activation) tree.now) }
+    ensures tree { IfOk result
+        (λ holds. IsTrue holds → ReachHolds market.now (pos attained.now.welfare) (gate_word_of market.now attained.now.activation) tree.now) }
 {
     let word = word_of_attained(market, attained);
     let cutoff = Quarters(i128::from(attained.welfare));

@@ -82,9 +82,11 @@ module _ (books : Books) (ok : IsAccepted books) (blocks : List PastBlock) (b : 
         record {
           first = first-more stands.first;
           mw = stands.mw ∙ ap (λ (f : ℕ → ℕ). map f (range_with_len 0 (length books.bids.bids))) (fun_ext (λ i. sym (sum_by_push (mw_in_block i) blocks b ∙ rw (no_mw i) (omega arith))));
-          direct = stands.direct ∙ ap (λ (f : ℕ → Bool). map f (range_with_len 0 (length books.bids.bids))) (fun_ext (λ i. sym (direct-more i ∙ rw (no_mw i) (none-marked (is_activated (of_direct_runs blocks) i) b.direct))));
+          direct = stands.direct ∙ ap (λ (f : ℕ → Bool). map f (range_with_len 0 (length books.bids.bids)))
+              (fun_ext (λ i. sym (direct-more i ∙ rw (no_mw i) (none-marked (is_activated (of_direct_runs blocks) i) b.direct))));
           quarter = stands.quarter ∙ sym (last-more books ok blocks b ∙ rw none refl);
-          flow = stands.flow ∙ ap (λ (f : ℕ → ℤ). map f (range_with_len 0 (length books.borders.borders))) (fun_ext (λ k. sym (flow-more k (unwrap_or kept.quarter 0) blocks b ∙ rw (no_flow k) (none-flows (b.quarter == unwrap_or kept.quarter 0) (flow_of (of_quarter (unwrap_or kept.quarter 0) blocks) k)))));
+          flow = stands.flow ∙ ap (λ (f : ℕ → ℤ). map f (range_with_len 0 (length books.borders.borders))) (fun_ext (λ k. sym
+              (flow-more k (unwrap_or kept.quarter 0) blocks b ∙ rw (no_flow k) (none-flows (b.quarter == unwrap_or kept.quarter 0) (flow_of (of_quarter (unwrap_or kept.quarter 0) blocks) k)))));
           of_quarter = stands.of_quarter;
           of_run = stands.of_run;
         }
@@ -109,7 +111,8 @@ pub record CanAdd (books : Books) (kept : Tally) (quarter : ℕ) (bids : List �
   pub flow : (k : ℕ) → unsigned_abs ((if option_map_or (λ last. last == quarter) kept.quarter false then get_or kept.flow k (pos 0) else pos 0) +ℤ get_or a.flow k (pos 0)) ≤ 99999
 
 module _ (books : Books) (ok : IsAccepted books) (blocks : List PastBlock) (kept : Tally) (run : ℕ) (made : RunMarket) (a : Activation)
-    (stands : StandsFor books blocks kept) (is_next : run ≡ length blocks + 1) (last : run ≤ length books.runs.runs) (made_is : made ≡ run_market_of books blocks run) (feasible : IsFeasible made.market a) where
+    (stands : StandsFor books blocks kept) (is_next : run ≡ length blocks + 1) (last : run ≤ length books.runs.runs) (made_is : made ≡ run_market_of books blocks run)
+    (feasible : IsFeasible made.market a) where
   is_past : IsPastRun books blocks run (record { bids = made.bids; activation = a })
   is_past = record {
     bids = ap (λ (r : RunMarket). r.bids) made_is;
@@ -138,8 +141,16 @@ module _ (books : Books) (ok : IsAccepted books) (blocks : List PastBlock) (kept
         marks = ap length stands.direct ∙ length-map-range_with_len (is_activated (of_direct_runs blocks)) 0 (length books.bids.bids);
         there = rw is_past.bids (All-filter avail (λ i. i < length books.bids.bids) (bids_of_quarter books.bids.bids run_of.quarter)
             (All-weaker (IsOwn books run_of.quarter) (λ i. i < length books.bids.bids) (λ i h. h.there) (bids_of_quarter books.bids.bids run_of.quarter) own));
-        long = rw is_past.bids (omega (arith, orders, length-append (map (λ i. bid_order (bid_numbered books.bids.bids i) (gate_of (gated_left books (taken_before books blocks run) run) i) ((taken_before books blocks run).mw i)) (numbers_of books blocks run)) (map demand_order (demands_of_run books.demands.demands run)), length-map (numbers_of books blocks run) (λ i. bid_order (bid_numbered books.bids.bids i) (gate_of (gated_left books (taken_before books blocks run) run) i) ((taken_before books blocks run).mw i))));
-        small = λ i. rw (kept-mw books ok blocks kept stands i) (let left = (within-offer books ok blocks (block_of books run made.bids a) (own-blocks books ok blocks stands.first) next i (offers books ok blocks stands.first i)).left in omega (arith, left, most i));
+        long = rw is_past.bids (omega (
+          arith,
+          orders,
+          length-append (map (λ i. bid_order (bid_numbered books.bids.bids i) (gate_of (gated_left books (taken_before books blocks run) run) i) ((taken_before books blocks run).mw i))
+              (numbers_of books blocks run)) (map demand_order (demands_of_run books.demands.demands run)),
+          length-map (numbers_of books blocks run)
+              (λ i. bid_order (bid_numbered books.bids.bids i) (gate_of (gated_left books (taken_before books blocks run) run) i) ((taken_before books blocks run).mw i)),
+        ));
+        small = λ i. rw (kept-mw books ok blocks kept stands i) (let left = (within-offer books ok blocks (block_of books run made.bids a) (own-blocks books ok blocks stands.first) next i
+            (offers books ok blocks stands.first i)).left in omega (arith, left, most i));
         flows =
             borders ∙ length-map-range_with_len
             (λ k. border_left (ends_at books.borders.borders k) (run_limits books run k) ((taken_before books blocks run).flow k)) 0

@@ -202,7 +202,8 @@ module _ (books : Books) (kept : Tally) (run : Run) (ok : IsAccepted books) wher
       let rise = places-rise (λ (b : Bid). b.quarter == run.quarter) 0 books.bids.bids in
       let later : All (λ j. (j == p) ≡ false) (drop k numbers) = λ m d more. apart numbers k i p m d l here less rise (omega (arith, simp length-drop at more)) in
       let none : list_any (λ j. j == p) (drop k numbers) ≡ false = list_any_none (λ j. j == p) (drop k numbers) later in
-      let split : list_any (λ j. j == p) (take k numbers ++ drop k numbers) ≡ (list_any (λ j. j == p) (take k numbers) || list_any (λ j. j == p) (drop k numbers)) = list_any-append (λ j. j == p) (take k numbers) (drop k numbers) in
+      let split : list_any (λ j. j == p) (take k numbers ++ drop k numbers) ≡ (list_any (λ j. j == p) (take k numbers) || list_any (λ j. j == p) (drop k numbers)) =
+      list_any-append (λ j. j == p) (take k numbers) (drop k numbers) in
       first-true (list_any (λ j. j == p) (take k numbers)) (list_any (λ j. j == p) (drop k numbers)) none (sym split ∙ ap (list_any (λ j. j == p)) (take-append-drop k numbers) ∙ found)
     where
       first-true : (a b : Bool) → b ≡ false → (a || b) ≡ true → a ≡ true
@@ -276,7 +277,8 @@ has-quarter books kept quarter index l =
     let long : length kept.of_quarter ≡ books.quarters + 1 = ap length index ∙ length-map-range_with_len (bids_of_quarter books.bids.bids) 0 (books.quarters + 1) in
     record {
       there = omega (arith, long, l);
-      bids = ap (λ (lists : List (List ℕ)). get_or lists quarter []) index ∙ get_or-map-range_with_len (bids_of_quarter books.bids.bids) 0 (books.quarters + 1) quarter quarter [] (omega (arith, l)) (zero-add quarter);
+      bids = ap (λ (lists : List (List ℕ)). get_or lists quarter []) index
+          ∙ get_or-map-range_with_len (bids_of_quarter books.bids.bids) 0 (books.quarters + 1) quarter quarter [] (omega (arith, l)) (zero-add quarter);
     }
 
 -- what the index has for a run of the day
@@ -361,7 +363,8 @@ module _ (books : Books) (kept : Tally) (run : Run) (ok : IsAccepted books) (k :
   few-before = omega (arith, ap length gated_split, length-append gated_before (filter (has_gate books.links) (filter is_open (drop k numbers_all))), few_of_quarter books ok is_open run.quarter)
 
   gated_rise : AllPairs (λ i j. i < j) (gated_chosen books kept run)
-  gated_rise = AllPairs-filter (λ i j. i < j) (has_gate books.links) (filter is_open numbers_all) (AllPairs-filter (λ i j. i < j) is_open numbers_all (places-rise (λ (b : Bid). b.quarter == run.quarter) 0 books.bids.bids))
+  gated_rise = AllPairs-filter (λ i j. i < j) (has_gate books.links) (filter is_open numbers_all)
+      (AllPairs-filter (λ i j. i < j) is_open numbers_all (places-rise (λ (b : Bid). b.quarter == run.quarter) 0 books.bids.bids))
 
   next-gate : (i : ℕ) → k < length numbers_all → get_or numbers_all k i ≡ i → is_open i ≡ true
       → cond (has_gate books.links i) (Some (length gated_before)) None ≡ gate_of (gated_chosen books kept run) i
@@ -372,7 +375,8 @@ module _ (books : Books) (kept : Tally) (run : Run) (ok : IsAccepted books) (k :
           let rest : List ℕ = filter (has_gate books.links) (filter is_open (drop (suc k) numbers_all)) in
           let cut : drop k numbers_all ≡ i ∷ drop (suc k) numbers_all = drop-cons numbers_all k i l ∙ ap (λ n. n ∷ drop (suc k) numbers_all) here in
           let kept_i : filter (has_gate books.links) (filter is_open (i ∷ drop (suc k) numbers_all)) ≡ i ∷ rest = rw e (rw f refl) in
-          let whole : gated_chosen books kept run ≡ gated_before ++ i ∷ rest = gated_split ∙ ap (λ ns. gated_before ++ filter (has_gate books.links) (filter is_open ns)) cut ∙ ap (λ ns. gated_before ++ ns) kept_i in
+          let whole : gated_chosen books kept run ≡ gated_before ++ i ∷ rest =
+          gated_split ∙ ap (λ ns. gated_before ++ filter (has_gate books.links) (filter is_open ns)) cut ∙ ap (λ ns. gated_before ++ ns) kept_i in
           let at : get_or (gated_chosen books kept run) (length gated_before) 0 ≡ i = ap (λ ns. get_or ns (length gated_before) 0) whole ∙ get_or-append_seam gated_before i rest 0 in
           let less : length gated_before < length (gated_chosen books kept run) = omega (arith, ap length whole, length-append gated_before (i ∷ rest)) in
           sym (rw at at (gate-is (gated_chosen books kept run) (length gated_before) gated_rise less))

@@ -37,7 +37,8 @@ module _ {X : Type 0} where
       let within = All-filter (λ x. not (last x)) (λ x. number x < suc n) xs all k d l in
       let passes = filter_passes (λ x. not (last x)) xs k d l in
       other (number _) n passes within in
-      let less = at-most-each number c n rest below (λ k. omega (arith, filtered (λ x. number x == k) (λ x. not (last x)) xs, length-filter (λ x. number x == k) rest, length-filter (λ x. number x == k) xs, few k)) in
+      let less = at-most-each number c n rest below
+      (λ k. omega (arith, filtered (λ x. number x == k) (λ x. not (last x)) xs, length-filter (λ x. number x == k) rest, length-filter (λ x. number x == k) xs, few k)) in
       grind (arith, both, own, less)
     where
       other : (m n : ℕ) → not (m == n) ≡ true → m < suc n → m < n

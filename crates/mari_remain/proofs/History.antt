@@ -78,7 +78,8 @@ module _ (books : Books) (ok : IsAccepted books) where
           by : (t : Bool) → (n == i) ≡ t → (n == i) ≡ false
           by false e = e
           by true e =
-              let same : ((bid_numbered books.bids.bids i).quarter == b.quarter) ≡ true = eq-eqb (bid_numbered books.bids.bids i).quarter b.quarter (ap (λ j. (bid_numbered books.bids.bids j).quarter) (sym (eqb-true n i e)) ∙ own) in
+              let same : ((bid_numbered books.bids.bids i).quarter == b.quarter) ≡ true =
+              eq-eqb (bid_numbered books.bids.bids i).quarter b.quarter (ap (λ j. (bid_numbered books.bids.bids j).quarter) (sym (eqb-true n i e)) ∙ own) in
               let both : true ≡ false = sym same ∙ other in
               absurd (cc both)
 
@@ -97,7 +98,8 @@ module _ (books : Books) (ok : IsAccepted books) where
       flows (Some past) e k l =
           let is : IsPastRun books before b.run past = subst (λ (o : Option PastRun). IfSome o (IsPastRun books before b.run)) e next.published in
           let long = AllZip-long _ (market_at books before b.run).borders past.activation.flow is.feasible.borders in
-          let all = length-map-range_with_len (λ j. border_left (ends_at books.borders.borders j) (run_limits books b.run j) ((taken_before books before b.run).flow j)) 0 (length books.borders.borders) in
+          let all =
+          length-map-range_with_len (λ j. border_left (ends_at books.borders.borders j) (run_limits books b.run j) ((taken_before books before b.run).flow j)) 0 (length books.borders.borders) in
           get_or_past past.activation.flow k (pos 0) (omega (arith, long, all, l))
 
   pub own-blocks : (blocks : List PastBlock) → AreFirstBlocks books blocks → All IsOwnBlock blocks
@@ -136,7 +138,8 @@ module _ (books : Books) (ok : IsAccepted books) where
           let own : left k ≡ get_or (market_at books before b.run).borders k (left k) = sym (get_or-map-range_with_len left 0 (length books.borders.borders) k k (left k) l (zero-add k)) in
           let within : IsWithinLimits (left k) (get_or past.activation.flow k (pos 0)) =
           subst (λ (x : Border). IsWithinLimits x (get_or past.activation.flow k (pos 0))) (sym own)
-          (AllZip-at IsWithinLimits (market_at books before b.run).borders past.activation.flow k (left k) (pos 0) (omega (arith, l, length-map-range_with_len left 0 (length books.borders.borders))) is.feasible.borders) in
+          (AllZip-at IsWithinLimits (market_at books before b.run).borders past.activation.flow k (left k) (pos 0)
+          (omega (arith, l, length-map-range_with_len left 0 (length books.borders.borders))) is.feasible.borders) in
           let fits = in_range books books.limits b.run k ok.limits (ok.borders.borders k _ l) in
           let same : (run_numbered books b.run).quarter ≡ quarter = sym next.quarter ∙ e in
           let small = so_far quarter k in
@@ -152,7 +155,8 @@ module _ (books : Books) (ok : IsAccepted books) where
         | inl l ↦ inside past is e l
         | inr far ↦ (
             let long = AllZip-long _ (market_at books before b.run).borders past.activation.flow is.feasible.borders in
-            let all = length-map-range_with_len (λ j. border_left (ends_at books.borders.borders j) (run_limits books b.run j) ((taken_before books before b.run).flow j)) 0 (length books.borders.borders) in
+            let all =
+            length-map-range_with_len (λ j. border_left (ends_at books.borders.borders j) (run_limits books b.run j) ((taken_before books before b.run).flow j)) 0 (length books.borders.borders) in
             let none : get_or past.activation.flow k (pos 0) ≡ pos 0 = get_or_past past.activation.flow k (pos 0) (omega (arith, long, all, far)) in
             let small = so_far quarter k in
             rw none (omega (arith, ints, small)))

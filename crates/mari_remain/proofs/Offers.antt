@@ -97,7 +97,8 @@ module _ (books : Books) (ok : IsAccepted books) where
               by : (t : Bool) → (n == i) ≡ t → (n == i) ≡ false
               by false f = f
               by true f =
-                  let same : ((bid_numbered books.bids.bids i).quarter == (run_numbered books b.run).quarter) ≡ true = eq-eqb _ _ (ap (λ j. (bid_numbered books.bids.bids j).quarter) (sym (eqb-true n i f)) ∙ own) in
+                  let same : ((bid_numbered books.bids.bids i).quarter == (run_numbered books b.run).quarter) ≡ true =
+                  eq-eqb _ _ (ap (λ j. (bid_numbered books.bids.bids j).quarter) (sym (eqb-true n i f)) ∙ own) in
                   let both : true ≡ false = sym same ∙ e in
                   absurd (cc both)
       own past is true e false f =
@@ -123,7 +124,8 @@ module _ (books : Books) (ok : IsAccepted books) where
           let m : Market = market_at books before b.run in
           let state : ℕ → GateState = λ g. if is_open m past.activation g then Open else Closed in
           let order : ℕ → Order = λ k. bid_order (bid_numbered books.bids.bids k) (gate_of gated k) (taken.mw k) in
-          let rise : AllPairs (λ i j. i < j) (numbers_of books before b.run) = AllPairs-filter (λ i j. i < j) avail (bids_of_quarter books.bids.bids run.quarter) (places-rise (λ (b : Bid). b.quarter == run.quarter) 0 books.bids.bids) in
+          let rise : AllPairs (λ i j. i < j) (numbers_of books before b.run) =
+          AllPairs-filter (λ i j. i < j) avail (bids_of_quarter books.bids.bids run.quarter) (places-rise (λ (b : Bid). b.quarter == run.quarter) 0 books.bids.bids) in
           let most = beside-most state order i (numbers_of books before b.run) (map demand_order (demands_of_run books.demands.demands b.run)) past.activation.mw rise is.feasible.orders in
           let same : taken.mw i ≡ mw_of before i = mw-own books ok run.quarter i before are_own ∙ rw e refl in
           let may = and_parts (may_run books taken run i) _ f in

@@ -53,7 +53,8 @@ module _ (books : Books) (ok : IsAccepted books) where
       by false e =
           let last : last_published_quarter (before ++ b ∷ []) ≡ last_published_quarter before = last-more before b ∙ rw e refl in
           record {
-            greatest = rw last (All-push (λ a. is_some a.published ≡ true → a.quarter ≤ unwrap_or (last_published_quarter before) 0) before b so_far.greatest (λ there. let both : true ≡ false = sym there ∙ e in absurd (cc both)));
+            greatest = rw last (All-push (λ a. is_some a.published ≡ true → a.quarter ≤ unwrap_or (last_published_quarter before) 0) before b so_far.greatest
+                (λ there. let both : true ≡ false = sym there ∙ e in absurd (cc both)));
             later = λ r l there. rw last (so_far.later r (omega (arith, l, length-append before (b ∷ []))) there);
           }
 
@@ -114,7 +115,8 @@ module _ (books : Books) (ok : IsAccepted books) where
     pub kept-mw : (i : ℕ) → get_or kept.mw i 0 ≡ mw_of blocks i
     kept-mw i = elim (cases_lt i (length books.bids.bids)) [
       | inl l ↦ ap (λ (ms : List ℕ). get_or ms i 0) stands.mw ∙ get_or-map-range_with_len (mw_of blocks) 0 (length books.bids.bids) i i 0 l (zero-add i)
-      | inr past ↦ (get_or_past kept.mw i 0 (rw stands.mw (omega (arith, past, length-map-range_with_len (mw_of blocks) 0 (length books.bids.bids)))) ∙ sym (mw-past i blocks past (own-blocks books ok blocks stands.first)))
+      | inr past ↦ (get_or_past kept.mw i 0 (rw stands.mw (omega (arith, past, length-map-range_with_len (mw_of blocks) 0 (length books.bids.bids))))
+          ∙ sym (mw-past i blocks past (own-blocks books ok blocks stands.first)))
     ]
 
     pub kept-direct : (i : ℕ) → get_or kept.direct i false ≡ is_activated (of_direct_runs blocks) i
@@ -130,7 +132,8 @@ module _ (books : Books) (ok : IsAccepted books) where
         elim (cases_lt k (length books.borders.borders)) [
           | inl l ↦ ap (λ (fs : List ℤ). get_or fs k (pos 0)) is ∙ get_or-map-range_with_len (flow_of (of_quarter quarter blocks)) 0 (length books.borders.borders) k k (pos 0) l (zero-add k)
           | inr past ↦ (get_or_past kept.flow k (pos 0) (rw is (omega (arith, past, length-map-range_with_len (flow_of (of_quarter quarter blocks)) 0 (length books.borders.borders))))
-              ∙ sym (quarter-none quarter k blocks (All-weaker (IsOwnBlock books ok) (λ b. (b.quarter == quarter) ≡ true → flow_in k b ≡ pos 0) (λ b h e. h.flows k past) blocks (own-blocks books ok blocks stands.first))))
+              ∙ sym (quarter-none quarter k blocks
+              (All-weaker (IsOwnBlock books ok) (λ b. (b.quarter == quarter) ≡ true → flow_in k b ≡ pos 0) (λ b h e. h.flows k past) blocks (own-blocks books ok blocks stands.first))))
         ]
 
     other-flow : (quarter k : ℕ) → option_map_or (λ last. last == quarter) kept.quarter false ≡ false

@@ -56,7 +56,8 @@ border zones b limits flow h limit back small = record {
 pub least_fits : (gates : ℕ) (b : Bid) (gate : Option ℕ) (taken : ℕ) → b.least ≤ b.greatest → 1 ≤ b.greatest → ((g : ℕ) → gate ≡ Some g → g < gates)
     → (least_left gate b.least ≤ greatest_left gate b.greatest taken) × GateFits gates (bid_order b gate taken)
 least_fits gates b None taken h one there = (omega arith, refl)
-least_fits gates b (Some g) taken h one there = let in_order : cond (b.least == 0) 1 b.least ≤ b.greatest = grind arith in let some : 1 ≤ cond (b.least == 0) 1 b.least = grind arith in (in_order, (there g refl, some))
+least_fits gates b (Some g) taken h one there =
+    let in_order : cond (b.least == 0) 1 b.least ≤ b.greatest = grind arith in let some : 1 ≤ cond (b.least == 0) 1 b.least = grind arith in (in_order, (there g refl, some))
 
 -- what is left of an offer is no more than the offer
 pub most_left : (gate : Option ℕ) (offer taken : ℕ) → greatest_left gate offer taken ≤ offer
@@ -135,9 +136,12 @@ module _ (books : Books) (ok : IsAccepted books) where
       let links = books.links in
       let numbers : List ℕ = range_with_len 0 (length books.bids.bids) in
       let of_quarter : ℕ → Bool = λ i. quarter_of books.bids i == quarter in
-      let placed : bids_of_quarter books.bids.bids quarter ≡ filter of_quarter numbers = places-filter (λ (b : Bid). b.quarter == quarter) of_quarter 0 books.bids.bids (same_quarter quarter books.bids) in
-      let both : length (filter (has_gate links) (filter of_quarter numbers)) ≡ length (filter of_quarter (filter (has_gate links) numbers)) = ap length (filters (has_gate links) of_quarter numbers) in
-      let counted : length (filter of_quarter (filter (has_gate links) numbers)) ≡ count_of books.bids (filter (has_gate links) numbers) quarter = length-filter of_quarter (filter (has_gate links) numbers) in
+      let placed : bids_of_quarter books.bids.bids quarter ≡ filter of_quarter numbers =
+      places-filter (λ (b : Bid). b.quarter == quarter) of_quarter 0 books.bids.bids (same_quarter quarter books.bids) in
+      let both : length (filter (has_gate links) (filter of_quarter numbers)) ≡ length (filter of_quarter (filter (has_gate links) numbers)) =
+      ap length (filters (has_gate links) of_quarter numbers) in
+      let counted : length (filter of_quarter (filter (has_gate links) numbers)) ≡ count_of books.bids (filter (has_gate links) numbers) quarter =
+      length-filter of_quarter (filter (has_gate links) numbers) in
       let all : length books.links.links ≡ length books.bids.bids = ok.links.one_each ∙ ok.bids.named in
       let most = rw all at (ok.links.of_quarter quarter) in
       rw placed (omega (arith, both, counted, most))
@@ -166,11 +170,13 @@ module _ (books : Books) (ok : IsAccepted books) where
 module _ (books : Books) (taken : Taken) (run : ℕ) (ok : IsAccepted books) (small_flows : (k : ℕ) → unsigned_abs (taken.flow k) ≤ 99999) where
   rise : AllPairs (λ i j. i < j) (gated_left books taken run)
   rise = AllPairs-filter (λ i j. i < j) (has_gate books.links) (numbers_left books taken run)
-      (AllPairs-filter (λ i j. i < j) (is_available books taken (run_numbered books run)) (bids_of_quarter books.bids.bids (run_numbered books run).quarter) (places-rise (λ (b : Bid). b.quarter == (run_numbered books run).quarter) 0 books.bids.bids))
+      (AllPairs-filter (λ i j. i < j) (is_available books taken (run_numbered books run)) (bids_of_quarter books.bids.bids (run_numbered books run).quarter)
+      (places-rise (λ (b : Bid). b.quarter == (run_numbered books run).quarter) 0 books.bids.bids))
 
   pub there : All (λ i. i < length books.bids.bids) (numbers_left books taken run)
   there = All-filter (is_available books taken (run_numbered books run)) (λ i. i < length books.bids.bids) (bids_of_quarter books.bids.bids (run_numbered books run).quarter)
-      (All-weaker (IsPlace 0 (length books.bids.bids)) (λ i. i < length books.bids.bids) (λ i l. omega (arith, l.below)) (bids_of_quarter books.bids.bids (run_numbered books run).quarter) (places-within (λ (b : Bid). b.quarter == (run_numbered books run).quarter) 0 books.bids.bids))
+      (All-weaker (IsPlace 0 (length books.bids.bids)) (λ i. i < length books.bids.bids) (λ i l. omega (arith, l.below)) (bids_of_quarter books.bids.bids (run_numbered books run).quarter)
+      (places-within (λ (b : Bid). b.quarter == (run_numbered books run).quarter) 0 books.bids.bids))
 
   pub few_numbers : length (numbers_left books taken run) ≤ 4096
   few_numbers = omega (
@@ -184,19 +190,24 @@ module _ (books : Books) (taken : Taken) (run : ℕ) (ok : IsAccepted books) (sm
   few_gated : length (gated_left books taken run) ≤ 512
   few_gated = few_of_quarter books ok (is_available books taken (run_numbered books run)) (run_numbered books run).quarter
 
-  bid_orders : All (IsValidOrder (length books.zones.zones) (length (gated_left books taken run))) (map (λ i. bid_order (bid_numbered books.bids.bids i) (gate_of (gated_left books taken run) i) (taken.mw i)) (numbers_left books taken run))
+  bid_orders : All (IsValidOrder (length books.zones.zones) (length (gated_left books taken run)))
+      (map (λ i. bid_order (bid_numbered books.bids.bids i) (gate_of (gated_left books taken run) i) (taken.mw i)) (numbers_left books taken run))
   bid_orders =
       let gated : List ℕ = gated_left books taken run in
       let zones : ℕ = length books.zones.zones in
-      let valid : (i : ℕ) → i < length books.bids.bids → IsValidOrder (length books.zones.zones) (length (gated_left books taken run)) (bid_order (bid_numbered books.bids.bids i) (gate_of (gated_left books taken run) i) (taken.mw i)) =
-      λ i l. bid books.zones (length books.bids.providers) books.quarters (length (gated_left books taken run)) (bid_numbered books.bids.bids i) (gate_of (gated_left books taken run) i) (taken.mw i) (ok.bids.bids i _ l) (λ g e. (gate-at (gated_left books taken run) i g e).0) in
+      let valid : (i : ℕ) → i < length books.bids.bids
+      → IsValidOrder (length books.zones.zones) (length (gated_left books taken run)) (bid_order (bid_numbered books.bids.bids i) (gate_of (gated_left books taken run) i) (taken.mw i)) =
+      λ i l. bid books.zones (length books.bids.providers) books.quarters (length (gated_left books taken run)) (bid_numbered books.bids.bids i) (gate_of (gated_left books taken run) i) (taken.mw i)
+      (ok.bids.bids i _ l) (λ g e. (gate-at (gated_left books taken run) i g e).0) in
       All-map (IsValidOrder (length books.zones.zones) (length (gated_left books taken run)))
       (λ i. bid_order (bid_numbered books.bids.bids i) (gate_of (gated_left books taken run) i) (taken.mw i)) (numbers_left books taken run)
-      (All-weaker (λ i. i < length books.bids.bids) (λ i. IsValidOrder (length books.zones.zones) (length (gated_left books taken run)) (bid_order (bid_numbered books.bids.bids i) (gate_of (gated_left books taken run) i) (taken.mw i))) valid (numbers_left books taken run) there)
+      (All-weaker (λ i. i < length books.bids.bids) (λ i. IsValidOrder (length books.zones.zones) (length (gated_left books taken run))
+      (bid_order (bid_numbered books.bids.bids i) (gate_of (gated_left books taken run) i) (taken.mw i))) valid (numbers_left books taken run) there)
 
   demand_orders : All (IsValidOrder (length books.zones.zones) (length (gated_left books taken run))) (map demand_order (demands_of_run books.demands.demands run))
   demand_orders = All-map (IsValidOrder (length books.zones.zones) (length (gated_left books taken run))) demand_order (demands_of_run books.demands.demands run)
-      (All-weaker (IsDemand books.zones (length books.runs.runs)) (λ d. IsValidOrder (length books.zones.zones) (length (gated_left books taken run)) (demand_order d)) (demand books.zones (length books.runs.runs) (length (gated_left books taken run))) (demands_of_run books.demands.demands run)
+      (All-weaker (IsDemand books.zones (length books.runs.runs)) (λ d. IsValidOrder (length books.zones.zones) (length (gated_left books taken run)) (demand_order d))
+      (demand books.zones (length books.runs.runs) (length (gated_left books taken run))) (demands_of_run books.demands.demands run)
       (All-filter (λ (d : Demand). d.run == run) (IsDemand books.zones (length books.runs.runs)) books.demands.demands ok.demands.demands))
 
   gate : (g : ℕ) → g < length (map (gate_at books.links.links (gated_left books taken run)) (gated_left books taken run)) → IsValidGate (market_left books taken run) g
@@ -206,7 +217,8 @@ module _ (books : Books) (taken : Taken) (run : ℕ) (ok : IsAccepted books) (sm
       let order_of : ℕ → Order = λ k. bid_order (bid_numbered books.bids.bids k) (gate_of gated k) (taken.mw k) in
       let less : g < length gated = simp length-map at l in
       let own : gate_of gated i ≡ Some g = gate-is gated g rise less in
-      let kept : All (Contains (numbers_left books taken run)) gated = All-filter (has_gate books.links) (Contains (numbers_left books taken run)) (numbers_left books taken run) (All-contains_itself (numbers_left books taken run)) in
+      let kept : All (Contains (numbers_left books taken run)) gated =
+      All-filter (has_gate books.links) (Contains (numbers_left books taken run)) (numbers_left books taken run) (All-contains_itself (numbers_left books taken run)) in
       let member : Contains (numbers_left books taken run) i = kept g 0 less in
       let placed : Contains (market_left books taken run).orders (order_of i) = Contains-append_left _ _ _ (contains-map order_of (numbers_left books taken run) i member) in
       record {
@@ -226,7 +238,8 @@ module _ (books : Books) (taken : Taken) (run : ℕ) (ok : IsAccepted books) (sm
   borders =
       All-map (IsValidBorder (length books.zones.zones)) (λ k. border_left (ends_at books.borders.borders k) (run_limits books run k) (taken.flow k))
       (range_with_len 0 (length books.borders.borders))
-      (All-weaker (λ k. k < length books.borders.borders) (λ k. IsValidBorder (length books.zones.zones) (border_left (ends_at books.borders.borders k) (run_limits books run k) (taken.flow k))) border_at
+      (All-weaker (λ k. k < length books.borders.borders)
+      (λ k. IsValidBorder (length books.zones.zones) (border_left (ends_at books.borders.borders k) (run_limits books run k) (taken.flow k))) border_at
       (range_with_len 0 (length books.borders.borders)) (range-below (length books.borders.borders)))
 
   -- the market is valid

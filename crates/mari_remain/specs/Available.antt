@@ -63,7 +63,8 @@ keeps_links activated by_direct_run l =
 abbrev pub may_run : Books → Taken → Run → ℕ → Bool
 may_run books taken run i =
     is_for run (bid_numbered books.bids.bids i)
-    && (is_left books taken i && (has_free_group books.links.links taken i && option_map_or (keeps_links taken.activated taken.by_direct_run) (slice_get books.links.links i) true))
+    && (is_left books taken i
+    && (has_free_group books.links.links taken i && option_map_or (keeps_links taken.activated taken.by_direct_run) (slice_get books.links.links i) true))
 
 -- a parent, if it has one, was activated in the quarter, or is available
 abbrev pub parent_allows : (is_available : ℕ → Bool) → Taken → Option ℕ → Bool

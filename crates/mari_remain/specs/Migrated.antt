@@ -29,7 +29,8 @@ module _ (books : Books) where
 
   -- the limits of each border in a run
   abbrev pub run_records : (run : ℕ) → List (List (List ℕ))
-  run_records run = map (λ k. limit_record books.zones run (ends_at books.borders.borders k) (run_limits books run k)) (range_with_len 0 (length books.borders.borders))
+  run_records run =
+      map (λ k. limit_record books.zones run (ends_at books.borders.borders k) (run_limits books run k)) (range_with_len 0 (length books.borders.borders))
 
   -- the page of limits: for each run, in order, the limits of each border
   abbrev pub limits_page : List ℕ

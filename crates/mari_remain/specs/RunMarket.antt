@@ -40,7 +40,14 @@ greatest_left (Some gate) offer taken = offer
 
 -- the order of a bid of which earlier blocks took `taken` MW
 abbrev pub bid_order : Bid → Option ℕ → ℕ → Order
-bid_order b gate taken = record { zone = b.zone; side = side_of b.up; price = b.price; least = least_left gate b.least; greatest = greatest_left gate b.greatest taken; gate = gate }
+bid_order b gate taken = record {
+  zone = b.zone;
+  side = side_of b.up;
+  price = b.price;
+  least = least_left gate b.least;
+  greatest = greatest_left gate b.greatest taken;
+  gate = gate;
+}
 
 -- a demand that states no price is met at any within the cap: it takes at the cap, or gives at its negative
 abbrev pub inelastic_price : ℤ → Cents
@@ -52,7 +59,14 @@ demand_side mw = side_of (int_lt mw (pos 0))
 
 -- the order of a demand
 abbrev pub demand_order : Demand → Order
-demand_order d = record { zone = d.zone; side = demand_side d.mw; price = unwrap_or d.price (inelastic_price d.mw); least = 0; greatest = unsigned_abs d.mw; gate = None }
+demand_order d = record {
+  zone = d.zone;
+  side = demand_side d.mw;
+  price = unwrap_or d.price (inelastic_price d.mw);
+  least = 0;
+  greatest = unsigned_abs d.mw;
+  gate = None;
+}
 
 -- the demands of a run
 -- The demands themselves, for the orders; `numbers_of_run` has their numbers, as the code keeps them.
@@ -114,7 +128,8 @@ module _ (books : Books) (taken : Taken) (run : ℕ) where
 
   -- each border with what is left of its limits
   abbrev pub borders_left : List Border
-  borders_left = map (λ k. border_left (ends_at books.borders.borders k) (run_limits books run k) (taken.flow k)) (range_with_len 0 (length books.borders.borders))
+  borders_left =
+      map (λ k. border_left (ends_at books.borders.borders k) (run_limits books run k) (taken.flow k)) (range_with_len 0 (length books.borders.borders))
 
   -- the available bids, then the run's demands, over the borders with what is left of their limits
   abbrev pub market_left : Market

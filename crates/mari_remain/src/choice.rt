@@ -78,9 +78,11 @@ impl Choice {
         requires there { number < length books.now.bids.bids }
         requires few { length self.old.gated.items ≤ MOST_GATES }
         ensures numbers { OnOk result (self.new.numbers.items ≡ self.old.numbers.items ++ number ∷ []) }
-        ensures gated { OnOk result (self.new.gated.items ≡ (if has_gate books.now.links number then self.old.gated.items ++ number ∷ [] else self.old.gated.items)) }
+        ensures gated { OnOk result
+            (self.new.gated.items ≡ (if has_gate books.now.links number then self.old.gated.items ++ number ∷ [] else self.old.gated.items)) }
         ensures orders { OnOk result (self.new.orders.items ≡ self.old.orders.items
-            ++ bid_order_of (bid_numbered books.now.bids.bids number) (if has_gate books.now.links number then Some (length self.old.gated.items) else None) taken ∷ []) }
+            ++ bid_order_of (bid_numbered books.now.bids.bids number)
+            (if has_gate books.now.links number then Some (length self.old.gated.items) else None) taken ∷ []) }
     {
         let bid = &books.bids.bids.as_slice()[number as usize];
         let gated = books.links.links.as_slice()[number as usize].gated;
@@ -356,9 +358,11 @@ pub(crate) fn choose(
     requires quarter { run.quarter ≤ books.now.quarters }
     requires index { remaining.now.of_quarter ≡ map (bids_of_quarter books.now.bids.bids) (range_with_len 0 (books.now.quarters + 1)) }
     requires mws { length remaining.now.mw ≡ length books.now.bids.bids }
-    ensures numbers { IfOk result (λ choice. choice.numbers.items ≡ filter (is_available books.now (taken_in books.now remaining.now run.quarter) run) (bids_of_quarter books.now.bids.bids run.quarter)) }
+    ensures numbers { IfOk result (λ choice. choice.numbers.items ≡ filter (is_available books.now (taken_in books.now remaining.now run.quarter) run)
+        (bids_of_quarter books.now.bids.bids run.quarter)) }
     ensures gated { IfOk result (λ choice. choice.gated.items ≡ filter (has_gate books.now.links) choice.numbers.items) }
-    ensures orders { IfOk result (λ choice. choice.orders.items ≡ map (λ i. bid_order_of (bid_numbered books.now.bids.bids i) (gate_of choice.gated.items i) ((taken_in books.now remaining.now run.quarter).mw i)) choice.numbers.items) }
+    ensures orders { IfOk result (λ choice. choice.orders.items ≡ map (λ i. bid_order_of (bid_numbered books.now.bids.bids i) (gate_of choice.gated.items i)
+        ((taken_in books.now remaining.now run.quarter).mw i)) choice.numbers.items) }
 {
     let all = remaining.bids_of(run.quarter);
     let rivals = rivals_of(alloc, books, remaining, all)?;

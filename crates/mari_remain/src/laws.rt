@@ -20,7 +20,8 @@ use mari_units::MOST_PAGE;
 /// The call does nothing: its contract is the law.
 pub fn offers_are_kept(books: &Books)
     requires { IsAccepted books.now }
-    ensures offers { (blocks : List PastBlock) → AreFirstBlocks books.now blocks → (bid : ℕ) → mw_of blocks bid ≤ (bid_numbered books.now.bids.bids bid).greatest }
+    ensures offers { (blocks : List PastBlock) → AreFirstBlocks books.now blocks → (bid : ℕ)
+        → mw_of blocks bid ≤ (bid_numbered books.now.bids.bids bid).greatest }
     ensures once { (blocks : List PastBlock) (next : PastBlock) → AreFirstBlocks books.now blocks → IsNextBlock books.now blocks next
         → (bid : ℕ) → has_gate books.now.links bid ≡ true → (mw_of blocks bid ≡ 0) ⊎ (mw_in_block bid next ≡ 0) }
 {
@@ -55,7 +56,8 @@ pub fn migration_keeps_markets(books: &Books)
     ensures short { (length (borders_page books.now) ≤ MOST_PAGE) × (length (limits_page books.now) ≤ MOST_PAGE) }
 
     // With what they say in place of what the folder said, the books are accepted, and state the same limits.
-    ensures accepted { (borders : BorderBook) (limits : List (List Limits)) → AreRead books.now borders limits → IsAccepted (with_limits books.now borders limits) }
+    ensures accepted { (borders : BorderBook) (limits : List (List Limits)) → AreRead books.now borders limits
+        → IsAccepted (with_limits books.now borders limits) }
     ensures limits { (borders : BorderBook) (limits : List (List Limits)) → AreRead books.now borders limits
         → (run border : ℕ) → 1 ≤ run → run ≤ length books.now.runs.runs → border < length books.now.borders.borders
         → run_limits (with_limits books.now borders limits) run border ≡ run_limits books.now run border }

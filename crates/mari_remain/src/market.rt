@@ -288,7 +288,8 @@ impl Remaining {
     pub fn after(&mut self, books: &Books, run: u32, made: &RunMarket, activation: &Activation)
         requires accepted { IsAccepted books.now }
         requires last { run ≤ length books.now.runs.runs }
-        requires stands { (blocks : List PastBlock) × StandsFor books.now blocks self.old × (run ≡ length blocks + 1) × (made.now ≡ run_market_of books.now blocks run) }
+        requires stands { (blocks : List PastBlock) × StandsFor books.now blocks self.old × (run ≡ length blocks + 1)
+            × (made.now ≡ run_market_of books.now blocks run) }
         requires feasible { IsFeasible made.now.market activation.now }
 
         // Whatever list of blocks this stood for, it then stands for that list followed by this block.

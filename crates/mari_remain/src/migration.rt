@@ -104,7 +104,8 @@ fn put_borders(text: &mut Vec<u8>, zones: &ZoneBook, borders: &[BorderEnds]) -> 
 /// Appends the lines of every run.
 fn put_runs(alloc: Global, text: &mut Vec<u8>, books: &Books) -> Result<(), Memory>
     requires { IsAccepted books.now }
-    ensures { OnOk result (text.new.items ≡ text.old.items ++ flat_map line_of (flat_map (run_records books.now) (range_with_len 1 (length books.now.runs.runs)))) }
+    ensures { OnOk result
+        (text.new.items ≡ text.old.items ++ flat_map line_of (flat_map (run_records books.now) (range_with_len 1 (length books.now.runs.runs)))) }
 {
     for run in 0..books.runs.runs.as_slice().len() as u32 {
         put_run(alloc, text, books, run + 1)?;

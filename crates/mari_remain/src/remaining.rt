@@ -38,7 +38,14 @@ impl Model for Remaining {
 
     ghost Value = { Tally };
 
-    ghost view = { λ r. record { mw = r.mw.items; direct = r.direct.items; quarter = r.quarter; flow = r.flow.items; of_quarter = r.of_quarter.items; of_run = r.of_run.items } };
+    ghost view = { λ r. record {
+      mw = r.mw.items;
+      direct = r.direct.items;
+      quarter = r.quarter;
+      flow = r.flow.items;
+      of_quarter = r.of_quarter.items;
+      of_run = r.of_run.items;
+    } };
 }
 
 /// The quarter of each bid.

@@ -39,7 +39,8 @@ is_header columns fields = pointwise bytes_eq fields columns
 abbrev pub TestsNext : (width line : ℕ) → (old new : List (List (List ℕ))) → TestedRecord → Type 0
 TestsNext width line old new End = (old ≡ []) × (new ≡ [])
 TestsNext width line old new Fine = (fields : List (List ℕ)) × (old ≡ fields ∷ new) × (fault_of_row width (record { line = line; fields = fields }) ≡ None)
-TestsNext width line old new (Faulty fault) = (fields : List (List ℕ)) × (old ≡ fields ∷ new) × (fault_of_row width (record { line = line; fields = fields }) ≡ Some fault)
+TestsNext width line old new (Faulty fault) =
+    (fields : List (List ℕ)) × (old ≡ fields ∷ new) × (fault_of_row width (record { line = line; fields = fields }) ≡ Some fault)
 
 -- the same of the rows that are left
 abbrev pub TestsRow : (width : ℕ) → (old new : List Row) → TestedRecord → Type 0

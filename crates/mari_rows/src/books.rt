@@ -32,7 +32,8 @@ pub trait BookSoFar {
         requires { (earlier : List Line) × Holds self.old earlier × (length earlier < MOST_PAGE) }
         ensures same { grammar self.new ≡ grammar self.old }
         ensures takes { (earlier : List Line) → Holds self.old earlier
-            → TakesLine Self.Check.number result (first_failing ((grammar self.old).line_checks earlier line.now)) (λ _. Holds self.new (earlier ++ line.now ∷ [])) };
+            → TakesLine Self.Check.number result (first_failing ((grammar self.old).line_checks earlier line.now))
+            (λ _. Holds self.new (earlier ++ line.now ∷ [])) };
 
     /// The book of all lines, or the first check of the whole file that fails.
     fn end(self, alloc: Global) -> Result<Self::Book, LineFault<Self::Check>>

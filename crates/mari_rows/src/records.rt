@@ -186,7 +186,8 @@ impl<'a> Records<'a> {
         fields: &mut Fields,
     ) -> Result<bool, RowFault>
         ensures none { IfOk result (λ found. found ≡ false → (self.old ≡ []) × (self.new ≡ [])) }
-        ensures read { IfOk result (λ found. found ≡ true → (self.old ≡ fields.new ∷ self.new) × (fault_of_row width (record { line = line; fields = fields.new }) ≡ None)) }
+        ensures read { IfOk result
+            (λ found. found ≡ true → (self.old ≡ fields.new ∷ self.new) × (fault_of_row width (record { line = line; fields = fields.new }) ≡ None)) }
         ensures fault { IfErr result (IsFaultOf (rows_of_width width (rows_from line self.old))) }
         ensures err { OnErr result (self.new ≡ []) }
     {

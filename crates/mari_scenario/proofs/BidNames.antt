@@ -57,7 +57,8 @@ length-bid t j = omega (arith, length-append (codes "q" ++ decimal t ++ codes "b
 pub bid-name : (t j : ℕ) → t < 100 → j < 100 → is_name (bid t j) ≡ true
 bid-name t j a b =
     named (bid t j) (omega (arith, length-bid t j)) (omega (arith, length-bid t j, short t a, short j b))
-    (name-joined (codes "q" ++ decimal t ++ codes "b") (decimal j) (name-joined (codes "q" ++ decimal t) (codes "b") (name-joined (codes "q") (decimal t) refl (decimal-name t a)) refl) (decimal-name j b))
+    (name-joined (codes "q" ++ decimal t ++ codes "b") (decimal j)
+    (name-joined (codes "q" ++ decimal t) (codes "b") (name-joined (codes "q") (decimal t) refl (decimal-name t a)) refl) (decimal-name j b))
 
 -- they stand in a page without quotes
 pub provider-plain : (n : ℕ) → n < 100 → is_plain_field (provider n) ≡ true

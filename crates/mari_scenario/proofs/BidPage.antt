@@ -137,37 +137,38 @@ room n x state at few =
     grind (arith, nat_tests)
 
 bid-passes : (x n : ℕ) → n < 960 → Passes bid_line bid_records (bid_grammar the_zones 96) n x
-bid-passes x n few = one-line bid_line bid_records (bid_grammar the_zones 96) n x (bid_fields n state) refl (λ at. none-fails (line_checks the_zones 96 (bid_rows n x) (record { line = at; fields = bid_fields n state })) (
-  rw (
-    bid-name (n / 40 + 1) (n % 40 + 1) (omega arith) (omega arith),
-    provider-name (turn n) (omega arith),
-    decimal_whole (n / 40 + 1) (omega arith),
-    decimal_whole (least n state) small-least,
-    decimal_whole (greatest state) small-greatest,
-    cents-price (bid_price state) small-price,
-    direction-read (is_up state),
-    kind-read (is_both state),
-  ) refl,
-  (
-    new-id n x n (omega arith) few,
-    (
-      rw (drawn-known (zone_number state) (in-zones state)) refl,
+bid-passes x n few = one-line bid_line bid_records (bid_grammar the_zones 96) n x (bid_fields n state) refl
+    (λ at. none-fails (line_checks the_zones 96 (bid_rows n x) (record { line = at; fields = bid_fields n state })) (
+      rw (
+        bid-name (n / 40 + 1) (n % 40 + 1) (omega arith) (omega arith),
+        provider-name (turn n) (omega arith),
+        decimal_whole (n / 40 + 1) (omega arith),
+        decimal_whole (least n state) small-least,
+        decimal_whole (greatest state) small-greatest,
+        cents-price (bid_price state) small-price,
+        direction-read (is_up state),
+        kind-read (is_both state),
+      ) refl,
       (
-        rw (decimal_in 1 96 (n / 40 + 1) (omega arith) (omega arith) (omega arith)) refl,
+        new-id n x n (omega arith) few,
         (
-          rw (cents-within (bid_price state) (omega (arith, price-small state)), greatest-read, least-read) refl,
+          rw (drawn-known (zone_number state) (in-zones state)) refl,
           (
-            rw (greatest-read, least-read) (in-order (least n state) (greatest state) (least-small n state)),
+            rw (decimal_in 1 96 (n / 40 + 1) (omega arith) (omega arith) (omega arith)) refl,
             (
-              room n x state at few,
-              tt,
+              rw (cents-within (bid_price state) (omega (arith, price-small state)), greatest-read, least-read) refl,
+              (
+                rw (greatest-read, least-read) (in-order (least n state) (greatest state) (least-small n state)),
+                (
+                  room n x state at few,
+                  tt,
+                ),
+              ),
             ),
           ),
         ),
       ),
-    ),
-  ),
-))
+    ))
   where
     state : ℕ
     state = (lines bid_line n x).state

@@ -37,4 +37,5 @@ pub put-together : (t j x : ℕ) (before named placed offered done : List ℕ) (
     → done ≡ before ++ bid_text t j x
 put-together t j x before named placed offered done at up cents least most both a u c l m b n p o d =
     rw (d, o, p, n, a, u, c, l, m, b)
-    (joined before (bid t j) (provider ((j - 1) % 10 + 1)) (zone (1 + draw 1 8 x)) (decimal t) (direction (is_up x)) (printed_cents (bid_price x)) (decimal (bid_least j (greatest x))) (decimal (greatest x)) (kind (is_both x)))
+    (joined before (bid t j) (provider ((j - 1) % 10 + 1)) (zone (1 + draw 1 8 x)) (decimal t) (direction (is_up x)) (printed_cents (bid_price x)) (decimal (bid_least j (greatest x)))
+    (decimal (greatest x)) (kind (is_both x)))

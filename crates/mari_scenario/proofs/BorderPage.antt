@@ -80,22 +80,23 @@ limit-read : (n : ℕ) → n < 80 → number_in 0 99999 (decimal (20 + n)) ≡ S
 limit-read n few = decimal_in 0 99999 (20 + n) (omega arith) (omega arith) (omega arith)
 
 border-passes : (x n : ℕ) → n < 10 → Passes border_line border_records (border_grammar the_zones 1) n x
-border-passes x n few = one-line border_line border_records (border_grammar the_zones 1) n x (border_fields n state) refl (λ at. none-fails (border_checks the_zones 1 (border_rows n x) (border_row n state at)) (
-  (let e = length-rows n x in grind (arith, nat_tests)),
-  (
-    rw (ends-known n few) refl,
-    (
-      ends-apart n few,
+border-passes x n few =
+    one-line border_line border_records (border_grammar the_zones 1) n x (border_fields n state) refl (λ at. none-fails (border_checks the_zones 1 (border_rows n x) (border_row n state at)) (
+      (let e = length-rows n x in grind (arith, nat_tests)),
       (
-        new-ends x state at n few,
+        rw (ends-known n few) refl,
         (
-          rw (limit-read (draw 1 80 state) (draw-lt 1 80 state (omega arith)), limit-read (draw 2 80 state) (draw-lt 2 80 state (omega arith))) refl,
-          tt,
+          ends-apart n few,
+          (
+            new-ends x state at n few,
+            (
+              rw (limit-read (draw 1 80 state) (draw-lt 1 80 state (omega arith)), limit-read (draw 2 80 state) (draw-lt 2 80 state (omega arith))) refl,
+              tt,
+            ),
+          ),
         ),
       ),
-    ),
-  ),
-))
+    ))
   where
     state : ℕ
     state = (lines border_line n x).state

@@ -121,22 +121,23 @@ room n x state at few =
     grind (arith, nat_tests)
 
 demand-passes : (x n : ℕ) → n < 192 → Passes demand_line demand_records (demand_grammar the_zones 24) n x
-demand-passes x n few = one-line demand_line demand_records (demand_grammar the_zones 24) n x (demand_fields n state) refl (λ at. none-fails (line_checks the_zones 24 (demand_rows n x) (record { line = at; fields = demand_fields n state })) (
-  rw (decimal_whole (n / 8 + 1) (omega arith), signed-whole (quantity state) (omega (arith, quantity-small state)), price-read (is_elastic state) n state at) refl,
-  (
-    rw (decimal_in 1 24 (n / 8 + 1) (omega arith) (omega arith) (omega arith)) refl,
-    (
-      rw (zone-known (n % 8) (mod-lt n (omega arith))) refl,
+demand-passes x n few = one-line demand_line demand_records (demand_grammar the_zones 24) n x (demand_fields n state) refl
+    (λ at. none-fails (line_checks the_zones 24 (demand_rows n x) (record { line = at; fields = demand_fields n state })) (
+      rw (decimal_whole (n / 8 + 1) (omega arith), signed-whole (quantity state) (omega (arith, quantity-small state)), price-read (is_elastic state) n state at) refl,
       (
-        rw (signed-whole (quantity state) (omega (arith, quantity-small state)), quantity-within state, price-within (is_elastic state) n state at) refl,
+        rw (decimal_in 1 24 (n / 8 + 1) (omega arith) (omega arith) (omega arith)) refl,
         (
-          room n x state at few,
-          tt,
+          rw (zone-known (n % 8) (mod-lt n (omega arith))) refl,
+          (
+            rw (signed-whole (quantity state) (omega (arith, quantity-small state)), quantity-within state, price-within (is_elastic state) n state at) refl,
+            (
+              room n x state at few,
+              tt,
+            ),
+          ),
         ),
       ),
-    ),
-  ),
-))
+    ))
   where
     state : ℕ
     state = (lines demand_line n x).state

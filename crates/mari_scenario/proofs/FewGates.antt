@@ -27,15 +27,23 @@ other-number a k fifth other = by (eqb_tells a k)
 no-such-member : (n k : ℕ) → ((k + 1) % 5 == 0) ≡ false → list_any (λ (m : Member). m.bid == k) (members n) ≡ false
 no-such-member zero k other = refl
 no-such-member (suc n) k other =
-    rw
-    (list_any-append (λ (m : Member). m.bid == k) (members n) (member n 9 ∷ member n 14 ∷ []), no-such-member n k other, other-number (40 * n + 9) k (omega arith) other, other-number (40 * n + 14) k (omega arith) other)
+    rw (
+      list_any-append (λ (m : Member). m.bid == k) (members n) (member n 9 ∷ member n 14 ∷ []),
+      no-such-member n k other,
+      other-number (40 * n + 9) k (omega arith) other,
+      other-number (40 * n + 14) k (omega arith) other,
+    )
     refl
 
 no-such-child : (n k : ℕ) → ((k + 1) % 5 == 0) ≡ false → list_any (λ (link : Link). (link.first == k) || (link.second == k)) (children n) ≡ false
 no-such-child zero k other = refl
 no-such-child (suc n) k other =
-    rw
-    (list_any-append (λ (link : Link). (link.first == k) || (link.second == k)) (children n) (child n ∷ []), no-such-child n k other, other-number (40 * n + 24) k (omega arith) other, other-number (40 * n + 19) k (omega arith) other)
+    rw (
+      list_any-append (λ (link : Link). (link.first == k) || (link.second == k)) (children n) (child n ∷ []),
+      no-such-child n k other,
+      other-number (40 * n + 24) k (omega arith) other,
+      other-number (40 * n + 19) k (omega arith) other,
+    )
     refl
 
 module _ (bids : BidBook) (named : (n j : ℕ) → n < 24 → j < 40 → bid_named bids (bid (n + 1) (j + 1)) ≡ Some (40 * n + j))

@@ -100,8 +100,12 @@ apart a b lt = grind (arith, nat_tests)
 no-member : (n b : ℕ) → 40 * n ≤ b → list_any (λ (other : Member). other.bid == b) (members n) ≡ false
 no-member zero b past = refl
 no-member (suc n) b past =
-    rw
-    (list_any-append (λ (other : Member). other.bid == b) (members n) (member n 9 ∷ member n 14 ∷ []), no-member n b (omega arith), apart (40 * n + 9) b (omega arith), apart (40 * n + 14) b (omega arith))
+    rw (
+      list_any-append (λ (other : Member). other.bid == b) (members n) (member n 9 ∷ member n 14 ∷ []),
+      no-member n b (omega arith),
+      apart (40 * n + 9) b (omega arith),
+      apart (40 * n + 14) b (omega arith),
+    )
     refl
 
 no-child : (n b : ℕ) → 40 * n ≤ b → list_any (λ (link : Link). link.first == b) (children n) ≡ false

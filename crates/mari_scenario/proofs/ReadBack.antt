@@ -53,8 +53,13 @@ cents-after n small =
     let euros = decimal (n / 100) in
     let rest = (48 + n % 100 / 10) ∷ (48 + n % 10) ∷ [] in
     let digits = digits_decimal own (n / 100) (omega arith) in
-    rw
-    (point-at euros rest digits, take-append_seam euros (46 ∷ rest), drop-append-add euros (46 ∷ rest) 1, decimal_natural (n / 100) (omega arith), two-digits (n % 100 / 10) (n % 10) (omega arith) (omega arith))
+    rw (
+      point-at euros rest digits,
+      take-append_seam euros (46 ∷ rest),
+      drop-append-add euros (46 ∷ rest) 1,
+      decimal_natural (n / 100) (omega arith),
+      two-digits (n % 100 / 10) (n % 10) (omega arith) (omega arith),
+    )
     (ap Some (omega arith))
 
 -- a price

@@ -47,8 +47,13 @@ of-price : (z : ℤ) → unsigned_abs z < 2 ^ 64 → length (printed_cents z) �
 of-price z small =
     let n = unsigned_abs z in
     let sign = sign_of (int_lt z (pos 0)) in
-    omega
-    (arith, length-append (sign ++ decimal (n / 100)) (46 ∷ (48 + n % 100 / 10) ∷ (48 + n % 10) ∷ []), length-append sign (decimal (n / 100)), of-sign (int_lt z (pos 0)), number (n / 100) (omega arith))
+    omega (
+      arith,
+      length-append (sign ++ decimal (n / 100)) (46 ∷ (48 + n % 100 / 10) ∷ (48 + n % 10) ∷ []),
+      length-append sign (decimal (n / 100)),
+      of-sign (int_lt z (pos 0)),
+      number (n / 100) (omega arith),
+    )
 
 of-whole : (z : ℤ) → unsigned_abs z < 2 ^ 64 → length (signed_decimal z) ≤ 21
 of-whole (pos n) small = omega (arith, number n small)
@@ -95,7 +100,8 @@ bid-size i x few =
     let least = bid_least j (greatest x) in
     omega (
       arith,
-      length-line (bid t j) (provider ((j - 1) % 10 + 1) ∷ zone (1 + draw 1 8 x) ∷ decimal t ∷ direction (is_up x) ∷ printed_cents (bid_price x) ∷ decimal least ∷ decimal (greatest x) ∷ kind (is_both x) ∷ []),
+      length-line (bid t j)
+          (provider ((j - 1) % 10 + 1) ∷ zone (1 + draw 1 8 x) ∷ decimal t ∷ direction (is_up x) ∷ printed_cents (bid_price x) ∷ decimal least ∷ decimal (greatest x) ∷ kind (is_both x) ∷ []),
       of-bid t j (omega arith) (omega arith),
       of-provider ((j - 1) % 10 + 1) (omega arith),
       of-zone (1 + draw 1 8 x) (omega (arith, draw-lt 1 8 x (omega arith))),
@@ -130,8 +136,12 @@ run-size : (i x : ℕ) → i < 24 → length (run_line i x).text ≤ 250
 unfolding scheduled_word
 run-size i x few =
     let reference = pos (4000 + draw 1 4000 x) in
-    omega
-    (arith, length-line (decimal (i + 1)) (decimal (i + 1) ∷ scheduled_word ∷ printed_cents reference ∷ []), number (i + 1) (omega arith), of-price reference (omega (arith, draw-lt 1 4000 x (omega arith))))
+    omega (
+      arith,
+      length-line (decimal (i + 1)) (decimal (i + 1) ∷ scheduled_word ∷ printed_cents reference ∷ []),
+      number (i + 1) (omega arith),
+      of-price reference (omega (arith, draw-lt 1 4000 x (omega arith))),
+    )
 
 demand-by : (i x : ℕ) (price : List ℕ) → i < 192 → length price ≤ 24 → length (demand_text i x price) ≤ 250
 demand-by i x price few small =

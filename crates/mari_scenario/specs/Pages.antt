@@ -169,4 +169,5 @@ before_demands number = (runs_at (before_runs number)).state
 
 -- the seven pages of a number
 unfoldable pub scenario_at : ℕ → Pages
-scenario_at number = pages_by (borders_at number).text (bids_at (before_bids number)).text (runs_at (before_runs number)).text (demands_at (before_demands number)).text
+scenario_at number =
+    pages_by (borders_at number).text (bids_at (before_bids number)).text (runs_at (before_runs number)).text (demands_at (before_demands number)).text

@@ -302,7 +302,8 @@ pub fn put_run_line(alloc: Global, out: &mut Vec<u8>, i: u32, state: u32) -> Res
 /// Appends the fields of demand number `i + 1` before its price, by the state after its first draw.
 fn put_demand_fields(alloc: Global, out: &mut Vec<u8>, i: u32, size: u32) -> Result<(), Memory>
     requires { i < 192 }
-    ensures { OnOk result (out.new.items ≡ out.old.items ++ decimal (i / 8 + 1) ++ 44 ∷ zone (i % 8 + 1) ++ 44 ∷ signed_decimal (pos (below_of 61 size) -ℤ pos 20) ++ 44 ∷ []) }
+    ensures { OnOk result
+        (out.new.items ≡ out.old.items ++ decimal (i / 8 + 1) ++ 44 ∷ zone (i % 8 + 1) ++ 44 ∷ signed_decimal (pos (below_of 61 size) -ℤ pos 20) ++ 44 ∷ []) }
 {
     put_number(alloc, out, u128::from(i / 8 + 1))?;
     put_comma(out)?;

@@ -132,7 +132,8 @@ fn add_zones(alloc: Global, pages: &mut Vec<Page>) -> Result<(), Memory>
 
 /// Adds the page of the borders, from the state before them.
 fn add_borders(alloc: Global, pages: &mut Vec<Page>, number: u32) -> Result<u32, Memory>
-    ensures page { OnOk result (pages_of pages.new.items ≡ with_page (pages_of pages.old.items) (codes "s/borders.csv") (border_columns ++ 10 ∷ (borders_at number).text)) }
+    ensures page { OnOk result
+        (pages_of pages.new.items ≡ with_page (pages_of pages.old.items) (codes "s/borders.csv") (border_columns ++ 10 ∷ (borders_at number).text)) }
     ensures state { IfOk result (λ after. after ≡ (borders_at number).state) }
 {
     let mut text = text_of(alloc, b"from,to,limit,back\n")?;
@@ -143,7 +144,8 @@ fn add_borders(alloc: Global, pages: &mut Vec<Page>, number: u32) -> Result<u32,
 
 /// Adds the page of the bids, from the state before them.
 fn add_bids(alloc: Global, pages: &mut Vec<Page>, number: u32) -> Result<u32, Memory>
-    ensures page { OnOk result (pages_of pages.new.items ≡ with_page (pages_of pages.old.items) (codes "s/bids.csv") (bid_columns ++ 10 ∷ (bids_at number).text)) }
+    ensures page { OnOk result
+        (pages_of pages.new.items ≡ with_page (pages_of pages.old.items) (codes "s/bids.csv") (bid_columns ++ 10 ∷ (bids_at number).text)) }
     ensures state { IfOk result (λ after. after ≡ (bids_at number).state) }
 {
     let mut text = text_of(
@@ -166,7 +168,8 @@ fn add_links(alloc: Global, pages: &mut Vec<Page>) -> Result<(), Memory>
 
 /// Adds the page of the runs, from the state before them.
 fn add_runs(alloc: Global, pages: &mut Vec<Page>, number: u32) -> Result<u32, Memory>
-    ensures page { OnOk result (pages_of pages.new.items ≡ with_page (pages_of pages.old.items) (codes "s/runs.csv") (run_columns ++ 10 ∷ (runs_at number).text)) }
+    ensures page { OnOk result
+        (pages_of pages.new.items ≡ with_page (pages_of pages.old.items) (codes "s/runs.csv") (run_columns ++ 10 ∷ (runs_at number).text)) }
     ensures state { IfOk result (λ after. after ≡ (runs_at number).state) }
 {
     let mut text = text_of(alloc, b"run,quarter,kind,reference\n")?;
@@ -177,7 +180,8 @@ fn add_runs(alloc: Global, pages: &mut Vec<Page>, number: u32) -> Result<u32, Me
 
 /// Adds the page of the demands, from the state before them.
 fn add_demands(alloc: Global, pages: &mut Vec<Page>, number: u32) -> Result<(), Memory>
-    ensures { OnOk result (pages_of pages.new.items ≡ with_page (pages_of pages.old.items) (codes "s/demands.csv") (demand_columns ++ 10 ∷ (demands_at number).text)) }
+    ensures { OnOk result
+        (pages_of pages.new.items ≡ with_page (pages_of pages.old.items) (codes "s/demands.csv") (demand_columns ++ 10 ∷ (demands_at number).text)) }
 {
     let mut text = text_of(alloc, b"run,zone,mw,price\n")?;
     put_demands(alloc, &mut text, number)?;

@@ -116,7 +116,8 @@ rents_by_operators zones m a ps h e v =
     let n = length zones.operators in
     let share = λ (k : ℕ) (b : Border) (f : ℤ). share_of (operator_at zones b.from) (operator_at zones b.to) k (rent_of ps b f) in
     spread (λ k. pos 1) n (rent_of ps) share (IsValidBorder m.zones)
-    (λ b f k. shares_sum (operator_at zones b.from) (operator_at zones b.to) n (rent_of ps b f) (operator_there zones h b.from (omega (arith, e, k.from))) (operator_there zones h b.to (omega (arith, e, k.to))))
+    (λ b f k. shares_sum (operator_at zones b.from) (operator_at zones b.to) n (rent_of ps b f) (operator_there zones h b.from (omega (arith, e, k.from)))
+    (operator_there zones h b.to (omega (arith, e, k.to))))
     m.borders a.flow v.borders
     ∙ sum_below-same n (λ k. pos 1 *ℤ operator_rent zones m a ps k) (operator_rent zones m a ps) (λ k l. one_times (operator_rent zones m a ps k))
 

@@ -51,7 +51,10 @@ pub sum_is_within : (m n : ℕ) (a b c : Ledger) → LedgersAddUp a b
     → c.providers ≡ map_along together a.providers b.providers → c.rents ≡ map_along together a.rents b.rents
     → LedgerIsWithin m a → LedgerIsWithin n b → LedgerIsWithin (m + n) c
 sum_is_within m n a b c sums os ps rs h l = record {
-  operators = rw os (sums_within lines_together (LineIsWithin m) (LineIsWithin n) (LineIsWithin (m + n)) (lines_within m n) a.operators b.operators (sym (AllZip-long LinesAddUp a.operators b.operators sums.operators)) h.operators l.operators);
-  providers = rw ps (sums_within together (MoneyIsWithin m) (MoneyIsWithin n) (MoneyIsWithin (m + n)) (sum_within m n) a.providers b.providers (sym (AllZip-long AddUp a.providers b.providers sums.providers)) h.providers l.providers);
-  rents = rw rs (sums_within together (MoneyIsWithin m) (MoneyIsWithin n) (MoneyIsWithin (m + n)) (sum_within m n) a.rents b.rents (sym (AllZip-long AddUp a.rents b.rents sums.rents)) h.rents l.rents);
+  operators = rw os (sums_within lines_together (LineIsWithin m) (LineIsWithin n) (LineIsWithin (m + n)) (lines_within m n) a.operators b.operators
+      (sym (AllZip-long LinesAddUp a.operators b.operators sums.operators)) h.operators l.operators);
+  providers = rw ps (sums_within together (MoneyIsWithin m) (MoneyIsWithin n) (MoneyIsWithin (m + n)) (sum_within m n) a.providers b.providers
+      (sym (AllZip-long AddUp a.providers b.providers sums.providers)) h.providers l.providers);
+  rents =
+      rw rs (sums_within together (MoneyIsWithin m) (MoneyIsWithin n) (MoneyIsWithin (m + n)) (sum_within m n) a.rents b.rents (sym (AllZip-long AddUp a.rents b.rents sums.rents)) h.rents l.rents);
 }

@@ -76,7 +76,8 @@ fn share_of_border(
     requires border { IsValidBorder (length prices.now) border.now }
     requires prices { All IsCapped prices.now }
     requires flow { IsWithinLimits border.now flow }
-    ensures value { result ≡ share_of (operator_at zones.now border.now.from) (operator_at zones.now border.now.to) operator (rent_at prices.now border.now flow) }
+    ensures value { result ≡ share_of (operator_at zones.now border.now.from) (operator_at zones.now border.now.to) operator
+        (rent_at prices.now border.now flow) }
     ensures small { unsigned_abs result ≤ 2 * MOST_WORTH }
 {
     let first = operator_of(zones, border.from) == operator;

@@ -101,7 +101,8 @@ fn pay_all(
 
     // Each provider's sum, which never runs over.
     ensures lengths { length amounts.new ≡ length bids.now.providers }
-    ensures paid { (k : ℕ) → amount_at amounts.new k ≡ sum_along (λ number q. bid_amount prices.now scheduled.now k (slice_get bids.now.bids number) q) numbers.now mw.now }
+    ensures paid { (k : ℕ)
+        → amount_at amounts.new k ≡ sum_along (λ number q. bid_amount prices.now scheduled.now k (slice_get bids.now.bids number) q) numbers.now mw.now }
     ensures small { (k : ℕ) → unsigned_abs (amount_at amounts.new k) ≤ MOST_ORDERS * MOST_EARNED }
 {
     for (i, number) in numbers.iter().enumerate() {

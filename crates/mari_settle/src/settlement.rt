@@ -58,7 +58,8 @@ pub fn settle_run(
 
     // Exactly the run's operators' lines, providers' amounts and rents, whatever stood there.
     ensures operators { ledger.new.operators ≡ operator_lines zones.now market.now activation.now prices.now.cents }
-    ensures providers { ledger.new.providers ≡ provider_amounts bids.now numbers.now activation.now prices.now.cents (scheduled_or_in prices.now.cents (option_map (λ scheduled. scheduled.now.cents) also.entry)) }
+    ensures providers { ledger.new.providers ≡ provider_amounts bids.now numbers.now activation.now prices.now.cents
+        (scheduled_or_in prices.now.cents (option_map (λ scheduled. scheduled.now.cents) also.entry)) }
     ensures rents { ledger.new.rents ≡ rents_of market.now activation.now prices.now.cents }
 
     // No border loses, and what all operators pay and get sums to 0.
@@ -67,7 +68,8 @@ pub fn settle_run(
 
     // So a day's ledgers can be added up.
     ensures small { HasSmallNumbers ledger.new }
-    ensures providers_small { All (λ q. q ≤ MOST_BID_MW) (take (length numbers.now) activation.now.mw) → All (MoneyIsWithin most_of_provider) ledger.new.providers }
+    ensures providers_small { All (λ q. q ≤ MOST_BID_MW) (take (length numbers.now) activation.now.mw)
+        → All (MoneyIsWithin most_of_provider) ledger.new.providers }
     ensures operators_small { All (LineIsWithin most_of_operator) ledger.new.operators }
 {
     let prices = prices.cents.as_slice();

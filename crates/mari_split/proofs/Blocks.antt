@@ -82,7 +82,8 @@ trees_fit budget small (i ∷ islands) (c ∷ clearings) a =
     (trees_fit budget small islands clearings a.1)
 trees_fit budget small _ _ a = absurd a
 
-module _ (m : Market) (v : IsValid m) (budget : ℕ) (islands : List Island) (are : AreIslands m islands) (joined : Joined) (clearings : List Clearing) (published : ArePublished m islands budget joined clearings) where
+module _ (m : Market) (v : IsValid m) (budget : ℕ) (islands : List Island) (are : AreIslands m islands) (joined : Joined) (clearings : List Clearing)
+    (published : ArePublished m islands budget joined clearings) where
   pub run_fits : (b : FullBlock) → budget ≤ 50000 → MarketFits b → RunFits (record { block = b; islands = islands; clearings = clearings })
   run_fits b small fits = record {
     market = fits;

@@ -48,7 +48,8 @@ module _ (books : Books) (budget : ℕ) (blocks : List SplitBlock) (day : IsSpli
   is_out k (split.Published r) e is = tt
   is_out k (split.Unpublished heading island count) e is =
       let l = slice_get_within blocks k (split.Unpublished heading island count) e in
-      let here = enough (take k blocks) is.islands (part_of books budget blocks k day.part (omega (arith, l))) (omega (arith, l, day.every, length-take-le k blocks (omega (arith, l)))) is.are_islands in
+      let here =
+      enough (take k blocks) is.islands (part_of books budget blocks k day.part (omega (arith, l))) (omega (arith, l, day.every, length-take-le k blocks (omega (arith, l)))) is.are_islands in
       none_spent budget count is.place is.islands here is.spent
 
   pub all_published : unpublished_in (blocks_of blocks) ≡ 0

@@ -32,7 +32,8 @@ module _ (books : Books) (ok : IsAccepted books) (budget : ℕ) (blocks : List S
       by : (o : Option SplitBlock) → slice_get blocks k ≡ o → option_map block_of o ≡ Some b → IsSoundBlock books (take k (blocks_of blocks)) b
       by None f g = absurd (none-some b g)
       by (Some s) f g =
-          let own : IsSoundBlock books (take k (blocks_of blocks)) (block_of s) = subst (λ (bs : List Block). IsSoundBlock books bs (block_of s)) (sym (take-map block_of k blocks)) (sound_block books budget (take k blocks) s (part.each k s f)) in
+          let own : IsSoundBlock books (take k (blocks_of blocks)) (block_of s) =
+          subst (λ (bs : List Block). IsSoundBlock books bs (block_of s)) (sym (take-map block_of k blocks)) (sound_block books budget (take k blocks) s (part.each k s f)) in
           subst (IsSoundBlock books (take k (blocks_of blocks))) (same_Some (block_of s) b g) own
 
   -- no bid above its offer

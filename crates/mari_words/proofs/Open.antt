@@ -91,7 +91,8 @@ module _ (verb : Verb) (rows : List Row) (pending : Pending) (words : List Text)
             pending = None;
             is = rw (e, l, long) refl;
             few = few;
-            state = state_now verb Nodes (settled_rows (rules verb) pending rows) text (values (mk words None workers None false)) (mk words (Some text) workers None false) st.1 refl (with_nodes text words None workers false);
+            state = state_now verb Nodes (settled_rows (rules verb) pending rows) text (values (mk words None workers None false)) (mk words (Some text) workers None false) st.1 refl
+                (with_nodes text words None workers false);
           },
         )
 
@@ -107,7 +108,8 @@ module _ (verb : Verb) (rows : List Row) (pending : Pending) (words : List Text)
             pending = None;
             is = rw (e, l, long) refl;
             few = few;
-            state = state_now verb Workers (settled_rows (rules verb) pending rows) text (values (mk words nodes None None false)) (mk words nodes (Some text) None false) st.1 refl (with_workers text words nodes None false);
+            state = state_now verb Workers (settled_rows (rules verb) pending rows) text (values (mk words nodes None None false)) (mk words nodes (Some text) None false) st.1 refl
+                (with_workers text words nodes None false);
           },
         )
 

@@ -106,7 +106,8 @@ closed_not_cut m cut v h = cut_is_empty (bounds_of_word m (all_closed m)) m (idl
 
 -- ---- what is tight is consistent where every gate is closed
 
-closed_order : (n : ℕ) (opens : ℕ → Bool) (gate : Option ℕ) (side : Side) (c p : ℤ) (o : Order) (q : ℕ) → ((g : ℕ) → g < n → opens g ≡ false) → MatchOption gate (o.least ≡ 0) (λ g. (g < n) × (1 ≤ o.least)) → IsTightTrade side c p (span_of (λ g. if opens g then Open else Closed) gate o) q → IsConsistentTrade (standing_of opens gate) side c o.greatest q p
+closed_order : (n : ℕ) (opens : ℕ → Bool) (gate : Option ℕ) (side : Side) (c p : ℤ) (o : Order) (q : ℕ) → ((g : ℕ) → g < n → opens g ≡ false) → MatchOption gate (o.least ≡ 0)
+    (λ g. (g < n) × (1 ≤ o.least)) → IsTightTrade side c p (span_of (λ g. if opens g then Open else Closed) gate o) q → IsConsistentTrade (standing_of opens gate) side c o.greatest q p
 closed_order n opens None side c p o q shut fits h = plain_consistent side c p o.greatest q h
 closed_order n opens (Some g) side c p o q shut fits h =
     subst (λ (b : Bool). IsConsistentTrade (if b then InOpen else InClosed) side c o.greatest q p) (sym (shut g fits.0)) (record { lower = λ no. absurd no; upper = λ no. absurd no })

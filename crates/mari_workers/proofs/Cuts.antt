@@ -62,7 +62,8 @@ child_feasible m x y f l e cleared = record { word = subst (IsFeasibleWord m.gat
 -- the prefix of a branch is a node, since those below it are
 pub node_here : (m : Market) (w : ℕ) (x : Prefix) (done left : List TreeItem) → IsValid m → IsAtItem m w x Branch done left → IsNode m (word_of x)
 node_here m w x done left v h =
-    let all = search_parts m (left_at m.gates (Some x)) (Branch ∷ reverse left) v (AreParts-map m (IsOldLeaf m w) (λ word leaf. IsNode m word) (λ word leaf k. k.node) (left_at m.gates (Some x)) (Branch ∷ reverse left) h.after) in
+    let all = search_parts m (left_at m.gates (Some x)) (Branch ∷ reverse left) v
+    (AreParts-map m (IsOldLeaf m w) (λ word leaf. IsNode m word) (λ word leaf k. k.node) (left_at m.gates (Some x)) (Branch ∷ reverse left) h.after) in
     all.1.0
 
 -- a branch stays
@@ -112,7 +113,8 @@ record AfterLonger (gates : List GateInfo) (word : List Bool) (waits : List (Lis
 
 next_longer : (gates : List GateInfo) (word w : List Bool) (waits below : List (List Bool)) → length word < length w
     → (w ∷ waits) ≡ below ++ waiting_after gates word → AreLonger word below → AfterLonger gates word waits
-next_longer gates word w waits [] l e a = let within : AreWithin (length word) (w ∷ waits) = subst (AreWithin (length word)) (sym e) (waiting_within gates word (length word) (length word) (omega arith)) in absurd (omega (arith, l, within.0))
+next_longer gates word w waits [] l e a = let within : AreWithin (length word) (w ∷ waits) =
+    subst (AreWithin (length word)) (sym e) (waiting_within gates word (length word) (length word) (omega arith)) in absurd (omega (arith, l, within.0))
 next_longer gates word w waits (v ∷ vs) l e a = record { rest = vs; waits_are = cc; longer = a.1 }
 
 -- and where the next word is no longer none is left below
@@ -139,7 +141,8 @@ below_branch m w x y done left h e cleared =
     record {
       below = children m.gates (word_of x);
       left_is = there;
-      longer = subst (AreLonger (word_of x)) (append-nil (children m.gates (word_of x))) (children_longer (word_of x) (word_of x) (may_open m.gates (word_of x) (length (word_of x))) [] (omega arith) tt);
+      longer =
+          subst (AreLonger (word_of x)) (append-nil (children m.gates (word_of x))) (children_longer (word_of x) (word_of x) (may_open m.gates (word_of x) (length (word_of x))) [] (omega arith) tt);
       after = subst (λ (ws : List (List Bool)). AreParts m (IsOldLeaf m w) ws (reverse left)) (sym there) h.after.1;
       feasible = child_feasible m x y h.feasible h.after.0 e cleared;
     }
@@ -175,7 +178,8 @@ branch_dropped m w word at y left more h e l child cleared =
     let taken = below_taken m w word at Branch left more h e in
     record {
       below = children m.gates (word_of at) ++ after.rest;
-      left_is = there ∙ ap (λ (ws : List (List Bool)). children m.gates (word_of at) ++ ws) after.waits_are ∙ sym (append_assoc (children m.gates (word_of at)) after.rest (waiting_after m.gates word));
+      left_is =
+          there ∙ ap (λ (ws : List (List Bool)). children m.gates (word_of at) ++ ws) after.waits_are ∙ sym (append_assoc (children m.gates (word_of at)) after.rest (waiting_after m.gates word));
       longer = children_longer word (word_of at) (may_open m.gates (word_of at) (length (word_of at))) after.rest (omega (arith, l)) after.longer;
       after = subst (λ (ws : List (List Bool)). AreParts m (IsOldLeaf m w) ws (reverse left)) (sym there) taken.1;
       feasible = child_feasible m at y h.feasible taken.0 child cleared;

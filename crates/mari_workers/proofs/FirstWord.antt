@@ -22,7 +22,8 @@ begun m word a e = subst (λ (w : List Bool). Begins w (is_open m a)) (sym e) (b
 -- something lies within its bounds
 pub not_empty : (m : Market) (word : List Bool) (a : Activation) (f : Finding) → IsValid m → IsOptimal m a
     → word ≡ gate_word_of m a → IsFinding m word f → ((r : RelaxedRecord) → f ≡ Relaxed r → ⊥) → ⊥
-not_empty m word a (Empty cut) v o e h none = let low : welfare_of m a ≤ℤ (welfare_of m a -ℤ pos 1) = leaf_sound m (welfare_of m a -ℤ pos 1) word (Cut cut) a v h o.admissible (begun m word a e) in absurd (omega (arith, ints, low))
+not_empty m word a (Empty cut) v o e h none =
+    let low : welfare_of m a ≤ℤ (welfare_of m a -ℤ pos 1) = leaf_sound m (welfare_of m a -ℤ pos 1) word (Cut cut) a v h o.admissible (begun m word a e) in absurd (omega (arith, ints, low))
 not_empty m word a (Relaxed r) v o e h none = none r refl
 
 full_word : (m : Market) (word : List Bool) (a : Activation) → word ≡ gate_word_of m a → length word ≡ length m.gates

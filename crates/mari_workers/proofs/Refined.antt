@@ -83,8 +83,12 @@ pub found_clears : (m : Market) (aim : Aim) (x : Prefix) (a : Activation) (done 
 found_clears m aim x a done left items v h e =
     let P : List Bool → LeafRecord → Type 0 = LeafHoldsFor m (pos aim.welfare) (word_of x) in
     let full : length (word_of x) ≡ length m.gates = sym (ap length h.gates_are) ∙ length-gate_word_of m a in
-    let front : LeavesWords m P ([] ∷ []) done (left_at m.gates (Some x)) = leaves_map m (IsNewLeaf m aim.welfare (word_of aim.word)) P (λ word leaf k. record { holds = k.holds.holds; early = λ b. k.holds.early (before_both word (word_of x) (word_of aim.word) b h.early) }) ([] ∷ []) done (left_at m.gates (Some x)) h.walk.before in
-    let whole : TreeHoldsFor m (pos aim.welfare) (word_of x) (done ++ reverse left) = parts_join m P ([] ∷ []) done (reverse left) (left_at m.gates (Some x)) front (rest_for m aim x (reverse left) full h.walk.after) in
+    let front : LeavesWords m P ([] ∷ []) done (left_at m.gates (Some x)) = leaves_map m (IsNewLeaf m aim.welfare (word_of aim.word)) P (λ word leaf k. record {
+      holds = k.holds.holds;
+      early = λ b. k.holds.early (before_both word (word_of x) (word_of aim.word) b h.early);
+    }) ([] ∷ []) done (left_at m.gates (Some x)) h.walk.before in
+    let whole : TreeHoldsFor m (pos aim.welfare) (word_of x) (done ++ reverse left) =
+    parts_join m P ([] ∷ []) done (reverse left) (left_at m.gates (Some x)) front (rest_for m aim x (reverse left) full h.walk.after) in
     clears_by m aim.budget aim.welfare (word_of x) a items v h.admissible h.welfare h.gates_are (subst (TreeHoldsFor m (pos aim.welfare) (word_of x)) (sym e) whole)
     (omega (arith, h.walk.within, ap length e, length-append done (reverse left), length-reverse left))
 
@@ -122,18 +126,29 @@ crowded_spends m aim x done left whole items v h e f =
     let O : List Bool → LeafRecord → Type 0 = IsOldLeaf m aim.welfare in
     let kids : List (List Bool) = children m.gates (word_of x) in
     let waits : List (List Bool) = waiting_after m.gates (word_of x) in
-    let front : LeavesWords m O ([] ∷ []) done (word_of x ∷ waits) = leaves_map m (IsNewLeaf m aim.welfare (word_of aim.word)) O (λ word leaf k. record { holds = k.holds.holds; node = k.node }) ([] ∷ []) done (word_of x ∷ waits) h.walk.before in
+    let front : LeavesWords m O ([] ∷ []) done (word_of x ∷ waits) =
+    leaves_map m (IsNewLeaf m aim.welfare (word_of aim.word)) O (λ word leaf k. record { holds = k.holds.holds; node = k.node }) ([] ∷ []) done (word_of x ∷ waits) h.walk.before in
     let after : AreParts m O (word_of x ∷ waits) (Leaf h.leaf ∷ h.rest) = subst (AreParts m O (word_of x ∷ waits)) h.left_is h.walk.after in
     let all : AreParts m O ([] ∷ []) (done ++ Leaf h.leaf ∷ h.rest) = parts_join m O ([] ∷ []) done (Leaf h.leaf ∷ h.rest) (word_of x ∷ waits) front after in
     let more : AreParts m O ([] ∷ []) (done ++ Branch ∷ (map (λ (w : List Bool). Leaf h.leaf) kids ++ h.rest)) =
-    parts_join m O ([] ∷ []) done (Branch ∷ (map (λ (w : List Bool). Leaf h.leaf) kids ++ h.rest)) (word_of x ∷ waits) front (h.crowded.undecided, leaves_then m O h.leaf kids waits h.rest h.below after.1) in
+    parts_join m O ([] ∷ []) done (Branch ∷ (map (λ (w : List Bool). Leaf h.leaf) kids ++ h.rest)) (word_of x ∷ waits) front
+    (h.crowded.undecided, leaves_then m O h.leaf kids waits h.rest h.below after.1) in
     let same : items ≡ map shape_of (done ++ Leaf h.leaf ∷ h.rest) = f ∙ ap (map shape_of) (e ∙ ap (λ (is : List TreeItem). done ++ is) h.left_is) in
-    let count : length items ≡ length done + length left = ap length same ∙ length-map (done ++ Leaf h.leaf ∷ h.rest) shape_of ∙ omega (arith, length-append done (Leaf h.leaf ∷ h.rest), sym (ap length h.left_is), length-reverse left) in
+    let count : length items ≡ length done + length left =
+    ap length same ∙ length-map (done ++ Leaf h.leaf ∷ h.rest) shape_of ∙ omega (arith, length-append done (Leaf h.leaf ∷ h.rest), sym (ap length h.left_is), length-reverse left) in
     let long : length left ≡ suc (length h.rest) = omega (arith, ap length h.left_is, length-reverse left) in
     record {
       larger = larger_tree m aim.welfare aim.budget (done ++ Branch ∷ (map (λ (w : List Bool). Leaf h.leaf) kids ++ h.rest)) v more
-          (omega (arith, h.crowded.more, long, length-append done (Branch ∷ (map (λ (w : List Bool). Leaf h.leaf) kids ++ h.rest)), length-append (map (λ (w : List Bool). Leaf h.leaf) kids) h.rest, length-map kids (λ (w : List Bool). Leaf h.leaf)));
-      part = subst (ArePartsOfSearch m ([] ∷ [])) (sym same) (search_parts m ([] ∷ []) (done ++ Leaf h.leaf ∷ h.rest) v (AreParts-map m O (λ word leaf. IsNode m word) (λ word leaf k. k.node) ([] ∷ []) (done ++ Leaf h.leaf ∷ h.rest) all)).0;
+          (omega (
+            arith,
+            h.crowded.more,
+            long,
+            length-append done (Branch ∷ (map (λ (w : List Bool). Leaf h.leaf) kids ++ h.rest)),
+            length-append (map (λ (w : List Bool). Leaf h.leaf) kids) h.rest,
+            length-map kids (λ (w : List Bool). Leaf h.leaf),
+          ));
+      part = subst (ArePartsOfSearch m ([] ∷ [])) (sym same)
+          (search_parts m ([] ∷ []) (done ++ Leaf h.leaf ∷ h.rest) v (AreParts-map m O (λ word leaf. IsNode m word) (λ word leaf k. k.node) ([] ∷ []) (done ++ Leaf h.leaf ∷ h.rest) all)).0;
       within_budget = omega (arith, count, h.walk.within);
       overflows = record {
         leaf = word_of x;
@@ -164,7 +179,8 @@ clears_as m budget (Err fault) reported is h = tt
 walk_nodes : (m : Market) (aim : Aim) (x : Prefix) (done left : List TreeItem) → IsValid m → IsTreeWalk m aim done left (Some x) → ArePartsOfSearch m ([] ∷ []) (map shape_of (done ++ reverse left))
 walk_nodes m aim x done left v h =
     let N : List Bool → LeafRecord → Type 0 = λ word leaf. IsNode m word in
-    let front : LeavesWords m N ([] ∷ []) done (left_at m.gates (Some x)) = leaves_map m (IsNewLeaf m aim.welfare (word_of aim.word)) N (λ word leaf k. k.node) ([] ∷ []) done (left_at m.gates (Some x)) h.before in
+    let front : LeavesWords m N ([] ∷ []) done (left_at m.gates (Some x)) =
+    leaves_map m (IsNewLeaf m aim.welfare (word_of aim.word)) N (λ word leaf k. k.node) ([] ∷ []) done (left_at m.gates (Some x)) h.before in
     let after : AreParts m N (left_at m.gates (Some x)) (reverse left) = AreParts-map m (IsOldLeaf m aim.welfare) N (λ word leaf k. k.node) (left_at m.gates (Some x)) (reverse left) h.after in
     (search_parts m ([] ∷ []) (done ++ reverse left) v (parts_join m N ([] ∷ []) done (reverse left) (left_at m.gates (Some x)) front after)).0
 

@@ -166,7 +166,8 @@ pub branch_done : (m : Market) (aim : Aim) (x y : Prefix) (done left more : List
     → word_of y ≡ word_of x ++ false ∷ [] → IsTreeWalk m aim done more (Some x) → more ≡ left ++ Branch ∷ []
     → IsTreeWalk m aim (done ++ Branch ∷ []) left (Some y)
 branch_done m aim x y done left more f child h e =
-    let rest : AreParts m (IsOldLeaf m aim.welfare) (left_at m.gates (Some x)) (Branch ∷ reverse left) = subst (AreParts m (IsOldLeaf m aim.welfare) (left_at m.gates (Some x))) (ap reverse e ∙ popped left Branch) h.after in
+    let rest : AreParts m (IsOldLeaf m aim.welfare) (left_at m.gates (Some x)) (Branch ∷ reverse left) =
+    subst (AreParts m (IsOldLeaf m aim.welfare) (left_at m.gates (Some x))) (ap reverse e ∙ popped left Branch) h.after in
     let there : left_at m.gates (Some y) ≡ children m.gates (word_of x) ++ waiting_after m.gates (word_of x) = first_child m.gates x y child in
     record {
       before = item_done m (IsNewLeaf m aim.welfare (word_of aim.word)) done Branch (left_at m.gates (Some x)) (left_at m.gates (Some y)) h.before (rest.0, sym there);
@@ -177,7 +178,8 @@ branch_done m aim x y done left more f child h e =
 
 -- what a branch says of its prefix
 pub branch_room : (m : Market) (aim : Aim) (x : Prefix) (done left more : List TreeItem) → IsTreeWalk m aim done more (Some x) → more ≡ left ++ Branch ∷ [] → length (word_of x) < length m.gates
-branch_room m aim x done left more h e = let rest : AreParts m (IsOldLeaf m aim.welfare) (left_at m.gates (Some x)) (Branch ∷ reverse left) = subst (AreParts m (IsOldLeaf m aim.welfare) (left_at m.gates (Some x))) (ap reverse e ∙ popped left Branch) h.after in rest.0
+branch_room m aim x done left more h e = let rest : AreParts m (IsOldLeaf m aim.welfare) (left_at m.gates (Some x)) (Branch ∷ reverse left) =
+    subst (AreParts m (IsOldLeaf m aim.welfare) (left_at m.gates (Some x))) (ap reverse e ∙ popped left Branch) h.after in rest.0
 
 -- a leaf that holds for the gate word takes its place
 pub leaf_done : (m : Market) (aim : Aim) (x : Prefix) (old leaf : LeafRecord) (done left : List TreeItem) (next : Option Prefix)
@@ -185,7 +187,8 @@ pub leaf_done : (m : Market) (aim : Aim) (x : Prefix) (old leaf : LeafRecord) (d
     → left_at m.gates next ≡ waiting_after m.gates (word_of x) → IfSome next (IsFeasiblePrefix m)
     → IsTreeWalk m aim (done ++ Leaf leaf ∷ []) left next
 leaf_done m aim x old leaf done left next h k there f = record {
-  before = item_done m (IsNewLeaf m aim.welfare (word_of aim.word)) done (Leaf leaf) (left_at m.gates (Some x)) (left_at m.gates next) h.before (record { holds = k; node = h.after.0.node }, sym there);
+  before =
+      item_done m (IsNewLeaf m aim.welfare (word_of aim.word)) done (Leaf leaf) (left_at m.gates (Some x)) (left_at m.gates next) h.before (record { holds = k; node = h.after.0.node }, sym there);
   after = subst (λ (ws : List (List Bool)). AreParts m (IsOldLeaf m aim.welfare) ws (reverse left)) (sym there) h.after.1;
   feasible = f;
   within = omega (arith, h.within, length-append done (Leaf leaf ∷ []));
@@ -272,7 +275,8 @@ leaf_branched m aim x y old leaf may done left more v k h t f g kids fy child e 
       before = item_done m (IsNewLeaf m aim.welfare (word_of aim.word)) done Branch (left_at m.gates (Some x)) (left_at m.gates (Some y)) h.before (t.undecided, sym there);
       after =
           subst (λ (ws : List (List Bool)). AreParts m (IsOldLeaf m aim.welfare) ws (reverse more)) (sym (there ∙ ap (λ (ws : List (List Bool)). ws ++ waiting_after m.gates (word_of x)) kids))
-          (subst (AreParts m (IsOldLeaf m aim.welfare) (((word_of x ++ false ∷ []) ∷ (if may then (word_of x ++ true ∷ []) ∷ [] else [])) ++ waiting_after m.gates (word_of x))) (sym (ap reverse e ∙ turned leaf may left)) below);
+          (subst (AreParts m (IsOldLeaf m aim.welfare) (((word_of x ++ false ∷ []) ∷ (if may then (word_of x ++ true ∷ []) ∷ [] else [])) ++ waiting_after m.gates (word_of x)))
+          (sym (ap reverse e ∙ turned leaf may left)) below);
       feasible = fy;
       within = omega (arith, fits, ap length e, length-append left (child_leaves leaf may), length-append done (Branch ∷ []), leaves_count leaf may);
     }
@@ -302,7 +306,8 @@ leaf_crowded m aim x old leaf may done left more v k h t f g kids e over =
       rest = reverse left;
       left_is = ap reverse e ∙ popped left (Leaf leaf);
       below = subst (λ (ws : List (List Bool)). AreParts m O ws (map (λ (w : List Bool). Leaf leaf) ws)) (sym kids)
-          (subst (λ (ws : List (List Bool)). AreParts m O ws (map (λ (w : List Bool). Leaf leaf) ((word_of x ++ false ∷ []) ∷ (if may then (word_of x ++ true ∷ []) ∷ [] else [])))) (no_more_words (word_of x) may)
+          (subst (λ (ws : List (List Bool)). AreParts m O ws (map (λ (w : List Bool). Leaf leaf) ((word_of x ++ false ∷ []) ∷ (if may then (word_of x ++ true ∷ []) ∷ [] else []))))
+          (no_more_words (word_of x) may)
           (subst (AreParts m O (((word_of x ++ false ∷ []) ∷ (if may then (word_of x ++ true ∷ []) ∷ [] else [])) ++ [])) (map_leaves leaf (word_of x) may) below));
       crowded = record {
         undecided = t.undecided;

@@ -61,7 +61,8 @@ pub turned_branched : (m : Market) (aim : Aim) (x : Prefix) (old leaf : LeafReco
     → IsDescended x next → IsTreeWalk m aim new_done new_left next × (length new_done ≡ length done + 1)
 turned_branched m aim x old leaf may done left new_done new_left None v k h t f g kids fits d l n = absurd n
 turned_branched m aim x old leaf may done left new_done new_left (Some y) v k h t f g kids fits d l n = (
-  subst (λ (ds : List TreeItem). IsTreeWalk m aim ds new_left (Some y)) (sym d) (leaf_branched m aim x y old leaf may done left new_left v k h t f g kids (descended_feasible m x y f n.0 n.1) n.0 l fits),
+  subst (λ (ds : List TreeItem). IsTreeWalk m aim ds new_left (Some y)) (sym d)
+      (leaf_branched m aim x y old leaf may done left new_left v k h t f g kids (descended_feasible m x y f n.0 n.1) n.0 l fits),
   ap length d ∙ omega (arith, length-append done (Branch ∷ [])),
 )
 
@@ -74,7 +75,8 @@ pub walk_started : (m : Market) (aim : Aim) (budget : ℕ) (found : Clearing) (d
     → IsTreeWalk m aim done left next
 walk_started m aim budget found done left None h w b d l n = absurd n
 walk_started m aim budget found done left (Some x) h w b d l n =
-    let all : AreParts m (IsOldLeaf m aim.welfare) ([] ∷ []) found.tree = old_leaves m aim.welfare ([] ∷ []) found.tree (subst (λ (u : ℕ). AreParts m (LeafHolds m (pos u)) ([] ∷ []) found.tree) (sym w) h.clearing.tree) h.nodes in
+    let all : AreParts m (IsOldLeaf m aim.welfare) ([] ∷ []) found.tree =
+    old_leaves m aim.welfare ([] ∷ []) found.tree (subst (λ (u : ℕ). AreParts m (LeafHolds m (pos u)) ([] ∷ []) found.tree) (sym w) h.clearing.tree) h.nodes in
     let first : left_at m.gates (Some x) ≡ [] ∷ [] = ap (λ (u : List Bool). u ∷ waiting_after m.gates u) n.0 in
     record {
       before = subst (λ (ds : List TreeItem). LeavesWords m (IsNewLeaf m aim.welfare (word_of aim.word)) ([] ∷ []) ds (left_at m.gates (Some x))) (sym d) (sym first);

@@ -62,7 +62,8 @@ settled_by_close g x cutoff key leaf r s h taken more =
     let nodes = with_state (Closed leaf cutoff) g.nodes x in
     let none : length nodes - length r.keys ≡ 0 = omega (arith, length-with_state (Closed leaf cutoff) g.nodes x, h.keys) in
     record {
-      queue = subst (λ (ns : List TreeNode). IsQueueOf ns s) (append-nil nodes) (queue_more nodes [] r s key (queue_done g.nodes r (Closed leaf cutoff) x 0 h taken refl) (subst (λ (n : ℕ). IsMore key n r s) none more));
+      queue = subst (λ (ns : List TreeNode). IsQueueOf ns s) (append-nil nodes)
+          (queue_more nodes [] r s key (queue_done g.nodes r (Closed leaf cutoff) x 0 h taken refl) (subst (λ (n : ℕ). IsMore key n r s) none more));
       taken = omega (arith, taken_state (Closed leaf cutoff) (Taken 0) g.nodes x taken);
       longer = omega (arith, length-with_state (Closed leaf cutoff) g.nodes x);
     }
@@ -121,7 +122,8 @@ record IsVisitedTree (old new : Grown) (x : ℕ) : Type 0 where
 
 tree_by_offer : (s : Machine) (x : ℕ) (finding : Finding) (o : Option Attained) → IsVisitedTree s.tree (visited_with s x finding o).tree x
 tree_by_offer s x finding None = let cutoff = seen_by (slice_get (after s (TakeEvent 0 x)).actors 0) in record { cutoff = cutoff; leaf = closing_leaf cutoff finding; is = refl }
-tree_by_offer s x finding (Some best) = let cutoff = seen_by (slice_get (after_offer (after s (TakeEvent 0 x)) (Some best)).actors 0) in record { cutoff = cutoff; leaf = closing_leaf cutoff finding; is = refl }
+tree_by_offer s x finding (Some best) =
+    let cutoff = seen_by (slice_get (after_offer (after s (TakeEvent 0 x)) (Some best)).actors 0) in record { cutoff = cutoff; leaf = closing_leaf cutoff finding; is = refl }
 
 visited_tree : (m : Market) (old new : Machine) (x : ℕ) (word : List Bool) (key : ℕ) → IsVisited m old new x word key → IsVisitedTree old.tree new.tree x
 visited_tree m old new x word key v = subst (λ (s : Machine). IsVisitedTree old.tree s.tree x) (sym v.change) (tree_by_offer old x v.finding (best_in v.finding))
@@ -162,7 +164,8 @@ visit_keeps m old new x word key q r s u f v facts not_full more =
       queue = settled.queue;
       room = more.room ∙ f.room ∙ u.room ∙ sym same.1;
       none_taken = omega (arith, settled.taken, taken_state (Taken 0) Untaken old.tree.nodes x waits, u.none_taken);
-      from_closed = ap (λ (k : Machine). gate_word_of m k.first.activation) v.change ∙ ap (λ (a : Attained). gate_word_of m a.activation) (first_stays old x v.finding (best_in v.finding)) ∙ u.from_closed;
+      from_closed =
+          ap (λ (k : Machine). gate_word_of m k.first.activation) v.change ∙ ap (λ (a : Attained). gate_word_of m a.activation) (first_stays old x v.finding (best_in v.finding)) ∙ u.from_closed;
     }
 
 -- the node that comes first waits in the search
@@ -327,8 +330,18 @@ pub fewer_left : (m : Market) (budget : ℕ) (old new : Machine) (x : ℕ) (word
 fewer_left m budget old new x word key q r s h f v facts not_full more =
     let settled = visit_settles m old new x word key q r s h.under_way f v not_full more in
     let same = visit_same m old new x word key v in
-    omega
-    (arith, settled.longer, length-with_state (Taken 0) old.tree.nodes x, facts.tree.within_budget, same.1, h.budget_is, h.under_way.queue.keys, ap length f.keys, length_permutation q.waiting (x ∷ r.waiting) f.leaves, length_waiting key (length new.tree.nodes - length r.keys) r s more)
+    omega (
+      arith,
+      settled.longer,
+      length-with_state (Taken 0) old.tree.nodes x,
+      facts.tree.within_budget,
+      same.1,
+      h.budget_is,
+      h.under_way.queue.keys,
+      ap length f.keys,
+      length_permutation q.waiting (x ∷ r.waiting) f.leaves,
+      length_waiting key (length new.tree.nodes - length r.keys) r s more,
+    )
 
 -- an offer changes neither the tree nor the activation that the search began with
 pub still_after : (m : Market) (budget : ℕ) (s new : Machine) (q : Queued) → IsStill m budget s q → new.tree ≡ s.tree → new.first ≡ s.first → KeepsFacts new → IsStill m budget new q
@@ -371,7 +384,8 @@ node_there nodes n (Some p) e some = omega (arith, slice_get_within (words_of no
 pub node_past : (nodes : List TreeNode) (n : ℕ) (o : Option Prefix) → option_map (λ (p : Prefix). word_of p) o ≡ slice_get (words_of nodes) n → is_some o ≡ false → length nodes ≤ n
 node_past nodes n (Some p) e none = absurd (true≢false none)
 node_past nodes n None e none = elim (cases_lt n (length nodes)) [
-  | inl l ↦ let there : slice_get (words_of nodes) n ≡ Some (get_or (words_of nodes) n []) = slice_get-get_or (words_of nodes) n [] (omega (arith, l, length-map nodes (λ (k : TreeNode). k.word))) in absurd (cc)
+  | inl l ↦ let there : slice_get (words_of nodes) n ≡ Some (get_or (words_of nodes) n []) =
+      slice_get-get_or (words_of nodes) n [] (omega (arith, l, length-map nodes (λ (k : TreeNode). k.word))) in absurd (cc)
   | inr l ↦ l
 ]
 

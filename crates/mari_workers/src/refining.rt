@@ -74,7 +74,8 @@ impl Walk {
     /// Lets the children of a prefix wait, each with the leaf of their parent.
     fn give(&mut self, leaf: Leaf, may_open: bool) -> Result<(), Memory>
         ensures done { OnOk result (self.new.done ≡ self.old.done) }
-        ensures left { OnOk result (self.new.left.items ≡ self.old.left.items ++ (if may_open then TreeItem.Leaf leaf ∷ TreeItem.Leaf leaf ∷ [] else TreeItem.Leaf leaf ∷ [])) }
+        ensures left { OnOk result
+            (self.new.left.items ≡ self.old.left.items ++ (if may_open then TreeItem.Leaf leaf ∷ TreeItem.Leaf leaf ∷ [] else TreeItem.Leaf leaf ∷ [])) }
     {
         if may_open {
             let copy = copy_of_leaf(&leaf)?;

@@ -51,7 +51,8 @@ fn run_in_threads<'m, N: SearchName + Send + Sync, G: Turnstile, R: Threads + Wa
     ensures each { IfOk result (λ v. (i : ℕ) (d : _) → i < vec_len v → IsWorked N.market N.incumbent (slice_index_or v.items i d)) }
 {
     let each = |one: Seated| -> Worked
-        requires { (market.now ≡ N.market) × IsValid market.now × (incumbent.now ≡ N.incumbent) × IsSeated N.incumbent N.workers one × IsRootOf market.now root.now }
+        requires { (market.now ≡ N.market) × IsValid market.now × (incumbent.now ≡ N.incumbent) × IsSeated N.incumbent N.workers one
+            × IsRootOf market.now root.now }
         ensures { IsWorked N.market N.incumbent result }
     {
         let Seated { worker, seat } = one;

@@ -118,7 +118,8 @@ impl<'a> Words<'a> {
 
     /// Takes the next word, which is to be a price.
     pub fn next_price(&mut self) -> Option<Result<Cents, FormFault>>
-        ensures { MatchOption result ((self.old ≡ []) × (self.new ≡ [])) (λ price. (word : List ℕ) × (self.old ≡ word ∷ self.new) × Reads IsCapped price_text word price) }
+        ensures { MatchOption result ((self.old ≡ []) × (self.new ≡ []))
+            (λ price. (word : List ℕ) × (self.old ≡ word ∷ self.new) × Reads IsCapped price_text word price) }
     {
         let text = self.rest?;
         if let Some((price, rest)) = plain_price(text) {
@@ -131,7 +132,8 @@ impl<'a> Words<'a> {
 
     /// Takes the next word, which is to be a number from 0 to `greatest`.
     pub fn next_number(&mut self, greatest: u32) -> Option<Result<u32, FormFault>>
-        ensures { MatchOption result ((self.old ≡ []) × (self.new ≡ [])) (λ number. (word : List ℕ) × (self.old ≡ word ∷ self.new) × Reads (λ n. n ≤ greatest) decimal word number) }
+        ensures { MatchOption result ((self.old ≡ []) × (self.new ≡ []))
+            (λ number. (word : List ℕ) × (self.old ≡ word ∷ self.new) × Reads (λ n. n ≤ greatest) decimal word number) }
     {
         let text = self.rest?;
         if let Some((number, rest)) = plain_number(text, greatest) {

@@ -75,7 +75,8 @@ fn full_block(ending: Ending) -> FullBlock
 /// The last line of a block, with this run's number.
 pub fn close_block(kept: &mut Kept, run: u32) -> Result<Option<Part>, FollowFault>
     requires { kept.old.counts.published < MOST_RUNS }
-    ensures { (ending : EndingValue) → kept.old.held ≡ held_as.Ending ending → Follows (after kept.old (held_as.Ending ending) (Line.End run)) kept.old kept.new result }
+    ensures { (ending : EndingValue) → kept.old.held ≡ held_as.Ending ending
+        → Follows (after kept.old (held_as.Ending ending) (Line.End run)) kept.old kept.new result }
 {
     match mem::replace(&mut kept.held, Held::Done) {
         Held::Ending(ending) => {

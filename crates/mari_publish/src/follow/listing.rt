@@ -89,7 +89,8 @@ pub fn list_line(alloc: Global, block: &mut Listing, line: Line) -> Result<(), F
 
 /// The first line of a block's tree.
 pub fn open_tree(alloc: Global, kept: &mut Kept, count: u32) -> Result<Option<Part>, FollowFault>
-    ensures { (block : ListingValue) → kept.old.held ≡ held_as.Listing block → Follows (after kept.old (held_as.Listing block) (Line.Tree count)) kept.old kept.new result }
+    ensures { (block : ListingValue) → kept.old.held ≡ held_as.Listing block
+        → Follows (after kept.old (held_as.Listing block) (Line.Tree count)) kept.old kept.new result }
 {
     match mem::replace(&mut kept.held, Held::Done) {
         Held::Listing(listing) => {

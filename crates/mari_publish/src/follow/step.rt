@@ -60,7 +60,8 @@ pub fn hold(kept: &mut Kept, held: Held)
 
 /// The answer where a line was taken in place, or refused: no part is whole with it.
 pub fn no_part(step: Result<(), FollowFault>) -> Result<Option<Part>, FollowFault>
-    ensures { (kept : KeptValue) (expected : Option HeldValue) (old new : HeldValue) → Steps expected old new step → Follows (keeps kept expected) (kept_with kept old) (kept_with kept new) result }
+    ensures { (kept : KeptValue) (expected : Option HeldValue) (old new : HeldValue) → Steps expected old new step
+        → Follows (keeps kept expected) (kept_with kept old) (kept_with kept new) result }
 {
     match step {
         Ok(()) => Ok(None),

@@ -22,7 +22,8 @@ pub fn list_total(
     line: Line,
 ) -> Result<(), FollowFault>
     requires { (published unpublished : ℕ) → line ≡ Line.Done published unpublished → ⊥ }
-    ensures { Steps (after_totals operators.old providers.old line) (held_as.Totals operators.old providers.old) (held_as.Totals operators.new providers.new) result }
+    ensures { Steps (after_totals operators.old providers.old line) (held_as.Totals operators.old providers.old)
+        (held_as.Totals operators.new providers.new) result }
 {
     match line {
         Line::TotalOperator(operator) => {
@@ -53,7 +54,8 @@ pub fn close_totals(
     published: u32,
     unpublished: u32,
 ) -> Result<Option<Part>, FollowFault>
-    ensures { (operators : List MoneyLineValue) (providers : List AmountLineValue) → kept.old.held ≡ held_as.Totals operators providers → Follows (after kept.old (held_as.Totals operators providers) (Line.Done published unpublished)) kept.old kept.new result }
+    ensures { (operators : List MoneyLineValue) (providers : List AmountLineValue) → kept.old.held ≡ held_as.Totals operators providers
+        → Follows (after kept.old (held_as.Totals operators providers) (Line.Done published unpublished)) kept.old kept.new result }
 {
     match mem::replace(&mut kept.held, Held::Done) {
         Held::Totals(operators, providers) => {

@@ -25,7 +25,8 @@ fn wait_with(growing: &mut Growing, pending: Pending)
 /// An item of one line.
 fn add_item(alloc: Global, growing: &mut Growing, item: TreeItem) -> Result<(), FollowFault>
     requires { growing.old.pending ≡ Pending.Nothing }
-    ensures { Steps (if nat_lt (length growing.old.tree) growing.old.count then Some (with_item growing.old item) else None) (held_as.Growing growing.old) (held_as.Growing growing.new) result }
+    ensures { Steps (if nat_lt (length growing.old.tree) growing.old.count then Some (with_item growing.old item) else None) (held_as.Growing growing.old)
+        (held_as.Growing growing.new) result }
 {
     if growing.tree.as_slice().len() as u64 >= u64::from(growing.count) {
         drop(item);
@@ -89,7 +90,8 @@ fn close_conflict(
     mws: Items<u32>,
 ) -> Result<(), FollowFault>
     requires { growing.old.pending ≡ Pending.Nothing }
-    ensures { Steps (Some (with_item growing.old (conflict_item zones prices flows mws))) (with_pending growing.old (Pending.Flows zones prices flows)) (held_as.Growing growing.new) result }
+    ensures { Steps (Some (with_item growing.old (conflict_item zones prices flows mws))) (with_pending growing.old (Pending.Flows zones prices flows))
+        (held_as.Growing growing.new) result }
 {
     let mut tree = mem::replace(&mut growing.tree, empty(alloc)).into_vec();
     if tree.reserve(1).is_err() {
@@ -180,7 +182,8 @@ pub fn close_tree(
     kept: &mut Kept,
     operator: MoneyLine,
 ) -> Result<Option<Part>, FollowFault>
-    ensures { (growing : GrowingValue) → kept.old.held ≡ held_as.Growing growing → Follows (after kept.old (held_as.Growing growing) (Line.Operator operator)) kept.old kept.new result }
+    ensures { (growing : GrowingValue) → kept.old.held ≡ held_as.Growing growing
+        → Follows (after kept.old (held_as.Growing growing) (Line.Operator operator)) kept.old kept.new result }
 {
     match mem::replace(&mut kept.held, Held::Done) {
         Held::Growing(growing) => {

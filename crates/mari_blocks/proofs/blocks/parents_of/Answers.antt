@@ -19,7 +19,8 @@ parent-of links k parent entry l is e =
 
 pub index_mut-requires : goal.index_mut-requires
 index_mut-requires c =
-    let below = c.requires c.loop-entry.entry-index c.in-Some.parent (parent-of c.args.links.now c.loop-entry.entry-index c.in-Some.parent c.entry-item.result c.loop-entry-test.true c.entry-item.is c.in-Some.is) in
+    let below = c.requires c.loop-entry.entry-index c.in-Some.parent
+    (parent-of c.args.links.now c.loop-entry.entry-index c.in-Some.parent c.entry-item.result c.loop-entry-test.true c.entry-item.is c.in-Some.is) in
     omega (arith, below, c.loop-entry.invariant.sized, c.loop-entry.parents.ok.0)
 
 pub loop-entry-preserved : goal.loop-entry-preserved

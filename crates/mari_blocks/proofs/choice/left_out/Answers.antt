@@ -26,19 +26,23 @@ loop-bid-preserved c =
     elim c.match-entry.branch [
       | in-Some+then-not-index w ↦ (
           let own : block_at blocks bid ≡ Some w.in-Some.block = rw c.as_slice-entries.ensures at w.in-Some.is in
-          let absent : is_one_of offered bid ≡ false = sym available ∙ get_or_default c.in_ok-available.available.items bid false w.index.result.now within ∙ sym w.index.ensures ∙ w.if-not-index.true in
+          let absent : is_one_of offered bid ≡ false =
+          sym available ∙ get_or_default c.in_ok-available.available.items bid false w.index.result.now within ∙ sym w.index.ensures ∙ w.if-not-index.true in
           let below = c.requires.there bid w.in-Some.block own in
           rw w.marks-is (record {
             sized = length-set marks w.in-Some.block true ∙ inv.sized;
             marked = mark-yes marks was is inv.marked w.in-Some.block (omega (arith, below, inv.sized))
-                (λ block. more block ∙ ap (λ o. was block || (option_map_or (λ own. own == block) o false && not (is_one_of offered bid))) own ∙ ap (λ b. was block || ((w.in-Some.block == block) && not b)) absent
+                (λ block. more block ∙ ap (λ o. was block || (option_map_or (λ own. own == block) o false && not (is_one_of offered bid))) own
+                ∙ ap (λ b. was block || ((w.in-Some.block == block) && not b)) absent
                 ∙ ap (λ b. was block || b) (and-yes (w.in-Some.block == block)));
           }))
       | in-Some+else-not-index w ↦ (
-          let there : is_one_of offered bid ≡ true = sym available ∙ get_or_default c.in_ok-available.available.items bid false w.index.result.now within ∙ sym w.index.ensures ∙ w.if-not-index.false in
+          let there : is_one_of offered bid ≡ true =
+          sym available ∙ get_or_default c.in_ok-available.available.items bid false w.index.result.now within ∙ sym w.index.ensures ∙ w.if-not-index.false in
           rw w.marks-is (record {
             sized = inv.sized;
-            marked = mark-no marks was is inv.marked (λ block. more block ∙ ap (λ b. was block || (is_in_block blocks block bid && not b)) there ∙ ap (λ b. was block || b) (and-no (is_in_block blocks block bid)));
+            marked = mark-no marks was is inv.marked
+                (λ block. more block ∙ ap (λ b. was block || (is_in_block blocks block bid && not b)) there ∙ ap (λ b. was block || b) (and-no (is_in_block blocks block bid)));
           }))
       | in_default w ↦ (
           let none : get_or c.as_slice-entries.result.now bid None ≡ None = search rules in

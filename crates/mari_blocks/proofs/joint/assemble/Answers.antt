@@ -22,7 +22,8 @@ returns c =
     let count : c.len-demands.result ≡ length c.args.content.parts.demands.items = search rules in
     let zones = ap (λ n. (last + 1 - first) * n) c.len.ensures.len in
     let borders = c.of.ensures ∙ content.parts.borders in
-    let orders = c.of-2.ensures ∙ put ∙ rw (c.in_ok-orders.ensures, c.deref.ensures.value, c.deref-2.ensures.value, c.deref-3.ensures.value, content.gates, content.numbers, content.parts.demands) refl in
+    let orders =
+    c.of-2.ensures ∙ put ∙ rw (c.in_ok-orders.ensures, c.deref.ensures.value, c.deref-2.ensures.value, c.deref-3.ensures.value, content.gates, content.numbers, content.parts.demands) refl in
     let gates = c.of-3.ensures ∙ c.in_ok-infos.ensures ∙ rw (c.as_slice.ensures, c.deref-4.ensures.value, content.gates) refl in
     let bids = c.of-4.ensures ∙ content.numbers in
     let demands = count ∙ ap length content.parts.demands in

@@ -16,7 +16,8 @@ loop-quarter-preserved c =
     let books = c.args.books.now in
     let quarter = c.loop-quarter.quarter in
     let after : (quarter - c.args.first) * c.len-zones.result ≡ zones_before books c.args.first quarter = ap (λ n. (quarter - c.args.first) * n) c.len-zones.ensures.len in
-    brought books c.args.first quarter c.loop-quarter.parts c.add_run.new.self (run_market_of books [] c.run_of_quarter-run.result) ((quarter - c.args.first) * c.len-zones.result) c.loop-quarter.auto.quarter
+    brought books c.args.first quarter c.loop-quarter.parts c.add_run.new.self (run_market_of books [] c.run_of_quarter-run.result)
+    ((quarter - c.args.first) * c.len-zones.result) c.loop-quarter.auto.quarter
     (ap (run_market_of books []) c.run_of_quarter-run.ensures.run) after
     c.in-Ok.ensures.offered c.in-Ok.ensures.borders c.in-Ok.ensures.demands c.loop-quarter.invariant
 

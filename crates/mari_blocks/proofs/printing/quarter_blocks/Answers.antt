@@ -29,7 +29,8 @@ after-at-requires-clause-bids c =
     let made = is-made c.args.books.now blocks c.args.first c.args.last c.args.joint.now c.requires.joint.2 in
     let here = near c.args.books.now c.requires.accepted blocks c.args.first c.args.last c.args.joint.now made c.args.activation.now c.args.priced.now c.requires.shapes
     c.loop-quarter.quarter c.loop-quarter.at c.in_ok-block.block c.loop-quarter.auto.quarter (omega (arith, c.loop-quarter-test.true)) (c.loop-quarter.invariant.place blocks c.requires.joint.2)
-    (is-there c.args.books.now c.requires.accepted blocks c.args.first c.args.last c.args.joint.now made c.args.activation.now c.args.priced.now c.requires.shapes c.loop-quarter.quarter c.loop-quarter.at c.loop-quarter.auto.quarter (omega (arith, c.loop-quarter-test.true)) (c.loop-quarter.invariant.place blocks c.requires.joint.2)) c.in_ok-block.ensures c.requires.valid in
+    (is-there c.args.books.now c.requires.accepted blocks c.args.first c.args.last c.args.joint.now made c.args.activation.now c.args.priced.now c.requires.shapes c.loop-quarter.quarter
+    c.loop-quarter.at c.loop-quarter.auto.quarter (omega (arith, c.loop-quarter-test.true)) (c.loop-quarter.invariant.place blocks c.requires.joint.2)) c.in_ok-block.ensures c.requires.valid in
     omega (arith, here.bids)
 
 pub after-at-requires-clause-demands : goal.after-at-requires-clause-demands
@@ -38,7 +39,8 @@ after-at-requires-clause-demands c =
     let made = is-made c.args.books.now blocks c.args.first c.args.last c.args.joint.now c.requires.joint.2 in
     let here = near c.args.books.now c.requires.accepted blocks c.args.first c.args.last c.args.joint.now made c.args.activation.now c.args.priced.now c.requires.shapes
     c.loop-quarter.quarter c.loop-quarter.at c.in_ok-block.block c.loop-quarter.auto.quarter (omega (arith, c.loop-quarter-test.true)) (c.loop-quarter.invariant.place blocks c.requires.joint.2)
-    (is-there c.args.books.now c.requires.accepted blocks c.args.first c.args.last c.args.joint.now made c.args.activation.now c.args.priced.now c.requires.shapes c.loop-quarter.quarter c.loop-quarter.at c.loop-quarter.auto.quarter (omega (arith, c.loop-quarter-test.true)) (c.loop-quarter.invariant.place blocks c.requires.joint.2)) c.in_ok-block.ensures c.requires.valid in
+    (is-there c.args.books.now c.requires.accepted blocks c.args.first c.args.last c.args.joint.now made c.args.activation.now c.args.priced.now c.requires.shapes c.loop-quarter.quarter
+    c.loop-quarter.at c.loop-quarter.auto.quarter (omega (arith, c.loop-quarter-test.true)) (c.loop-quarter.invariant.place blocks c.requires.joint.2)) c.in_ok-block.ensures c.requires.valid in
     omega (arith, here.demands)
 
 pub loop-quarter-preserved : goal.loop-quarter-preserved
@@ -52,7 +54,8 @@ loop-quarter-preserved c =
           let made = is-made books blocks c.args.first c.args.last c.args.joint.now e in
           let is = c.loop-quarter.invariant.place blocks e in
           next-place books c.requires.accepted blocks c.args.first c.args.last c.args.joint.now made c.args.activation.now c.args.priced.now c.requires.shapes
-          quarter c.loop-quarter.at c.in_ok-block.block low high is (is-there books c.requires.accepted blocks c.args.first c.args.last c.args.joint.now made c.args.activation.now c.args.priced.now c.requires.shapes quarter c.loop-quarter.at low high is) c.in_ok-block.ensures c.after-at.result c.after-at.ensures;
+          quarter c.loop-quarter.at c.in_ok-block.block low high is (is-there books c.requires.accepted blocks c.args.first c.args.last c.args.joint.now made c.args.activation.now c.args.priced.now
+          c.requires.shapes quarter c.loop-quarter.at low high is) c.in_ok-block.ensures c.after-at.result c.after-at.ensures;
       parts =
           let blocks = c.requires.joint.0 in
           let made = is-made books blocks c.args.first c.args.last c.args.joint.now c.requires.joint.2 in

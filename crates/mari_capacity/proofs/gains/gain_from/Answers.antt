@@ -19,7 +19,8 @@ returns-in-Ok-clause-relaxed c =
 pub returns-in-Ok-clause-dual : goal.returns-in-Ok-clause-dual
 returns-in-Ok-clause-dual c =
     let r = c.requires in
-    let stated = stated-is c.args.market.now r.valid c.args.raise r.border (word_of c.args.word.now) c.args.welfare r.welfare c.in_ok-raised.raised c.in_ok-raised.ensures.market c.in-Ok.solved.welfare _ c.in-Ok.ensures.stated c.in-Ok.ensures.relaxed in
+    let stated = stated-is c.args.market.now r.valid c.args.raise r.border
+    (word_of c.args.word.now) c.args.welfare r.welfare c.in_ok-raised.raised c.in_ok-raised.ensures.market c.in-Ok.solved.welfare _ c.in-Ok.ensures.stated c.in-Ok.ensures.relaxed in
     let P : Market → Type 0 = λ m. dual_value_of (bounds_of_word m (word_of c.args.word.now)) m c.in-Ok.solved.potentials.cents ≡ welfare_of m c.in-Ok.solved.activation in
     subst P c.in_ok-raised.ensures.market c.in-Ok.ensures.dual ∙ subst (λ (m : Market). welfare_of m c.in-Ok.solved.activation ≡ pos c.in-Ok.solved.welfare) c.in_ok-raised.ensures.market (sym stated)
 

@@ -33,7 +33,8 @@ pub spread-labels-requires-clause-small : goal.spread-labels-requires-clause-sma
 spread-labels-requires-clause-small c =
     let m = c.args.market.now in
     rw c.in_ok-places.ensures
-    (All-from_get_or (λ (n : ℕ). n ≤ most_value) (range_with_len 0 m.zones) 0 (λ z l. omega (arith, place-at 0 m.zones z (omega (arith, l, length-range_with_len 0 m.zones)), c.requires.valid.zones, l, length-range_with_len 0 m.zones)))
+    (All-from_get_or (λ (n : ℕ). n ≤ most_value) (range_with_len 0 m.zones) 0
+    (λ z l. omega (arith, place-at 0 m.zones z (omega (arith, l, length-range_with_len 0 m.zones)), c.requires.valid.zones, l, length-range_with_len 0 m.zones)))
 
 pub agree-requires : goal.agree-requires
 agree-requires c =

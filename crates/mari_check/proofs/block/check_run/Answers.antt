@@ -12,4 +12,5 @@ returns-in-Faulty c =
 
 pub returns-in-Sound : goal.returns-in-Sound
 returns-in-Sound c =
-    (found-sound c.args.books.now c.args.run c.args.made.now _ None c.args.block.now c.in_ok-fault.field-0 c.in-Sound.activation c.in-Sound.prices c.in-Sound.ledger c.in-Sound.is c.in_ok-fault.ensures).0
+    (found-sound c.args.books.now c.args.run c.args.made.now _ None c.args.block.now c.in_ok-fault.field-0 c.in-Sound.activation c.in-Sound.prices c.in-Sound.ledger
+    c.in-Sound.is c.in_ok-fault.ensures).0

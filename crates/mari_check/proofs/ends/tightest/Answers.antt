@@ -15,5 +15,6 @@ loop-i-preserved c =
     let raised = c.raise.ensures in
     record {
       least = all_tightest_more Least os qs i c.args.zones none old.least.items _ c.loop-i-test.true (omega (arith, c.requires.lengths)) c.loop-i.invariant.least raised.lows raised.least;
-      greatest = all_tightest_more Greatest os qs i c.args.zones none old.greatest.items _ c.loop-i-test.true (omega (arith, c.requires.lengths)) c.loop-i.invariant.greatest raised.highs raised.greatest;
+      greatest =
+          all_tightest_more Greatest os qs i c.args.zones none old.greatest.items _ c.loop-i-test.true (omega (arith, c.requires.lengths)) c.loop-i.invariant.greatest raised.highs raised.greatest;
     }

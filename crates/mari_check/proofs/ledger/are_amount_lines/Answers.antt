@@ -26,4 +26,5 @@ returns c =
     let line = amount_line c.args.names.now c.args.amounts.now in
     let all = map line c.args.places.now in
     same-by IsSameAmountLine (λ x y e. e) (λ x y e. e) c.args.lines.now all _
-    (passes_all IsSameAmountLine c.args.lines.now all c.loop-order.order c.loop-order-test.false (omega (arith, length-map c.args.places.now line, c.loop-order-test.false, c.if-lines-places.false)) c.loop-order.invariant)
+    (passes_all IsSameAmountLine c.args.lines.now all c.loop-order.order c.loop-order-test.false
+    (omega (arith, length-map c.args.places.now line, c.loop-order-test.false, c.if-lines-places.false)) c.loop-order.invariant)

@@ -32,4 +32,5 @@ returns c =
     let all = money_lines_of c.args.names.now c.args.own.now in
     let many = along-length money_line c.args.names.now c.args.own.now c.requires.one_each in
     same-by IsSameMoneyLine (λ x y e. e) (λ x y e. e) c.args.lines.now all _
-    (passes_all IsSameMoneyLine c.args.lines.now all c.loop-operator.operator c.loop-operator-test.false (omega (arith, many, c.loop-operator-test.false, c.if-lines-len.false, c.len.ensures.len)) c.loop-operator.invariant)
+    (passes_all IsSameMoneyLine c.args.lines.now all c.loop-operator.operator c.loop-operator-test.false
+    (omega (arith, many, c.loop-operator-test.false, c.if-lines-len.false, c.len.ensures.len)) c.loop-operator.invariant)

@@ -38,7 +38,8 @@ returns c =
     let line = amount_line c.args.names.now c.args.amounts.now in
     let all = map line (range_with_len 0 (length c.args.names.now)) in
     same-by IsSameAmountLine (λ x y e. e) (λ x y e. e) c.args.lines.now all _
-    (passes_all IsSameAmountLine c.args.lines.now all c.loop-provider.provider c.loop-provider-test.false (omega (arith, length-map-range_with_len line 0 (length c.args.names.now), c.loop-provider-test.false, c.if-lines-len.false, c.len.ensures.len)) c.loop-provider.invariant)
+    (passes_all IsSameAmountLine c.args.lines.now all c.loop-provider.provider c.loop-provider-test.false
+    (omega (arith, length-map-range_with_len line 0 (length c.args.names.now), c.loop-provider-test.false, c.if-lines-len.false, c.len.ensures.len)) c.loop-provider.invariant)
 
 pub returns-then-not-is_amount_line : goal.returns-then-not-is_amount_line
 returns-then-not-is_amount_line c =

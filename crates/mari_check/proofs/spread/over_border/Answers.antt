@@ -8,7 +8,8 @@ returns-then-on c =
     let first = c.raise_if-on.result in
     let second = c.raise_if-back.result in
     let o = over-by c.args.along c.args.border.now c.args.flow c.args.values.now c.raise_if-back.new.values first second first (c.if-on.true ∙ sym (ap (λ (q : Bool). q || second) c.if-on.true))
-    (both-ways-over c.args.along c.args.border.now c.args.flow _ (to_z-of_z fits) c.leads_on.result c.leads_back.result c.args.values.now c.raise_if-on.new.values c.raise_if-back.new.values first second c.requires.from c.requires.to c.requires.small
+    (both-ways-over c.args.along c.args.border.now c.args.flow _
+    (to_z-of_z fits) c.leads_on.result c.leads_back.result c.args.values.now c.raise_if-on.new.values c.raise_if-back.new.values first second c.requires.from c.requires.to c.requires.small
     c.leads_on.ensures.0 c.leads_on.ensures.1 c.leads_back.ensures.0 c.leads_back.ensures.1 c.raise_if-on.ensures c.raise_if-back.ensures) in
     record { spreads = o.spreads; settled = o.settled; raised = o.less }
 
@@ -18,6 +19,7 @@ returns-else-on c =
     let first = c.raise_if-on.result in
     let second = c.raise_if-back.result in
     let o = over-by c.args.along c.args.border.now c.args.flow c.args.values.now c.raise_if-back.new.values first second second (sym (ap (λ (q : Bool). q || second) c.if-on.false))
-    (both-ways-over c.args.along c.args.border.now c.args.flow _ (to_z-of_z fits) c.leads_on.result c.leads_back.result c.args.values.now c.raise_if-on.new.values c.raise_if-back.new.values first second c.requires.from c.requires.to c.requires.small
+    (both-ways-over c.args.along c.args.border.now c.args.flow _
+    (to_z-of_z fits) c.leads_on.result c.leads_back.result c.args.values.now c.raise_if-on.new.values c.raise_if-back.new.values first second c.requires.from c.requires.to c.requires.small
     c.leads_on.ensures.0 c.leads_on.ensures.1 c.leads_back.ensures.0 c.leads_back.ensures.1 c.raise_if-on.ensures c.raise_if-back.ensures) in
     record { spreads = o.spreads; settled = o.settled; raised = o.less }

@@ -16,7 +16,8 @@ pub loop-i-preserved : goal.loop-i-preserved
 loop-i-preserved c =
     let none : Border = record { from = 0; to = 0; limit = 0; back = 0 } in
     let fits : FitsSigned w64 (get_or c.args.flow.now c.loop-i.i (pos 0)) = search rules in
-    let more = going-more c.args.along c.args.borders.now c.args.flow.now none _ c.loop-i.i c.args.values.now c.loop-i.values c.over_border.new.values c.loop-i.raised c.if-over_border.raised c.over_border.result
+    let more = going-more c.args.along c.args.borders.now c.args.flow.now none _ c.loop-i.i c.args.values.now c.loop-i.values c.over_border.new.values c.loop-i.raised
+    c.if-over_border.raised c.over_border.result
     c.requires.small c.loop-i-test.true (omega (arith, c.requires.lengths)) (to_z-of_z fits)
     (record { spreads = c.loop-i.invariant.spreads; settled = c.loop-i.invariant.settled; less = c.loop-i.invariant.less })
     (record { spreads = c.over_border.ensures.spreads; settled = c.over_border.ensures.settled; less = c.over_border.ensures.raised })

@@ -23,7 +23,8 @@ returns-in-Ok-read_parts-clause-whole g c = λ reported page answer e is o.
 
 pub returns-clause-reported : goal.returns-clause-reported
 returns-clause-reported g c = λ reported e.
-    rw c.fault_of.ensures (fault-states (λ parts. KeepsVerdict c.args.books.now parts c.read_parts.new.so_far) (λ parts x stop. ⊤) (page_of reported c.args.name.now) c.in-Err-read_parts.stop (c.in-Err-read_parts.ensures.reported reported e))
+    rw c.fault_of.ensures (fault-states (λ parts. KeepsVerdict c.args.books.now parts c.read_parts.new.so_far) (λ parts x stop. ⊤) (page_of reported c.args.name.now) c.in-Err-read_parts.stop
+    (c.in-Err-read_parts.ensures.reported reported e))
 
 pub returns-clause-stops : goal.returns-clause-stops
 returns-clause-stops g c = λ reported page e is.

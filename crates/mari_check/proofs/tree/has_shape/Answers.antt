@@ -11,7 +11,8 @@ loop-item-preserved c =
     let m = c.args.market.now in
     let fits = subst (λ (i : TreeItem). FitsItem m AnyLeaf c.in-Some.prefix i c.after-next.result) c.item-item.is c.after-next.ensures.fits in
     record {
-      before = walk_more m AnyLeaf c.args.tree.now c.loop-item.item-index c.item-item.result c.in-Some.prefix c.loop-item.next c.after-next.result c.loop-item-test.true c.in-Some.is c.loop-item.invariant.before fits;
+      before = walk_more m AnyLeaf c.args.tree.now c.loop-item.item-index c.item-item.result c.in-Some.prefix c.loop-item.next c.after-next.result c.loop-item-test.true c.in-Some.is
+          c.loop-item.invariant.before fits;
       feasible = c.after-next.ensures.feasible;
     }
 

@@ -8,7 +8,13 @@ use Rattle.mari_commands.proofs.Reporting.{nothing_fed}
 use Rattle.mari_commands.proofs.feeding.fed.Goals as goal
 
 pub returns-in_default-clause-reported : goal.returns-in_default-clause-reported
-returns-in_default-clause-reported g c = record { between = g.K.Sink.taken c.args.sink.now; end = Err stop.Memory; cause = λ h. absurd h; states = λ reported t. nothing_fed _ _; reports = (refl, refl) }
+returns-in_default-clause-reported g c = record {
+  between = g.K.Sink.taken c.args.sink.now;
+  end = Err stop.Memory;
+  cause = λ h. absurd h;
+  states = λ reported t. nothing_fed _ _;
+  reports = (refl, refl);
+}
 
 pub returns-in-Ok-print_feed-clause-reported : goal.returns-in-Ok-print_feed-clause-reported
 returns-in-Ok-print_feed-clause-reported g c =
@@ -17,7 +23,8 @@ returns-in-Ok-print_feed-clause-reported g c =
       between = g.K.Sink.taken c.print_feed.new.sink;
       end = Ok (tt {0});
       cause = λ h. absurd h;
-      states = λ reported t. let P : List ℕ → Type 0 = λ name. FeedStates {T = Unit {0}} (page_of reported name) (g.K.Sink.taken c.args.sink.now) (g.K.Sink.taken c.print_feed.new.sink) (Ok (tt {0})) in subst P path (c.in-Ok-print_feed.ensures.reported reported t);
+      states = λ reported t. let P : List ℕ → Type 0 = λ name. FeedStates {T = Unit {0}} (page_of reported name) (g.K.Sink.taken c.args.sink.now) (g.K.Sink.taken c.print_feed.new.sink)
+          (Ok (tt {0})) in subst P path (c.in-Ok-print_feed.ensures.reported reported t);
       reports = (refl, refl);
     }
 
@@ -28,7 +35,8 @@ returns-in-Err-Fetch-clause-reported g c =
       between = g.K.Sink.taken c.print_feed.new.sink;
       end = Err c.in-Err-Fetch.field-0;
       cause = c.in-Err-Fetch.ensures.failed.rose;
-      states = λ reported t. let P : List ℕ → Type 0 = λ name. FeedStates {T = Unit {0}} (page_of reported name) (g.K.Sink.taken c.args.sink.now) (g.K.Sink.taken c.print_feed.new.sink) (Err c.in-Err-Fetch.field-0) in subst P path (c.in-Err-Fetch.ensures.reported reported t);
+      states = λ reported t. let P : List ℕ → Type 0 = λ name. FeedStates {T = Unit {0}} (page_of reported name) (g.K.Sink.taken c.args.sink.now) (g.K.Sink.taken c.print_feed.new.sink)
+          (Err c.in-Err-Fetch.field-0) in subst P path (c.in-Err-Fetch.ensures.reported reported t);
       reports = rw c.in-Err-Fetch.field-0-is c.say_no_page.ensures.reports;
     }
 
@@ -39,7 +47,8 @@ returns-in-Err-Text-clause-reported g c =
       between = g.K.Sink.taken c.print_feed.new.sink;
       end = Err c.in-Err-Text.field-0;
       cause = c.in-Err-Text.ensures.failed.rose;
-      states = λ reported t. let P : List ℕ → Type 0 = λ name. FeedStates {T = Unit {0}} (page_of reported name) (g.K.Sink.taken c.args.sink.now) (g.K.Sink.taken c.print_feed.new.sink) (Err c.in-Err-Text.field-0) in subst P path (c.in-Err-Text.ensures.reported reported t);
+      states = λ reported t. let P : List ℕ → Type 0 = λ name. FeedStates {T = Unit {0}} (page_of reported name) (g.K.Sink.taken c.args.sink.now) (g.K.Sink.taken c.print_feed.new.sink)
+          (Err c.in-Err-Text.field-0) in subst P path (c.in-Err-Text.ensures.reported reported t);
       reports = rw c.in-Err-Text.field-0-is c.say_text_fault.ensures.reports;
     }
 
@@ -50,7 +59,8 @@ returns-in-Err-Sink-clause-reported g c =
       between = g.K.Sink.taken c.print_feed.new.sink;
       end = Err c.in-Err-Sink.field-0;
       cause = c.in-Err-Sink.ensures.failed.rose;
-      states = λ reported t. let P : List ℕ → Type 0 = λ name. FeedStates {T = Unit {0}} (page_of reported name) (g.K.Sink.taken c.args.sink.now) (g.K.Sink.taken c.print_feed.new.sink) (Err c.in-Err-Sink.field-0) in subst P path (c.in-Err-Sink.ensures.reported reported t);
+      states = λ reported t. let P : List ℕ → Type 0 = λ name. FeedStates {T = Unit {0}} (page_of reported name) (g.K.Sink.taken c.args.sink.now) (g.K.Sink.taken c.print_feed.new.sink)
+          (Err c.in-Err-Sink.field-0) in subst P path (c.in-Err-Sink.ensures.reported reported t);
       reports = rw c.in-Err-Sink.field-0-is (refl, refl);
     }
 
@@ -61,6 +71,7 @@ returns-clause-reported g c =
       between = g.K.Sink.taken c.print_feed.new.sink;
       end = Err c.in-Err-Memory.field-0;
       cause = c.in-Err-Memory.ensures.failed.rose;
-      states = λ reported t. let P : List ℕ → Type 0 = λ name. FeedStates {T = Unit {0}} (page_of reported name) (g.K.Sink.taken c.args.sink.now) (g.K.Sink.taken c.print_feed.new.sink) (Err c.in-Err-Memory.field-0) in subst P path (c.in-Err-Memory.ensures.reported reported t);
+      states = λ reported t. let P : List ℕ → Type 0 = λ name. FeedStates {T = Unit {0}} (page_of reported name) (g.K.Sink.taken c.args.sink.now) (g.K.Sink.taken c.print_feed.new.sink)
+          (Err c.in-Err-Memory.field-0) in subst P path (c.in-Err-Memory.ensures.reported reported t);
       reports = rw c.in-Err-Memory.field-0-is (refl, refl);
     }

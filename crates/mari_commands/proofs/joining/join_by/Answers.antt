@@ -12,7 +12,8 @@ say_quarters-requires g c = quarters-sayable c.clear_quarters-given.result c.cle
 pub returns-clause-reported : goal.returns-clause-reported
 returns-clause-reported g c = record {
   given = c.clear_quarters-given.result;
-  states = λ reported t. let P : List ℕ → Type 0 = λ folder. QuartersReport reported folder c.args.quarters.now.first c.args.quarters.now.last c.args.quarters.now.nodes c.clear_quarters-given.result in subst P c.as_str.ensures.value (c.clear_quarters-given.ensures.reported reported t);
+  states = λ reported t. let P : List ℕ → Type 0 = λ folder. QuartersReport reported folder c.args.quarters.now.first c.args.quarters.now.last c.args.quarters.now.nodes
+      c.clear_quarters-given.result in subst P c.as_str.ensures.value (c.clear_quarters-given.ensures.reported reported t);
   file = c.clear_quarters-given.ensures.file;
   sayable = quarters-sayable c.clear_quarters-given.result c.clear_quarters-given.ensures.file c.clear_quarters-given.ensures.check;
   cause = c.clear_quarters-given.ensures.failed.rose;

@@ -83,13 +83,16 @@ returns-clause-fed g c = λ pages t h.
     (c.outcome_of-outcome.ensures.reported pages t) c.finish.ensures.reported h
 
 pub returns-clause-read_fault : goal.returns-clause-read_fault
-returns-clause-read_fault g c = cause-counts fetch.Failed status.ReadFault refl _ _ c.outcome_of-outcome.result _ _ c.finish.result c.finish.ensures.reported _ _ _ c.outcome_of-outcome.ensures.failed c.finish.ensures.read_fault
+returns-clause-read_fault g c =
+    cause-counts fetch.Failed status.ReadFault refl _ _ c.outcome_of-outcome.result _ _ c.finish.result c.finish.ensures.reported _ _ _ c.outcome_of-outcome.ensures.failed c.finish.ensures.read_fault
 
 pub returns-clause-missing : goal.returns-clause-missing
-returns-clause-missing g c = cause-counts fetch.Missing status.Missing refl _ _ c.outcome_of-outcome.result _ _ c.finish.result c.finish.ensures.reported _ _ _ c.outcome_of-outcome.ensures.missing c.finish.ensures.missing
+returns-clause-missing g c =
+    cause-counts fetch.Missing status.Missing refl _ _ c.outcome_of-outcome.result _ _ c.finish.result c.finish.ensures.reported _ _ _ c.outcome_of-outcome.ensures.missing c.finish.ensures.missing
 
 pub returns-clause-too_long : goal.returns-clause-too_long
-returns-clause-too_long g c = cause-counts fetch.TooLong status.TooLong refl _ _ c.outcome_of-outcome.result _ _ c.finish.result c.finish.ensures.reported _ _ _ c.outcome_of-outcome.ensures.too_long c.finish.ensures.too_long
+returns-clause-too_long g c =
+    cause-counts fetch.TooLong status.TooLong refl _ _ c.outcome_of-outcome.result _ _ c.finish.result c.finish.ensures.reported _ _ _ c.outcome_of-outcome.ensures.too_long c.finish.ensures.too_long
 
 pub returns-clause-blocks : goal.returns-clause-blocks
 returns-clause-blocks g c = λ pages wanted t h.

@@ -13,8 +13,11 @@ unequal false true t e = absurd (cc)
 unequal false false t e = absurd (cc)
 
 pub returns-then-one-other : goal.returns-then-one-other
-returns-then-one-other c =
-    (λ t. absurd (cc), λ (e : word_of c.args.one.now ≡ word_of c.args.other.now). absurd (c.if-one-other.true (sym (length-decisions c.args.one.now c.args.one.now.length) ∙ ap length e ∙ length-decisions c.args.other.now c.args.other.now.length)))
+returns-then-one-other c = (
+  λ t. absurd (cc),
+  λ (e : word_of c.args.one.now ≡ word_of c.args.other.now). absurd
+      (c.if-one-other.true (sym (length-decisions c.args.one.now c.args.one.now.length) ∙ ap length e ∙ length-decisions c.args.other.now c.args.other.now.length)),
+)
 
 pub returns-then-opens : goal.returns-then-opens
 returns-then-opens c =

@@ -23,7 +23,8 @@ loop-node-preserved c =
     let within : x < length nodes =
     subst (λ (ns : List ℕ). get_or ns c.loop-node.node-index 0 < length c.args.nodes.now) (sym c.deref-node-items.ensures.value)
     (item_within c.args.nodes.now c.in_ok-order.order.items c.loop-node.node-index 0 c.in_ok-order.ensures (omega (arith, c.loop-node-test.true, ap length c.deref-node-items.ensures.value))) in
-    let state : state_at nodes x ≡ Some c.state.result.now = state_of_node nodes x c.index-nodes-node.result (there_by nodes x c.index-nodes-node.result within c.index-nodes-node.is) ∙ ap (λ (s : NodeState). Some s) (sym c.state.ensures) in
+    let state : state_at nodes x ≡ Some c.state.result.now =
+    state_of_node nodes x c.index-nodes-node.result (there_by nodes x c.index-nodes-node.result within c.index-nodes-node.is) ∙ ap (λ (s : NodeState). Some s) (sym c.state.ensures) in
     let found = rw c.in-Some.is at c.in_ok-item.ensures in
     visited_more c.args.nodes.now c.loop-node.items.items c.push.new.self.items c.deref-node-items.result.now c.loop-node.node-index 0 c.state.result.now c.in-Some.item
     c.loop-node.invariant c.loop-node-test.true state found.0 found.1 c.in_ok-push.ensures.items
@@ -35,7 +36,8 @@ returns-in_default-clause-not_closed c =
     let within : x < length nodes =
     subst (λ (ns : List ℕ). get_or ns c.loop-node.node-index 0 < length c.args.nodes.now) (sym c.deref-node-items.ensures.value)
     (item_within c.args.nodes.now c.in_ok-order.order.items c.loop-node.node-index 0 c.in_ok-order.ensures (omega (arith, c.loop-node-test.true, ap length c.deref-node-items.ensures.value))) in
-    let state : state_at nodes x ≡ Some c.state.result.now = state_of_node nodes x c.index-nodes-node.result (there_by nodes x c.index-nodes-node.result within c.index-nodes-node.is) ∙ ap (λ (s : NodeState). Some s) (sym c.state.ensures) in
+    let state : state_at nodes x ≡ Some c.state.result.now =
+    state_of_node nodes x c.index-nodes-node.result (there_by nodes x c.index-nodes-node.result within c.index-nodes-node.is) ∙ ap (λ (s : NodeState). Some s) (sym c.state.ensures) in
     first_open c.args.nodes.now c.loop-node.items.items c.deref-node-items.result.now c.loop-node.node-index 0 c.state.result.now
     c.loop-node.invariant (subst (IsPreorder c.args.nodes.now) (sym c.deref-node-items.ensures.value) c.in_ok-order.ensures) c.loop-node-test.true state (rw c.in_default.is at c.in_ok-item.ensures)
 

@@ -24,7 +24,8 @@ loop-node-preserved c =
     let within : x < length nodes =
     subst (λ (ns : List ℕ). get_or ns c.loop-node.node-index 0 < length c.args.nodes.now) (sym c.deref-node-items.ensures.value)
     (item_within c.args.nodes.now c.in_ok-order.order.items c.loop-node.node-index 0 c.in_ok-order.ensures (omega (arith, c.loop-node-test.true, ap length c.deref-node-items.ensures.value))) in
-    let state : state_at nodes x ≡ Some c.state.result.now = state_of_node nodes x c.index-nodes-node.result (there_by nodes x c.index-nodes-node.result within c.index-nodes-node.is) ∙ ap (λ (s : NodeState). Some s) (sym c.state.ensures) in
+    let state : state_at nodes x ≡ Some c.state.result.now =
+    state_of_node nodes x c.index-nodes-node.result (there_by nodes x c.index-nodes-node.result within c.index-nodes-node.is) ∙ ap (λ (s : NodeState). Some s) (sym c.state.ensures) in
     c.in_ok-push.ensures.items
     ∙ ap (λ (ps : List PartItem). ps ++ c.part_item.result ∷ []) c.loop-node.invariant
     ∙ ap (λ (p : PartItem). map (λ (y : ℕ). part_item (state_at nodes y)) (take c.loop-node.node-index c.deref-node-items.result.now) ++ p ∷ []) (c.part_item.ensures ∙ ap part_item (sym state))

@@ -32,7 +32,8 @@ returns-clause-market_fits c =
 
 pub returns-clause-ending_fits : goal.returns-clause-ending_fits
 returns-clause-ending_fits c =
-    ending-fits c.args.books.now c.requires.accepted c.requires.dated 0 c.args.run c.args.made _ c.requires.made c.args.clearing c.in-Ok.priced c.in-Ok-assemble.done.block (rw c.as_slice.ensures at c.in-Ok-assemble.ensures.block)
+    ending-fits c.args.books.now c.requires.accepted c.requires.dated 0 c.args.run c.args.made _ c.requires.made c.args.clearing c.in-Ok.priced c.in-Ok-assemble.done.block
+    (rw c.as_slice.ensures at c.in-Ok-assemble.ensures.block)
     (shapes c.args.books.now c.args.made c.requires.made _ c.args.clearing c.in-Ok.priced c.in-Ok.ensures c.requires.admissible.feasible) c.in-Ok.ensures c.requires.admissible.feasible
 
 pub returns-clause-reported : goal.returns-clause-reported

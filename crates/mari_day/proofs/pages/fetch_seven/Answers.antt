@@ -15,7 +15,8 @@ loop-file-preserved g c = record {
   fetched = one_more c.loop-file.file-index (g.S.Shelf.fetches c.args.shelf.now) _ _ c.loop-file.invariant.fetched c.in-Ok.ensures.fetched;
   held = λ reported e.
       let states = c.in-Ok.ensures.reported reported (c.loop-file.invariant.same ∙ e) in
-      rw (c.in-Ok-push.ensures.items, add-one) (held_more reported c.args.folder.now files c.loop-file.pages.items c.in-Ok.page c.loop-file.file-index Day c.loop-file-test.true (c.loop-file.invariant.held reported e) states.0);
+      rw (c.in-Ok-push.ensures.items, add-one)
+      (held_more reported c.args.folder.now files c.loop-file.pages.items c.in-Ok.page c.loop-file.file-index Day c.loop-file-test.true (c.loop-file.invariant.held reported e) states.0);
   no_gap = λ reported e.
       let states = c.in-Ok.ensures.reported reported (c.loop-file.invariant.same ∙ e) in
       c.loop-file.invariant.no_gap reported e ∙ rw add-one (gap_after reported c.args.folder.now files c.loop-file.file-index Day c.loop-file-test.true states.1);

@@ -42,8 +42,10 @@ pub returns-in-Spent-clause-fits : goal.returns-in-Spent-clause-fits
 returns-in-Spent-clause-fits g c =
     let s = c.requires.stands in
     let P : Heading → Type 0 = λ h. IsHeading h in
-    let heading = subst P (sym c.heading.ensures) (heading-fits c.args.books.now c.requires.accepted c.requires.dated c.args.run (omega (arith, s.2)) c.requires.last) in
-    (heading, rw c.as_slice.ensures (spent-fits c.args.books.now c.requires.accepted c.requires.dated c.in_ok-made.made.market c.args.budget c.in-Spent.spent c.requires.budget.1 c.in-Spent.ensures.law))
+    let heading = subst P (sym c.heading.ensures) (heading-fits c.args.books.now c.requires.accepted c.requires.dated c.args.run (omega (arith, s.2)) c.requires.last) in (
+      heading,
+      rw c.as_slice.ensures (spent-fits c.args.books.now c.requires.accepted c.requires.dated c.in_ok-made.made.market c.args.budget c.in-Spent.spent c.requires.budget.1 c.in-Spent.ensures.law),
+    )
 
 pub returns-in_ok-done-in-Published-clause-done : goal.returns-in_ok-done-in-Published-clause-done
 returns-in_ok-done-in-Published-clause-done g c = λ blocks progress is.

@@ -24,7 +24,8 @@ loop-item-init g c = rw c.new-items.ensures.items (begun g.F.Printed.InItsRange 
 pub loop-item-preserved : goal.loop-item-preserved
 loop-item-preserved g c =
     rw c.in_ok-push.ensures.items
-    (begun_more g.F.Printed.InItsRange g.F.Printed.written c.loop-item.items.items c.as_slice-values.result.now c.loop-item.item-index c.item-item.result c.in_ok-read.read c.loop-item-test.true c.item-item.is c.loop-item.invariant c.in_ok-read.ensures)
+    (begun_more g.F.Printed.InItsRange g.F.Printed.written c.loop-item.items.items c.as_slice-values.result.now c.loop-item.item-index c.item-item.result c.in_ok-read.read c.loop-item-test.true
+    c.item-item.is c.loop-item.invariant c.in_ok-read.ensures)
 
 pub returns-in_err-read : goal.returns-in_err-read
 returns-in_err-read g c =
@@ -36,5 +37,6 @@ returns-in_err-read g c =
 pub returns : goal.returns
 returns g c =
     let is = ap (λ (vs : List Value). Some (items_view vs)) c.as_slice-values.ensures.value ∙ c.in-Some.ensures in
-    rw c.of.ensures (all_read g.F.Printed.InItsRange g.F.Printed.written c.args.least c.args.greatest c.loop-item.items.items c.as_slice-values.result.now c.loop-item.item-index (view c.args.value.now)
+    rw c.of.ensures
+    (all_read g.F.Printed.InItsRange g.F.Printed.written c.args.least c.args.greatest c.loop-item.items.items c.as_slice-values.result.now c.loop-item.item-index (view c.args.value.now)
     c.loop-item-test.false is (omega (arith, c.if-values-least.false)) (omega (arith, c.if-values-greatest.false)) c.loop-item.invariant)

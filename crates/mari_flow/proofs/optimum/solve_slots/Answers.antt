@@ -26,10 +26,12 @@ run-requires-clause-runs c =
     let made : c.network_of-network.result.slots.now ≡ c.args.reals.now ++ stand_ins_for c.args.reals.now = c.network_of-network.ensures.slots ∙ c.as_slice-slots.ensures.value ∙ c.in_ok-all.ensures in
     let amounts : c.deref_mut.result.now ≡ lows c.args.reals.now ++ offsets c.args.reals.now = c.deref_mut.ensures.value ∙ c.in_ok-amounts.ensures in
     let flows : c.deref_mut-2.result.now ≡ replicate (length c.network_of-network.result.borders.now) (pos 0) = c.deref_mut-2.ensures.value ∙ c.in_ok-flows.ensures.items_if_clones_equal (λ y q. q) in
-    let long : length c.network_of-network.result.borders.now ≡ length c.deref_mut-2.result.now = sym (ap (λ (fs : List ℤ). length fs) flows ∙ zeros_long (length c.network_of-network.result.borders.now)) in
+    let long : length c.network_of-network.result.borders.now ≡ length c.deref_mut-2.result.now =
+    sym (ap (λ (fs : List ℤ). length fs) flows ∙ zeros_long (length c.network_of-network.result.borders.now)) in
     subst (λ (ss : List Slot). IsRunning n ss bs c.deref_mut.result.now c.deref_mut-2.result.now) (sym made)
     (subst (λ (xs : List ℤ). IsRunning n (c.args.reals.now ++ stand_ins_for c.args.reals.now) bs xs c.deref_mut-2.result.now) (sym amounts)
-    (starts_running n c.args.reals.now bs c.deref_mut-2.result.now (slots_ordered c.args.market.now.zones c.args.reals.now c.requires.reals.fine) long (λ k. ap (λ (fs : List ℤ). get_or fs k (pos 0)) flows ∙ zeros_at (length c.network_of-network.result.borders.now) k)))
+    (starts_running n c.args.reals.now bs c.deref_mut-2.result.now (slots_ordered c.args.market.now.zones c.args.reals.now c.requires.reals.fine) long
+    (λ k. ap (λ (fs : List ℤ). get_or fs k (pos 0)) flows ∙ zeros_at (length c.network_of-network.result.borders.now) k)))
 
 pub returns : goal.returns
 returns c = λ spans e.

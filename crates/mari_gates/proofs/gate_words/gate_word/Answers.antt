@@ -60,7 +60,8 @@ returns-clause-word c =
     let qs = c.as_slice-mw.result.now in
     let many : length qs ≡ length os = as_many c.args.market.now c.args.activation.now os qs c.requires.activation c.as_slice-order-items.ensures c.as_slice-mw.ensures in
     word_of_marks c.args.market.now c.args.activation.now c.loop-i.word c.requires.market c.loop-i.invariant.decided
-    (λ g l. marked c.args.market.now c.args.activation.now os qs c.loop-i.i g _ c.as_slice-order-items.ensures c.as_slice-mw.ensures c.loop-i-test.false (omega (arith, many)) (c.loop-i.invariant.bits g l))
+    (λ g l. marked c.args.market.now c.args.activation.now os qs c.loop-i.i g _ c.as_slice-order-items.ensures c.as_slice-mw.ensures c.loop-i-test.false (omega (arith, many))
+    (c.loop-i.invariant.bits g l))
 
 pub returns-clause-feasible : goal.returns-clause-feasible
 returns-clause-feasible c =
@@ -68,4 +69,5 @@ returns-clause-feasible c =
     let qs = c.as_slice-mw.result.now in
     let many : length qs ≡ length os = as_many c.args.market.now c.args.activation.now os qs c.requires.activation c.as_slice-order-items.ensures c.as_slice-mw.ensures in
     marks_feasible c.args.market.now c.args.activation.now c.loop-i.word c.requires.market c.requires.activation c.loop-i.invariant.decided
-    (λ g l. marked c.args.market.now c.args.activation.now os qs c.loop-i.i g _ c.as_slice-order-items.ensures c.as_slice-mw.ensures c.loop-i-test.false (omega (arith, many)) (c.loop-i.invariant.bits g l))
+    (λ g l. marked c.args.market.now c.args.activation.now os qs c.loop-i.i g _ c.as_slice-order-items.ensures c.as_slice-mw.ensures c.loop-i-test.false (omega (arith, many))
+    (c.loop-i.invariant.bits g l))

@@ -6,7 +6,8 @@ use Rattle.mari_gates.proofs.prefixes.keeps_rules.Goals.{else-opens-via-then-ope
 pub returns-then-not-may_open_next : goal.returns-then-not-may_open_next
 returns-then-not-may_open_next c = (
   λ no. absurd (cc),
-  λ f. absurd (not_feasible c.args.gates.now c.args.prefix.now c.args.prefix.now.length c.loop-gate.gate c.requires.earlier c.loop-gate-test.true (sym c.opens.ensures ∙ c.if-opens.true) (sym c.may_open_next.ensures ∙ c.if-not-may_open_next.true) f),
+  λ f. absurd (not_feasible c.args.gates.now c.args.prefix.now c.args.prefix.now.length c.loop-gate.gate c.requires.earlier c.loop-gate-test.true (sym c.opens.ensures ∙ c.if-opens.true)
+      (sym c.may_open_next.ensures ∙ c.if-not-may_open_next.true) f),
 )
 
 pub loop-gate-preserved : goal.loop-gate-preserved

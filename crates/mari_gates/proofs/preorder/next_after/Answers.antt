@@ -34,7 +34,8 @@ returns-then-may_branch_up-clause-left c =
     let at = c.loop-at.at in
     let up = c.without_last-at.result in
     let bit : bit_of at up.length ≡ false = last_bit at up.length _ c.opens-was_open.ensures c.without_last-at.ensures.length ∙ c.if-not-was_open.true in
-    let may : opened_child gates (word_of up) ≡ (word_of up ++ true ∷ []) ∷ [] = opened_read gates (word_of up) _ c.may_branch_up.ensures.children ∙ ap (λ (b : Bool). if b then (word_of up ++ true ∷ []) ∷ [] else []) c.if-may_branch_up.true in
+    let may : opened_child gates (word_of up) ≡ (word_of up ++ true ∷ []) ∷ [] =
+    opened_read gates (word_of up) _ c.may_branch_up.ensures.children ∙ ap (λ (b : Bool). if b then (word_of up ++ true ∷ []) ∷ [] else []) c.if-may_branch_up.true in
     waiting_sibling gates at up c.child_of.result _ c.without_last-at.ensures.word bit may c.child_of.ensures.word ∙ sym c.loop-at.invariant.left
 
 pub loop-at-preserved : goal.loop-at-preserved
@@ -43,7 +44,8 @@ loop-at-preserved c =
     let at = c.loop-at.at in
     let up = c.without_last-at.result in
     let none : bit_of at up.length ≡ false → opened_child gates (word_of up) ≡ [] = elim c.else-not-was_open.branch [
-      | else-not-was_open-via-then-not-was_open+else-may_branch_up w ↦ λ e. opened_read gates (word_of up) _ w.may_branch_up.ensures.children ∙ ap (λ (b : Bool). if b then (word_of up ++ true ∷ []) ∷ [] else []) w.if-may_branch_up.false
+      | else-not-was_open-via-then-not-was_open+else-may_branch_up w ↦ λ e. opened_read gates (word_of up) _ w.may_branch_up.ensures.children
+          ∙ ap (λ (b : Bool). if b then (word_of up ++ true ∷ []) ∷ [] else []) w.if-may_branch_up.false
       | else-not-was_open-via-else-not-was_open w ↦ λ e. absurd (cc (last_bit at up.length _ c.opens-was_open.ensures c.without_last-at.ensures.length, w.if-not-was_open.false))
     ] in
     record {

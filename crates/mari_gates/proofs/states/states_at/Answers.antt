@@ -11,5 +11,6 @@ next_state-requires-clause-earlier c = rw c.as_slice-gates.ensures (parents_earl
 pub loop-gate-preserved : goal.loop-gate-preserved
 loop-gate-preserved c = record {
   size = length-set c.loop-gate.states c.loop-gate.gate c.next_state.result ∙ c.loop-gate.invariant.size;
-  below = states_more c.as_slice-gates.result.now (word_of c.args.prefix.now) c.loop-gate.states c.loop-gate.gate c.next_state.result (omega (arith, ap length c.as_slice-gates.ensures)) c.loop-gate.invariant.below c.next_state.ensures;
+  below = states_more c.as_slice-gates.result.now (word_of c.args.prefix.now) c.loop-gate.states c.loop-gate.gate c.next_state.result
+      (omega (arith, ap length c.as_slice-gates.ensures)) c.loop-gate.invariant.below c.next_state.ensures;
 }

@@ -12,7 +12,8 @@ pub returns-then-trees-islands-clause-certified : goal.returns-then-trees-island
 returns-then-trees-islands-clause-certified c = (
   λ t. absurd (false≢true t),
   λ k. elim c.then-trees-islands.branch [
-    | then-trees-islands-via-then-trees-islands w ↦ absurd (let long = AllZip-long (HoldsInIsland c.args.activation.now) c.args.islands.now (lists_of c.args.trees.now) k.hold in let many = length-map c.args.trees.now (λ v. v.items) in omega (arith, long, many, w.if-trees-islands.true))
+    | then-trees-islands-via-then-trees-islands w ↦ absurd (let long = AllZip-long (HoldsInIsland c.args.activation.now) c.args.islands.now
+        (lists_of c.args.trees.now) k.hold in let many = length-map c.args.trees.now (λ v. v.items) in omega (arith, long, many, w.if-trees-islands.true))
     | then-trees-islands-via-else-trees-islands+then-not-is_feasible w ↦ absurd (both_ways _ w.if-not-is_feasible.true (w.is_feasible.ensures.1 k.admissible.feasible))
   ],
 )
@@ -20,7 +21,8 @@ returns-then-trees-islands-clause-certified c = (
 pub returns-clause-first : goal.returns-clause-first
 returns-clause-first c = λ t.
     let m = c.args.market.now in
-    let certified : AreCertified m c.args.islands.now c.args.activation.now (lists_of c.args.trees.now) = record { admissible = c.in_ok-has_prices.ensures.0 c.if-not-branch.false; hold = c.in_ok-hold.ensures.0 t } in
+    let certified : AreCertified m c.args.islands.now c.args.activation.now (lists_of c.args.trees.now) =
+    record { admissible = c.in_ok-has_prices.ensures.0 c.if-not-branch.false; hold = c.in_ok-hold.ensures.0 t } in
     certified_first m c.args.islands.now c.requires.valid c.requires.islands c.args.activation.now (lists_of c.args.trees.now) certified
 
 pub returns-clause-welfare : goal.returns-clause-welfare

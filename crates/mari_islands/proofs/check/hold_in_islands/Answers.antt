@@ -58,7 +58,8 @@ returns-then-not-branch c =
     let a = c.args.activation.now in
     let trees = lists_of c.args.trees.now in
     let there : c.loop-place.place < length c.args.trees.now = omega (arith, c.requires.lengths, c.loop-place-test.true) in
-    let read : c.deref.result.now ≡ get_or trees c.loop-place.place c.index-trees-place.result.items = tree_at c.args.trees.now c.loop-place.place c.index-trees-place.result c.deref.result.now there c.index-trees-place.is c.deref.ensures.value in
+    let read : c.deref.result.now ≡ get_or trees c.loop-place.place c.index-trees-place.result.items =
+    tree_at c.args.trees.now c.loop-place.place c.index-trees-place.result c.deref.result.now there c.index-trees-place.is c.deref.ensures.value in
     let test : (c.in_ok-holds_in_island.field-0 ≡ true) ↔ HoldsInIsland a (get_or c.args.islands.now c.loop-place.place c.index-islands-place.result) c.deref.result.now =
     subst (λ (i : Island). (c.in_ok-holds_in_island.field-0 ≡ true) ↔ HoldsInIsland a i c.deref.result.now) c.index-islands-place.is c.in_ok-holds_in_island.ensures in
     fails_at (HoldsInIsland a) c.args.islands.now trees c.loop-place.place c.index-islands-place.result c.index-trees-place.result.items
@@ -69,7 +70,8 @@ loop-place-preserved c =
     let a = c.args.activation.now in
     let trees = lists_of c.args.trees.now in
     let there : c.loop-place.place < length c.args.trees.now = omega (arith, c.requires.lengths, c.loop-place-test.true) in
-    let read : c.deref.result.now ≡ get_or trees c.loop-place.place c.index-trees-place.result.items = tree_at c.args.trees.now c.loop-place.place c.index-trees-place.result c.deref.result.now there c.index-trees-place.is c.deref.ensures.value in
+    let read : c.deref.result.now ≡ get_or trees c.loop-place.place c.index-trees-place.result.items =
+    tree_at c.args.trees.now c.loop-place.place c.index-trees-place.result c.deref.result.now there c.index-trees-place.is c.deref.ensures.value in
     let test : (c.in_ok-holds_in_island.field-0 ≡ true) ↔ HoldsInIsland a (get_or c.args.islands.now c.loop-place.place c.index-islands-place.result) c.deref.result.now =
     subst (λ (i : Island). (c.in_ok-holds_in_island.field-0 ≡ true) ↔ HoldsInIsland a i c.deref.result.now) c.index-islands-place.is c.in_ok-holds_in_island.ensures in
     passes_more (HoldsInIsland a) c.args.islands.now trees c.loop-place.place c.index-islands-place.result c.index-trees-place.result.items

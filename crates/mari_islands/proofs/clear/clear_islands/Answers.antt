@@ -25,7 +25,8 @@ pub loop-place-preserved : goal.loop-place-preserved
 loop-place-preserved g c =
     let pushed : c.push.new.self.items ≡ c.loop-place.clearings.items ++ c.in-Published.clearing ∷ [] = search rules in
     record {
-      cleared = cleared_more c.args.budget c.args.islands.now c.loop-place.clearings.items c.push.new.self.items c.loop-place.place c.index-islands-place.result c.in-Published.clearing c.loop-place-test.true c.index-islands-place.is c.loop-place.invariant.cleared c.in-Published.ensures.law pushed;
+      cleared = cleared_more c.args.budget c.args.islands.now c.loop-place.clearings.items c.push.new.self.items c.loop-place.place c.index-islands-place.result c.in-Published.clearing
+          c.loop-place-test.true c.index-islands-place.is c.loop-place.invariant.cleared c.in-Published.ensures.law pushed;
       ready = c.in-Published.ensures.ready;
     }
 

@@ -14,10 +14,12 @@ loop-gate-preserved c =
     let homes = c.args.homes.now in
     let n = c.loop-gate.gate in
     let l : n < length m.gates = omega (arith, c.loop-gate-test.true, c.requires.one_each) in
-    let group : (get_or c.as_slice-gates.result.now n no_info).group ≡ group_of m.gates n = ap (λ (xs : List GateInfo). (get_or xs n no_info).group) c.as_slice-gates.ensures ∙ sym (group_at m.gates n no_info l) in
+    let group : (get_or c.as_slice-gates.result.now n no_info).group ≡ group_of m.gates n =
+    ap (λ (xs : List GateInfo). (get_or xs n no_info).group) c.as_slice-gates.ensures ∙ sym (group_at m.gates n no_info l) in
     let old : ℕ → Option ℕ = get nat_cmp c.loop-gate.groups in
     let new : ℕ → Option ℕ = get nat_cmp c.mate_of.new.groups in
-    let keeps : KeepsMates old new (group_of m.gates n) (slice_index homes n) c.in_ok-mate.mate = subst (λ (g : Option ℕ). KeepsMates old new g (slice_index homes n) c.in_ok-mate.mate) group c.in_ok-mate.ensures in
+    let keeps : KeepsMates old new (group_of m.gates n) (slice_index homes n) c.in_ok-mate.mate =
+    subst (λ (g : Option ℕ). KeepsMates old new g (slice_index homes n) c.in_ok-mate.mate) group c.in_ok-mate.ensures in
     subst (AreMatesOf m (n + 1) new) (sym c.in_ok-push.ensures.items) (mates_more m homes c.requires n l old new c.loop-gate.mates.items c.in_ok-mate.mate c.loop-gate.invariant keeps)
 
 pub returns : goal.returns

@@ -39,7 +39,8 @@ loop-order-preserved c =
         sound = w.unite_joined.ensures.sound;
         united = all_step (Contains m.orders) (UnitesOwn homes olds) (UnitesOwn homes w.unite_joined.new.firsts) items c.loop-order.order-index no_order c.loop-order-test.true all
             (own_stays m homes c.requires.valid c.requires.homes olds w.unite_joined.new.firsts inv.sound w.unite_joined.ensures.stay) inv.united
-            (λ g is. subst (λ (h : ℕ). AreUnited w.unite_joined.new.firsts (slice_index homes h) (get_or items c.loop-order.order-index no_order).zone) (same_Some w.in-Some.gate g (sym w.in-Some.is ∙ is)) w.unite_joined.ensures.united);
+            (λ g is. subst (λ (h : ℕ). AreUnited w.unite_joined.new.firsts (slice_index homes h) (get_or items c.loop-order.order-index no_order).zone)
+            (same_Some w.in-Some.gate g (sym w.in-Some.is ∙ is)) w.unite_joined.ensures.united);
         stay = stays_on c.args.firsts.now olds w.unite_joined.new.firsts c.loop-order.auto.firsts inv.stay w.unite_joined.ensures.stay;
       })
       | in_default w ↦ rw w.firsts-is (record {

@@ -49,7 +49,8 @@ returns-in-Some-clause-united c =
     let news = c.unite_joined-in-Some.new.firsts in
     let e : parent_of m.gates c.args.gate ≡ Some c.in-Some.parent = named_parent m.gates c.as_slice.result.now c.args.gate c.in-Some.parent c.as_slice.ensures c.requires.there c.in-Some.is in
     let home : slice_index homes c.args.gate < length mids = omega (arith, home_there m homes c.requires.valid c.requires.homes c.args.gate c.requires.there, c.unite_joined.ensures.sound.one_each) in
-    let mate : slice_index c.args.mates.now c.args.gate < length mids = omega (arith, mate_there m c.args.mates.now c.requires.valid c.requires.mates c.args.gate c.requires.there, c.unite_joined.ensures.sound.one_each) in
+    let mate : slice_index c.args.mates.now c.args.gate < length mids =
+    omega (arith, mate_there m c.args.mates.now c.requires.valid c.requires.mates c.args.gate c.requires.there, c.unite_joined.ensures.sound.one_each) in
     record {
       group = c.unite_joined-in-Some.ensures.stay (slice_index homes c.args.gate) (slice_index c.args.mates.now c.args.gate) home mate c.unite_joined.ensures.united;
       parent = λ h is. subst (λ (p : ℕ). AreUnited news (slice_index homes c.args.gate) (slice_index homes p)) (same_Some c.in-Some.parent h (sym e ∙ is)) c.unite_joined-in-Some.ensures.united;

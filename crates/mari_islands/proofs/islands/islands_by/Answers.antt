@@ -12,6 +12,8 @@ loop-zone-preserved c =
     elim c.if-is_inside.branch [
       | then-is_inside+in_ok-island+in_ok-push w ↦ rw w.islands-is (
           let pushed : w.push.new.self.items ≡ c.loop-zone.islands.items ++ w.in_ok-island.island ∷ [] = search rules in
-          mapped_more part (λ z. has_first c.args.firsts.now z z) c.loop-zone.zone c.loop-zone.islands.items w.push.new.self.items w.in_ok-island.island c.loop-zone.invariant (sym c.is_inside.ensures ∙ w.if-is_inside.true) w.in_ok-island.ensures pushed)
-      | else-is_inside w ↦ rw w.islands-is (mapped_same part (λ z. has_first c.args.firsts.now z z) c.loop-zone.zone c.loop-zone.islands.items c.loop-zone.invariant (sym c.is_inside.ensures ∙ w.if-is_inside.false))
+          mapped_more part (λ z. has_first c.args.firsts.now z z) c.loop-zone.zone c.loop-zone.islands.items w.push.new.self.items w.in_ok-island.island c.loop-zone.invariant
+          (sym c.is_inside.ensures ∙ w.if-is_inside.true) w.in_ok-island.ensures pushed)
+      | else-is_inside w ↦ rw w.islands-is
+          (mapped_same part (λ z. has_first c.args.firsts.now z z) c.loop-zone.zone c.loop-zone.islands.items c.loop-zone.invariant (sym c.is_inside.ensures ∙ w.if-is_inside.false))
     ]

@@ -14,5 +14,6 @@ welfare_of-requires-clause-small c = small_welfare c.args.market.now c.args.isla
 pub returns-clause-first : goal.returns-clause-first
 returns-clause-first c = record {
   first = joined_is_first c.args.market.now c.args.islands.now c.requires.valid c.requires.islands c.args.clearings.now c.in_ok-activation.activation c.requires.firsts c.in_ok-activation.ensures;
-  welfare = joined_welfare c.args.market.now c.args.islands.now c.requires.valid c.requires.islands c.args.clearings.now c.in_ok-activation.activation c.requires.firsts c.in_ok-activation.ensures ∙ sym (ap pos c.welfare_of.ensures);
+  welfare = joined_welfare c.args.market.now c.args.islands.now c.requires.valid c.requires.islands c.args.clearings.now c.in_ok-activation.activation c.requires.firsts c.in_ok-activation.ensures
+      ∙ sym (ap pos c.welfare_of.ensures);
 }

@@ -37,7 +37,8 @@ place_island-requires-clause-mw c =
     let island : Island = c.index-islands-place.result in
     let there : Contains islands island = (c.loop-place.place, c.loop-place-test.true, sym c.index-islands-place.is) in
     let long = All-contains (λ (i : Island). length i.orders ≡ length i.market.orders) islands island (orders_long c.args.market.now islands c.requires.valid c.requires.islands) there in
-    let fits : FitsIsland island (get_or c.args.clearings.now c.loop-place.place c.index-clearings-place.result) = subst (λ (i : Island). FitsIsland i (get_or c.args.clearings.now c.loop-place.place c.index-clearings-place.result)) (sym c.index-islands-place.is)
+    let fits : FitsIsland island (get_or c.args.clearings.now c.loop-place.place c.index-clearings-place.result) =
+    subst (λ (i : Island). FitsIsland i (get_or c.args.clearings.now c.loop-place.place c.index-clearings-place.result)) (sym c.index-islands-place.is)
     (AllZip-at FitsIsland islands c.args.clearings.now c.loop-place.place island c.index-clearings-place.result c.loop-place-test.true c.requires.clearings) in
     fits.orders ∙ sym long
 
@@ -47,7 +48,8 @@ place_island-requires-clause-flow c =
     let island : Island = c.index-islands-place.result in
     let there : Contains islands island = (c.loop-place.place, c.loop-place-test.true, sym c.index-islands-place.is) in
     let long = All-contains (λ (i : Island). length i.borders ≡ length i.market.borders) islands island (borders_long c.args.market.now islands c.requires.valid c.requires.islands) there in
-    let fits : FitsIsland island (get_or c.args.clearings.now c.loop-place.place c.index-clearings-place.result) = subst (λ (i : Island). FitsIsland i (get_or c.args.clearings.now c.loop-place.place c.index-clearings-place.result)) (sym c.index-islands-place.is)
+    let fits : FitsIsland island (get_or c.args.clearings.now c.loop-place.place c.index-clearings-place.result) =
+    subst (λ (i : Island). FitsIsland i (get_or c.args.clearings.now c.loop-place.place c.index-clearings-place.result)) (sym c.index-islands-place.is)
     (AllZip-at FitsIsland islands c.args.clearings.now c.loop-place.place island c.index-clearings-place.result c.loop-place-test.true c.requires.clearings) in
     fits.borders ∙ sym long
 
@@ -58,7 +60,8 @@ loop-place-preserved c =
     let island : Island = c.index-islands-place.result in
     let place = c.loop-place.place in
     let there : place < length clearings = omega (arith, AllZip-long FitsIsland islands clearings c.requires.clearings, c.loop-place-test.true) in
-    let here = subst (λ (i : Island). IsPlaced i (get_or clearings place c.index-clearings-place.result).activation c.loop-place.mw c.loop-place.flow c.place_island.new.mw c.place_island.new.flow) c.index-islands-place.is c.place_island.ensures in
+    let here = subst (λ (i : Island). IsPlaced i (get_or clearings place c.index-clearings-place.result).activation c.loop-place.mw c.loop-place.flow c.place_island.new.mw c.place_island.new.flow)
+    c.index-islands-place.is c.place_island.ensures in
     placed_more c.args.market.now islands c.requires.valid c.requires.islands clearings place island c.index-clearings-place.result c.loop-place.mw
     c.loop-place.flow c.place_island.new.mw c.place_island.new.flow c.loop-place-test.true there c.loop-place.invariant here
 

@@ -9,5 +9,6 @@ loop-zone-preserved c = elim c.if-is_inside.branch [
   | then-is_inside+in_ok-push w ↦ rw w.zones-is (
       let pushed : w.push.new.self.items ≡ c.loop-zone.zones.items ++ c.loop-zone.zone ∷ [] = search rules in
       kept_more (has_first c.args.firsts.now c.args.first) c.loop-zone.zone c.loop-zone.zones.items w.push.new.self.items c.loop-zone.invariant (sym c.is_inside.ensures ∙ w.if-is_inside.true) pushed)
-  | else-is_inside w ↦ rw w.zones-is (kept_same (has_first c.args.firsts.now c.args.first) c.loop-zone.zone c.loop-zone.zones.items c.loop-zone.invariant (sym c.is_inside.ensures ∙ w.if-is_inside.false))
+  | else-is_inside w ↦ rw w.zones-is
+      (kept_same (has_first c.args.firsts.now c.args.first) c.loop-zone.zone c.loop-zone.zones.items c.loop-zone.invariant (sym c.is_inside.ensures ∙ w.if-is_inside.false))
 ]

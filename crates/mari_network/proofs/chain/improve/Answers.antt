@@ -14,7 +14,8 @@ less_bits more fits some = omega (arith, ints, fits, some)
 
 pub move_amount-requires-clause-moved : goal.move_amount-requires-clause-moved
 move_amount-requires-clause-moved c =
-    let within : IsWithinSlot (slot_at c.args.network.now.slots.now c.args.chain.now.sink) (int_at c.args.amounts.now c.args.chain.now.sink) = AllZip-at IsWithinSlot c.args.network.now.slots.now c.args.amounts.now c.args.chain.now.sink no_slot (pos 0) c.requires.chain.less.0 c.requires.runs.amounts in
+    let within : IsWithinSlot (slot_at c.args.network.now.slots.now c.args.chain.now.sink) (int_at c.args.amounts.now c.args.chain.now.sink) =
+    AllZip-at IsWithinSlot c.args.network.now.slots.now c.args.amounts.now c.args.chain.now.sink no_slot (pos 0) c.requires.chain.less.0 c.requires.runs.amounts in
     let r : FitsSigned w64 c.most_along-more.result = search rules in
     let some : pos 1 ≤ℤ c.most_along-more.result = c.most_along-more.ensures.some in
     let less = less_bits c.most_along-more.result r some in
@@ -25,9 +26,12 @@ move_amount-requires-2-clause-small c = c.requires.network.small c.args.chain.no
 
 pub move_amount-requires-2-clause-moved : goal.move_amount-requires-2-clause-moved
 move_amount-requires-2-clause-moved c =
-    let within : IsWithinSlot (slot_at c.args.network.now.slots.now c.args.chain.now.source) (int_at c.args.amounts.now c.args.chain.now.source) = AllZip-at IsWithinSlot c.args.network.now.slots.now c.args.amounts.now c.args.chain.now.source no_slot (pos 0) c.requires.chain.more.0 c.requires.runs.amounts in
+    let within : IsWithinSlot (slot_at c.args.network.now.slots.now c.args.chain.now.source) (int_at c.args.amounts.now c.args.chain.now.source) =
+    AllZip-at IsWithinSlot c.args.network.now.slots.now c.args.amounts.now c.args.chain.now.source no_slot (pos 0) c.requires.chain.more.0 c.requires.runs.amounts in
     let r : FitsSigned w64 c.most_along-more.result = search rules in
-    let kept : int_at c.move_amount.new.amounts c.args.chain.now.source ≡ int_at c.args.amounts.now c.args.chain.now.source = ap (λ (xs : List ℤ). int_at xs c.args.chain.now.source) c.move_amount.ensures.moved ∙ get_or-set_other c.args.amounts.now c.args.chain.now.sink c.args.chain.now.source _ (pos 0) (λ e. other_slot c.args.network.now.slots.now c.args.chain.now.sink c.args.chain.now.source c.requires.chain.dearer (sym e)) in
+    let kept : int_at c.move_amount.new.amounts c.args.chain.now.source ≡ int_at c.args.amounts.now c.args.chain.now.source =
+    ap (λ (xs : List ℤ). int_at xs c.args.chain.now.source) c.move_amount.ensures.moved ∙ get_or-set_other c.args.amounts.now c.args.chain.now.sink c.args.chain.now.source _ (pos 0)
+    (λ e. other_slot c.args.network.now.slots.now c.args.chain.now.sink c.args.chain.now.source c.requires.chain.dearer (sym e)) in
     rw (kept, to_z-of_z r) (record { least = omega (arith, ints, within.least, c.most_along-more.ensures.some); most = omega (arith, ints, c.most_along-more.ensures.source) })
 
 pub returns-clause-runs : goal.returns-clause-runs
@@ -44,7 +48,8 @@ returns-clause-runs c =
           move_balances z (slot_at c.args.network.now.slots.now c.args.chain.now.sink).zone
           (slot_at c.args.network.now.slots.now c.args.chain.now.source).zone (hop_at c.args.chain.now.hops.items 0).zone
           (hop_at c.args.chain.now.hops.items c.args.chain.now.at).zone c.most_along-more.result _ _ _ _ _ c.requires.chain.to c.requires.chain.from
-          (rw less at c.move_amount.ensures.into z) (rw (to_z-of_z r) at c.move_amount-2.ensures.into z) (rw (c.deref.ensures.value, to_z-of_z r) at c.push_chain.ensures.carried z) (c.requires.runs.balance z h);
+          (rw less at c.move_amount.ensures.into z) (rw (to_z-of_z r) at c.move_amount-2.ensures.into z) (rw (c.deref.ensures.value, to_z-of_z r) at c.push_chain.ensures.carried z)
+          (c.requires.runs.balance z h);
     }
 
 pub returns-clause-moved : goal.returns-clause-moved
@@ -56,13 +61,19 @@ returns-clause-moved c =
     let r : FitsSigned w64 c.most_along-more.result = search rules in
     let some : pos 1 ≤ℤ c.most_along-more.result = c.most_along-more.ensures.some in
     let less = less_bits c.most_along-more.result r some in
-    let at_sink : IsWithinSlot (slot_at c.args.network.now.slots.now sink) (int_at old sink) = AllZip-at IsWithinSlot c.args.network.now.slots.now old sink no_slot (pos 0) c.requires.chain.less.0 c.requires.runs.amounts in
-    let at_source : IsWithinSlot (slot_at c.args.network.now.slots.now source) (int_at old source) = AllZip-at IsWithinSlot c.args.network.now.slots.now old source no_slot (pos 0) c.requires.chain.more.0 c.requires.runs.amounts in
+    let at_sink : IsWithinSlot (slot_at c.args.network.now.slots.now sink) (int_at old sink) =
+    AllZip-at IsWithinSlot c.args.network.now.slots.now old sink no_slot (pos 0) c.requires.chain.less.0 c.requires.runs.amounts in
+    let at_source : IsWithinSlot (slot_at c.args.network.now.slots.now source) (int_at old source) =
+    AllZip-at IsWithinSlot c.args.network.now.slots.now old source no_slot (pos 0) c.requires.chain.more.0 c.requires.runs.amounts in
     let apart : source ≢ sink = λ e. other_slot c.args.network.now.slots.now sink source c.requires.chain.dearer (sym e) in
-    let first : (k : ℕ) → k ≢ sink → int_at c.move_amount.new.amounts k ≡ int_at old k = λ k far. ap (λ (xs : List ℤ). int_at xs k) c.move_amount.ensures.moved ∙ get_or-set_other old sink k _ (pos 0) far in
-    let second : (k : ℕ) → k ≢ source → int_at new k ≡ int_at c.move_amount.new.amounts k = λ k far. ap (λ (xs : List ℤ). int_at xs k) c.move_amount-2.ensures.moved ∙ get_or-set_other c.move_amount.new.amounts source k _ (pos 0) far in
-    let sunk : int_at c.move_amount.new.amounts sink ≡ int_at old sink +ℤ neg_ℤ c.most_along-more.result = ap (λ (xs : List ℤ). int_at xs sink) (rw less at c.move_amount.ensures.moved) ∙ get_or-set_same old sink _ (pos 0) (omega (arith, c.requires.runs.amounts_long, c.requires.chain.less.0)) in
-    let risen : int_at new source ≡ int_at c.move_amount.new.amounts source +ℤ c.most_along-more.result = ap (λ (xs : List ℤ). int_at xs source) (rw (to_z-of_z r) at c.move_amount-2.ensures.moved) ∙ get_or-set_same c.move_amount.new.amounts source _ (pos 0) (search rules) in
+    let first : (k : ℕ) → k ≢ sink
+    → int_at c.move_amount.new.amounts k ≡ int_at old k = λ k far. ap (λ (xs : List ℤ). int_at xs k) c.move_amount.ensures.moved ∙ get_or-set_other old sink k _ (pos 0) far in
+    let second : (k : ℕ) → k ≢ source → int_at new k ≡ int_at c.move_amount.new.amounts k =
+    λ k far. ap (λ (xs : List ℤ). int_at xs k) c.move_amount-2.ensures.moved ∙ get_or-set_other c.move_amount.new.amounts source k _ (pos 0) far in
+    let sunk : int_at c.move_amount.new.amounts sink ≡ int_at old sink +ℤ neg_ℤ c.most_along-more.result =
+    ap (λ (xs : List ℤ). int_at xs sink) (rw less at c.move_amount.ensures.moved) ∙ get_or-set_same old sink _ (pos 0) (omega (arith, c.requires.runs.amounts_long, c.requires.chain.less.0)) in
+    let risen : int_at new source ≡ int_at c.move_amount.new.amounts source +ℤ c.most_along-more.result =
+    ap (λ (xs : List ℤ). int_at xs source) (rw (to_z-of_z r) at c.move_amount-2.ensures.moved) ∙ get_or-set_same c.move_amount.new.amounts source _ (pos 0) (search rules) in
     record {
       others = λ k a b. second k b ∙ first k a;
       less = omega (arith, ints, second sink (λ e. apart (sym e)), sunk, some);

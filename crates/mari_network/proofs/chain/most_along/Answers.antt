@@ -21,6 +21,8 @@ room-requires-clause-most c =
     let more = c.requires.chain.more in
     let f_sink : FitsSigned w64 (int_at c.args.amounts.now c.args.chain.now.sink) = search rules in
     let f_source : FitsSigned w64 (int_at c.args.amounts.now c.args.chain.now.source) = search rules in
-    let below : c.room_below-below.result ≡ int_at c.args.amounts.now c.args.chain.now.sink -ℤ (slot_at c.args.network.now.slots.now c.args.chain.now.sink).low = rw (to_z-of_z f_sink) at c.room_below-below.ensures in
-    let above : c.room_above-above.result ≡ (slot_at c.args.network.now.slots.now c.args.chain.now.source).high -ℤ int_at c.args.amounts.now c.args.chain.now.source = rw (to_z-of_z f_source) at c.room_above-above.ensures in
+    let below : c.room_below-below.result ≡ int_at c.args.amounts.now c.args.chain.now.sink -ℤ (slot_at c.args.network.now.slots.now c.args.chain.now.sink).low =
+    rw (to_z-of_z f_sink) at c.room_below-below.ensures in
+    let above : c.room_above-above.result ≡ (slot_at c.args.network.now.slots.now c.args.chain.now.source).high -ℤ int_at c.args.amounts.now c.args.chain.now.source =
+    rw (to_z-of_z f_source) at c.room_above-above.ensures in
     omega (arith, ints, clamps, c.min.ensures.value, less.1, more.1)

@@ -11,14 +11,16 @@ loop-place-preserved c =
     let fs = c.args.flows.now in
     let hops = c.args.hops.now in
     let k = c.loop-place.place in
-    let on : HopHas c.args.borders.now c.args.flows.now c.args.hops.now (pos 1) c.loop-place.place = hop_has c.args.borders.now c.args.flows.now c.args.hops.now (pos 1) c.loop-place.place c.loop-place-test.true c.loop-place.invariant.has_some in
+    let on : HopHas c.args.borders.now c.args.flows.now c.args.hops.now (pos 1) c.loop-place.place =
+    hop_has c.args.borders.now c.args.flows.now c.args.hops.now (pos 1) c.loop-place.place c.loop-place-test.true c.loop-place.invariant.has_some in
     let hop : IsHop c.args.borders.now c.args.hops.now c.loop-place.place = c.requires.trace.each c.loop-place.place c.loop-place-test.true c.loop-place.invariant.there in
     record {
       there = omega (arith, hop.earlier);
       some = omega (arith, ints, clamps, c.min-least.ensures, c.room_at.ensures, on.here);
       most = omega (arith, ints, clamps, c.min-least.ensures, c.room_at.ensures, on.here);
       has_some = on.rest;
-      room = λ d l rest. c.loop-place.invariant.room d (omega (arith, ints, clamps, c.min-least.ensures)) (goes_on c.loop-place.place c.loop-place-test.true (omega (arith, ints, clamps, c.min-least.ensures, c.room_at.ensures)) rest);
+      room = λ d l rest. c.loop-place.invariant.room d (omega (arith, ints, clamps, c.min-least.ensures))
+          (goes_on c.loop-place.place c.loop-place-test.true (omega (arith, ints, clamps, c.min-least.ensures, c.room_at.ensures)) rest);
     }
 
 pub returns-clause-room : goal.returns-clause-room

@@ -9,5 +9,6 @@ sizes-requires c = sizes_small c.args.orders.now (take (length c.args.orders.now
 pub returns : goal.returns
 returns c =
     let amounts = take (length c.args.orders.now) c.args.amounts.now in
-    let puts : (qs : List ℕ) → qs ≡ map unsigned_abs amounts → ArePuts c.args.orders.now amounts qs = λ qs e. subst (λ (qs : List ℕ). ArePuts c.args.orders.now amounts qs) (sym e) (sizes_put c.args.orders.now amounts c.requires.fits) in
+    let puts : (qs : List ℕ) → qs ≡ map unsigned_abs amounts
+    → ArePuts c.args.orders.now amounts qs = λ qs e. subst (λ (qs : List ℕ). ArePuts c.args.orders.now amounts qs) (sym e) (sizes_put c.args.orders.now amounts c.requires.fits) in
     search (rules, puts)

@@ -20,7 +20,8 @@ loop-at-preserved-then-amounts-place c =
     record {
       at = omega arith;
       there = λ i e. subst (λ (k : ℕ). k < length c.args.slots.now) (some_same place i e) (c.requires.there at no_rung there);
-      dearest = dearest_rung_take c.args.slots.now c.args.amounts.now c.args.ladder.now at c.args.end place price c.loop-at.best (omega arith) refl refl (sym (c.requires.price at no_rung there)) (c.requires.there at no_rung there, less) low
+      dearest = dearest_rung_take c.args.slots.now c.args.amounts.now c.args.ladder.now at c.args.end place price c.loop-at.best (omega arith) refl refl (sym (c.requires.price at no_rung there))
+          (c.requires.there at no_rung there, less) low
           (subst (λ (k : ℕ). IsDearestRung c.args.slots.now c.args.amounts.now c.args.ladder.now k c.args.end c.loop-at.best) same c.loop-at.invariant.dearest);
     }
 

@@ -13,4 +13,5 @@ returns-then-amounts-slot c =
 pub returns : goal.returns
 returns c =
     let above : int_at c.args.amounts.now c.args.slot <ℤ (slot_at c.args.slots.now c.args.slot).high = search rules in
-    cheapest_taken c.args.slots.now c.args.amounts.now c.args.slot c.args.best c.cheaper_in_order.result (c.requires.slot, above) c.cheaper_in_order.ensures.one c.cheaper_in_order.ensures.below c.cheaper_in_order.ensures.keeps
+    cheapest_taken c.args.slots.now c.args.amounts.now c.args.slot c.args.best c.cheaper_in_order.result
+    (c.requires.slot, above) c.cheaper_in_order.ensures.one c.cheaper_in_order.ensures.below c.cheaper_in_order.ensures.keeps

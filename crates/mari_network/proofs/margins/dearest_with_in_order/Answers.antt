@@ -13,4 +13,5 @@ returns-then-amounts-slot c =
 pub returns : goal.returns
 returns c =
     let above : (slot_at c.args.slots.now c.args.slot).low <ℤ int_at c.args.amounts.now c.args.slot = search rules in
-    dearest_taken c.args.slots.now c.args.amounts.now c.args.slot c.args.best c.dearer_in_order.result (c.requires.slot, above) c.dearer_in_order.ensures.one c.dearer_in_order.ensures.above c.dearer_in_order.ensures.keeps
+    dearest_taken c.args.slots.now c.args.amounts.now c.args.slot c.args.best c.dearer_in_order.result
+    (c.requires.slot, above) c.dearer_in_order.ensures.one c.dearer_in_order.ensures.above c.dearer_in_order.ensures.keeps

@@ -22,13 +22,15 @@ loop-zone-preserved c =
     let others : (z : ℕ) (d : Vec ℕ Global) → z ≢ zone → get_or (set old zone new) z d ≡ get_or old z d = λ z d other. get_or-set_other old zone z new d other in
     let before : AreRungs slots n zone (map rung_in c.index_mut.result.now.items) =
     subst (λ (v : Vec ℕ Global). AreRungs slots n zone (map rung_in v.items)) (sym c.index_mut.ensures.value) (c.loop-zone.invariant.rungs zone c.index_mut.result.now (omega arith)) in
-    let moved : AreRungs slots n zone (map rung_in new.items) = rungs_moved slots n zone _ _ (IsPermutation-map rung_in c.index_mut.result.now.items new.items c.in_ok-ladder_of.ensures.words) before in
+    let moved : AreRungs slots n zone (map rung_in new.items) =
+    rungs_moved slots n zone _ _ (IsPermutation-map rung_in c.index_mut.result.now.items new.items c.in_ok-ladder_of.ensures.words) before in
     let one : IsLadder slots n zone ladder.items = record { rungs = rungs_moved slots n zone _ _ c.in_ok-ladder_of.ensures.same before; rising = c.in_ok-ladder_of.ensures.rising } in
     record {
       long = length-set old zone new ∙ c.loop-zone.invariant.long;
       as_many = omega (arith, c.in_ok-push.ensures.len, c.loop-zone.invariant.as_many);
       rungs = λ z d l. elim (cases_eq z zone) [
-        | inl e ↦ subst (λ (k : ℕ). AreRungs slots n k (map rung_in (get_or (set old zone new) k d).items)) (sym e) (subst (λ (v : Vec ℕ Global). AreRungs slots n zone (map rung_in v.items)) (sym (here d)) moved)
+        | inl e ↦ subst (λ (k : ℕ). AreRungs slots n k (map rung_in (get_or (set old zone new) k d).items)) (sym e)
+            (subst (λ (v : Vec ℕ Global). AreRungs slots n zone (map rung_in v.items)) (sym (here d)) moved)
         | inr other ↦ subst (λ (v : Vec ℕ Global). AreRungs slots n z (map rung_in v.items)) (sym (others z d other)) (c.loop-zone.invariant.rungs z d l)
       ];
       done = λ z d l. elim (cases_eq z zone) [

@@ -10,8 +10,18 @@ loop-i-preserved c = record {
   meeting = λ z d l.
       meeting_more c.args.borders.now c.loop-i.i z (get_or c.loop-i.meeting.items z d).items (get_or c.add_to.new.lists.items z d).items
       (get_or c.add_to-in-loop-i.new.lists.items z d).items c.loop-i-test.true
-      (record { here = λ e. ap (λ (k : ℕ). (get_or c.add_to.new.lists.items k d).items) e ∙ c.in_ok-add_to.ensures.here d d ∙ ap (λ (w : Way). (get_or c.loop-i.meeting.items (border_at c.args.borders.now c.loop-i.i).from d).items ++ w ∷ []) c.way_over.ensures ∙ ap (λ (k : ℕ). (get_or c.loop-i.meeting.items k d).items ++ way_of c.args.borders.now c.loop-i.i false ∷ []) (sym e); other = λ n. ap (λ (v : Vec Way Global). v.items) (c.add_to.ensures.others z d n) })
-      (record { here = λ e. ap (λ (k : ℕ). (get_or c.add_to-in-loop-i.new.lists.items k d).items) e ∙ c.in_ok-add_to-2.ensures.here d d ∙ ap (λ (w : Way). (get_or c.add_to.new.lists.items (border_at c.args.borders.now c.loop-i.i).to d).items ++ w ∷ []) c.way_over-in-loop-i.ensures ∙ ap (λ (k : ℕ). (get_or c.add_to.new.lists.items k d).items ++ way_of c.args.borders.now c.loop-i.i true ∷ []) (sym e); other = λ n. ap (λ (v : Vec Way Global). v.items) (c.add_to-in-loop-i.ensures.others z d n) })
+      (record {
+        here = λ e. ap (λ (k : ℕ). (get_or c.add_to.new.lists.items k d).items) e
+            ∙ c.in_ok-add_to.ensures.here d d ∙ ap (λ (w : Way). (get_or c.loop-i.meeting.items (border_at c.args.borders.now c.loop-i.i).from d).items ++ w ∷ []) c.way_over.ensures
+            ∙ ap (λ (k : ℕ). (get_or c.loop-i.meeting.items k d).items ++ way_of c.args.borders.now c.loop-i.i false ∷ []) (sym e);
+        other = λ n. ap (λ (v : Vec Way Global). v.items) (c.add_to.ensures.others z d n);
+      })
+      (record {
+        here = λ e. ap (λ (k : ℕ). (get_or c.add_to-in-loop-i.new.lists.items k d).items) e
+            ∙ c.in_ok-add_to-2.ensures.here d d ∙ ap (λ (w : Way). (get_or c.add_to.new.lists.items (border_at c.args.borders.now c.loop-i.i).to d).items ++ w ∷ []) c.way_over-in-loop-i.ensures
+            ∙ ap (λ (k : ℕ). (get_or c.add_to.new.lists.items k d).items ++ way_of c.args.borders.now c.loop-i.i true ∷ []) (sym e);
+        other = λ n. ap (λ (v : Vec Way Global). v.items) (c.add_to-in-loop-i.ensures.others z d n);
+      })
       (c.loop-i.invariant.meeting z d l);
 }
 

@@ -19,12 +19,14 @@ loop-place-preserved c =
       rungs = λ z d l. elim (cases_eq z (zone_of slots place)) [
         | inl e ↦
             let new : map rung_in (get_or after z d).items ≡ map rung_in (get_or before (zone_of slots place) d).items ++ rung_of slots place ∷ [] =
-            ap (λ (k : ℕ). map rung_in (get_or after k d).items) e ∙ ap (map rung_in) (c.in_ok-add_to.ensures.here d d) ∙ one_more_word (get_or before (zone_of slots place) d).items c.word_of.result (rung_of slots place) c.word_of.ensures in
+            ap (λ (k : ℕ). map rung_in (get_or after k d).items) e
+            ∙ ap (map rung_in) (c.in_ok-add_to.ensures.here d d) ∙ one_more_word (get_or before (zone_of slots place) d).items c.word_of.result (rung_of slots place) c.word_of.ensures in
             let there : zone_of slots place < c.args.zones = subst (λ (k : ℕ). k < c.args.zones) e l in
             subst (λ (rs : List Rung). AreRungs slots (place + 1) z rs) (sym new)
             (rungs_take slots place z (map rung_in (get_or before (zone_of slots place) d).items) (sym e)
             (subst (λ (k : ℕ). AreRungs slots place k (map rung_in (get_or before (zone_of slots place) d).items)) (sym e) (c.loop-place.invariant.rungs (zone_of slots place) d there)))
-        | inr n ↦ subst (λ (x : Vec ℕ Global). AreRungs slots (place + 1) z (map rung_in x.items)) (sym (c.add_to.ensures.others z d n)) (rungs_skip slots place z (map rung_in (get_or before z d).items) (λ e. n (sym e)) (c.loop-place.invariant.rungs z d l))
+        | inr n ↦ subst (λ (x : Vec ℕ Global). AreRungs slots (place + 1) z (map rung_in x.items)) (sym (c.add_to.ensures.others z d n))
+            (rungs_skip slots place z (map rung_in (get_or before z d).items) (λ e. n (sym e)) (c.loop-place.invariant.rungs z d l))
       ];
     }
 

@@ -8,7 +8,9 @@ pub returns-then-network-sink-clause-right : goal.returns-then-network-sink-clau
 returns-then-network-sink-clause-right c =
     let here : zone_of c.args.network.now.slots.now c.args.sink ≡ c.args.zone = search rules in
     let first : c.args.sink < c.args.network.now.on_ladders = search rules in
-    λ old moved d. cheapest_with_sink c.args.network.now.slots.now old c.args.amounts.now c.args.sink c.args.source moved c.args.zone c.args.network.now.on_ladders c.cheapest_left-left.result c.cheaper_in_order.result c.requires.sink first here c.cheaper_in_order.ensures.one c.cheaper_in_order.ensures.below c.cheaper_in_order.ensures.keeps (c.cheapest_left-left.ensures.left old c.args.sink moved d)
+    λ old moved d. cheapest_with_sink c.args.network.now.slots.now old c.args.amounts.now c.args.sink c.args.source moved c.args.zone c.args.network.now.on_ladders
+    c.cheapest_left-left.result c.cheaper_in_order.result c.requires.sink first here c.cheaper_in_order.ensures.one c.cheaper_in_order.ensures.below c.cheaper_in_order.ensures.keeps
+    (c.cheapest_left-left.ensures.left old c.args.sink moved d)
 
 pub returns-clause-right : goal.returns-clause-right
 returns-clause-right c =
@@ -16,4 +18,5 @@ returns-clause-right c =
       | else-sink-network-via-then-sink-network+else-network-sink w ↦ let no : zone_of c.args.network.now.slots.now c.args.sink ≡ c.args.zone → ⊥ = search (rules, w.if-network-sink.false) in no e
       | else-sink-network-via-else-sink-network w ↦ absurd (omega (arith, l, w.if-sink-network.false))
     ] in
-    λ old moved d. cheapest_without_sink c.args.network.now.slots.now old c.args.amounts.now c.args.sink c.args.source moved c.args.zone c.args.network.now.on_ladders c.cheapest_left-left.result away (c.cheapest_left-left.ensures.left old c.args.sink moved d)
+    λ old moved d. cheapest_without_sink c.args.network.now.slots.now old c.args.amounts.now c.args.sink c.args.source moved c.args.zone c.args.network.now.on_ladders c.cheapest_left-left.result away
+    (c.cheapest_left-left.ensures.left old c.args.sink moved d)

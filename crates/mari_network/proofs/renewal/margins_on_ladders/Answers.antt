@@ -9,7 +9,8 @@ loop-zone-preserved c =
     let items = c.in_ok-push.ensures.items in
     record {
       long = ap (λ (ms : List Margin). length ms) items ∙ length_push c.loop-zone.margins.items c.margin_on_ladder.result ∙ ap (λ n. n + 1) c.loop-zone.invariant.long;
-      each = margins_more c.args.network.now.slots.now c.args.amounts.now c.args.network.now.on_ladders c.loop-zone.zone c.loop-zone.margins.items _ c.margin_on_ladder.result items c.loop-zone.invariant.long c.loop-zone.invariant.each c.margin_on_ladder.ensures;
+      each = margins_more c.args.network.now.slots.now c.args.amounts.now c.args.network.now.on_ladders c.loop-zone.zone c.loop-zone.margins.items _ c.margin_on_ladder.result items
+          c.loop-zone.invariant.long c.loop-zone.invariant.each c.margin_on_ladder.ensures;
     }
 
 pub returns : goal.returns

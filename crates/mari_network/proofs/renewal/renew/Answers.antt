@@ -22,8 +22,10 @@ returns-clause-here c =
     let right : IsMarginIn slots old c.args.zone n c.index-before.result.now = subst (λ (m : Margin). IsMarginIn slots old c.args.zone n m) read was in
     let new : IsMarginIn slots c.args.amounts.now c.args.zone n (record { dearest = c.dearest_after.result; cheapest = c.cheapest_after.result }) =
     record { dearest = c.dearest_after.ensures.right old moved right.dearest; cheapest = c.cheapest_after.ensures.right old moved right.cheapest } in (
-      subst (λ (m : Margin). IsMarginIn slots c.args.amounts.now c.args.zone n m) (sym (get_or-set_same before c.args.zone (record { dearest = c.dearest_after.result; cheapest = c.cheapest_after.result }) no_margin ladder)) new,
-      subst (λ (m : Margin). IsMarginIn slots c.args.amounts.now c.args.zone (length slots) m) (sym (get_or-set_same c.args.margins.now.all.items c.args.zone c.margin_with_stand_in.result no_margin whole)) (c.margin_with_stand_in.ensures new),
+      subst (λ (m : Margin). IsMarginIn slots c.args.amounts.now c.args.zone n m)
+          (sym (get_or-set_same before c.args.zone (record { dearest = c.dearest_after.result; cheapest = c.cheapest_after.result }) no_margin ladder)) new,
+      subst (λ (m : Margin). IsMarginIn slots c.args.amounts.now c.args.zone (length slots) m)
+          (sym (get_or-set_same c.args.margins.now.all.items c.args.zone c.margin_with_stand_in.result no_margin whole)) (c.margin_with_stand_in.ensures new),
     )
 
 pub returns-clause-others : goal.returns-clause-others

@@ -16,7 +16,8 @@ no_way = record { from = 0; border = 0; forth = false }
 pub reach_over-requires-clause-way : goal.reach_over-requires-clause-way
 reach_over-requires-clause-way c =
     let stay : hop_at c.loop-way.hops.items c.args.at ≡ hop_at c.args.hops.now.items c.args.at = c.loop-way.invariant.stay c.args.at c.requires.at in
-    let zone : c.index.result.now.zone ≡ (hop_at c.loop-way.hops.items c.args.at).zone = ap (λ (x : Hop). x.zone) (c.index.ensures ∙ get_or_default c.args.hops.now.items c.args.at c.index.result.now no_hop c.requires.at ∙ sym stay) in
+    let zone : c.index.result.now.zone ≡ (hop_at c.loop-way.hops.items c.args.at).zone =
+    ap (λ (x : Hop). x.zone) (c.index.ensures ∙ get_or_default c.args.hops.now.items c.args.at c.index.result.now no_hop c.requires.at ∙ sym stay) in
     subst (λ (z : ℕ). IsWay c.args.network.now.borders.now z (get_or c.meeting_at-ways.result.now c.loop-way.way-index no_way)) zone
     (c.meeting_at-ways.ensures.each c.loop-way.way-index no_way c.loop-way-test.true)
 
@@ -39,7 +40,8 @@ loop-way-preserved c =
 
 pub returns-clause-into : goal.returns-clause-into
 returns-clause-into c =
-    let zone : c.index.result.now.zone ≡ (hop_at c.args.hops.now.items c.args.at).zone = ap (λ (x : Hop). x.zone) (c.index.ensures ∙ get_or_default c.args.hops.now.items c.args.at c.index.result.now no_hop c.requires.at) in
+    let zone : c.index.result.now.zone ≡ (hop_at c.args.hops.now.items c.args.at).zone =
+    ap (λ (x : Hop). x.zone) (c.index.ensures ∙ get_or_default c.args.hops.now.items c.args.at c.index.result.now no_hop c.requires.at) in
     let all : take c.loop-way.way-index c.meeting_at-ways.result.now ≡ c.meeting_at-ways.result.now = take_all c.loop-way.way-index c.meeting_at-ways.result.now c.loop-way-test.false in
     all_into c.args.network.now.borders.now c.args.flows.now c.loop-way.marked (hop_at c.args.hops.now.items c.args.at).zone c.meeting_at-ways.result.now (sym c.requires.flows)
     (subst (λ (z : ℕ). AreMeeting c.args.network.now.borders.now z c.meeting_at-ways.result.now) zone c.meeting_at-ways.ensures)

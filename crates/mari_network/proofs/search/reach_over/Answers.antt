@@ -20,7 +20,8 @@ returns-clause-spread c = λ old start s.
     let h : Hop = record { zone = c.args.way.from; border = c.args.way.border; forth = c.args.way.forth; before = c.args.before } in
     let items : c.push.new.self.items ≡ c.args.hops.now.items ++ h ∷ [] = c.in_ok-push.ensures.items in
     let fits : FitsSigned w64 (int_at c.args.flows.now c.args.way.border) = search rules in
-    let value : c.room_over.result ≡ room_of c.args.way.forth (border_at c.args.borders.now c.args.way.border) (int_at c.args.flows.now c.args.way.border) = rw (to_z-of_z fits) at c.room_over.ensures.value in
+    let value : c.room_over.result ≡ room_of c.args.way.forth (border_at c.args.borders.now c.args.way.border) (int_at c.args.flows.now c.args.way.border) =
+    rw (to_z-of_z fits) at c.room_over.ensures.value in
     let some : pos 0 <ℤ c.room_over.result = search rules in
     let fresh : is_marked c.args.marked.now c.args.way.from ≡ false = search rules in
     let long : c.args.way.from < length c.args.marked.now = search rules in

@@ -45,7 +45,8 @@ returns-else-len-left-clause-closed c =
     let marks : length c.loop-at.marked ≡ length c.args.network.now.meeting.now = omega (arith, c.loop-at.invariant.spread.long, c.requires.marks) in
     let none : count_by not c.loop-at.marked ≡ 0 = omega (arith, c.if-len-left.false, c.len-in-loop-at.ensures, c.requires.left, c.loop-at.invariant.spread.count) in
     closed_all c.loop-at.marked c.args.network.now.borders.now c.args.flows.now
-    (all_zip (IsBetween (length c.loop-at.marked)) c.args.network.now.borders.now c.args.flows.now (sym c.requires.flows) (subst (λ (n : ℕ). All (IsBetween n) c.args.network.now.borders.now) (sym marks) c.requires.network.ends))
+    (all_zip (IsBetween (length c.loop-at.marked)) c.args.network.now.borders.now c.args.flows.now (sym c.requires.flows)
+    (subst (λ (n : ℕ). All (IsBetween n) c.args.network.now.borders.now) (sym marks) c.requires.network.ends))
     (λ z l. all_marked c.loop-at.marked z none l)
 
 pub returns-after-loop-at-clause-closed : goal.returns-after-loop-at-clause-closed

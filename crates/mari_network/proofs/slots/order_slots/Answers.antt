@@ -14,7 +14,8 @@ use Rattle.mari_network.proofs.slots.order_slots.Goals as goal
 
 pub loop-order-preserved : goal.loop-order-preserved
 loop-order-preserved c =
-    let valid = subst (λ (os : List Order). All (IsValidOrder c.args.market.now.zones (length c.args.market.now.gates)) os) (sym c.as_slice-orders.ensures) c.requires.market.orders c.loop-order.order-index no_order c.loop-order-test.true in
+    let valid = subst (λ (os : List Order). All (IsValidOrder c.args.market.now.zones (length c.args.market.now.gates)) os)
+    (sym c.as_slice-orders.ensures) c.requires.market.orders c.loop-order.order-index no_order c.loop-order-test.true in
     let same = c.states_at-states.ensures.bounds (get_or c.as_slice-orders.result.now c.loop-order.order-index no_order) valid.gate in
     let lo = c.span-least.ensures.least ∙ ap (λ (s : Span). s.lo) same in
     let hi = c.span-least.ensures.greatest ∙ ap (λ (s : Span). s.hi) same in
@@ -26,7 +27,9 @@ loop-order-preserved c =
 pub returns-clause-fine : goal.returns-clause-fine
 returns-clause-fine c =
     let made : c.loop-order.slots.items ≡ slots_of (bounds_at c.args.market.now c.args.prefix.now) c.args.market.now.orders =
-    c.loop-order.invariant ∙ ap (λ (os : List Order). slots_of (bounds_at c.args.market.now c.args.prefix.now) os) (take_all c.loop-order.order-index c.as_slice-orders.result.now (omega (arith, c.loop-order-test.false)) ∙ c.as_slice-orders.ensures) in
+    c.loop-order.invariant ∙ ap (λ (os : List Order). slots_of (bounds_at c.args.market.now c.args.prefix.now) os)
+    (take_all c.loop-order.order-index c.as_slice-orders.result.now (omega (arith, c.loop-order-test.false)) ∙ c.as_slice-orders.ensures) in
     let lists = bounds_in_order c.args.market.now c.args.prefix.now _ _ c.requires.market refl refl in
     subst (λ (slots : List Slot). AreOrderSlots c.args.market.now.zones c.args.market.now.orders slots) (sym made)
-    (order_slots_fine (bounds_at c.args.market.now c.args.prefix.now) c.args.market.now.zones (length c.args.market.now.gates) c.args.market.now.orders c.requires.market.orders (fine_spans (bounds_at c.args.market.now c.args.prefix.now) c.args.market.now.orders lists))
+    (order_slots_fine (bounds_at c.args.market.now c.args.prefix.now) c.args.market.now.zones (length c.args.market.now.gates) c.args.market.now.orders c.requires.market.orders
+    (fine_spans (bounds_at c.args.market.now c.args.prefix.now) c.args.market.now.orders lists))

@@ -21,7 +21,13 @@ loop-i-preserved c =
     let small = small_gain (slot_at c.args.slots.now c.loop-i.i) (int_at c.args.amounts.now c.loop-i.i) (c.requires.small c.loop-i.i no_slot c.loop-i-test.true)
     (AllZip-at IsWithinSlot c.args.slots.now c.args.amounts.now c.loop-i.i no_slot (pos 0) c.loop-i-test.true c.requires.within) in
     record {
-      sum = omega (arith, ints, c.loop-i.invariant.sum, gain, sum_along_more slot_gain c.args.slots.now c.args.amounts.now c.loop-i.i no_slot (pos 0) c.loop-i-test.true (omega (arith, c.requires.lengths, c.loop-i-test.true)));
+      sum = omega (
+        arith,
+        ints,
+        c.loop-i.invariant.sum,
+        gain,
+        sum_along_more slot_gain c.args.slots.now c.args.amounts.now c.loop-i.i no_slot (pos 0) c.loop-i-test.true (omega (arith, c.requires.lengths, c.loop-i-test.true)),
+      );
       least = omega (arith, ints, c.loop-i.invariant.least, gain, small.0);
       most = omega (arith, ints, c.loop-i.invariant.most, gain, small.1);
     }

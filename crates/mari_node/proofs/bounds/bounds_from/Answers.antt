@@ -14,10 +14,12 @@ use Rattle.mari_node.proofs.bounds.bounds_from.Goals as goal
 
 raised_as : (end : End) (order order' : Order) (q q' : ℕ) (old new : List ℤ) → order ≡ order' → q ≡ q' → ((z : ℕ) → IsRaised end order q z (int_at old z) (int_at new z))
     → (z : ℕ) → IsRaised end order' q' z (int_at old z) (int_at new z)
-raised_as end order order' q q' old new e f h z = subst (λ (k : ℕ). IsRaised end order' k z (int_at old z) (int_at new z)) f (subst (λ (o : Order). IsRaised end o q z (int_at old z) (int_at new z)) e (h z))
+raised_as end order order' q q' old new e f h z =
+    subst (λ (k : ℕ). IsRaised end order' k z (int_at old z) (int_at new z)) f (subst (λ (o : Order). IsRaised end o q z (int_at old z) (int_at new z)) e (h z))
 
 pub quantity-requires-clause-small : goal.quantity-requires-clause-small
-quantity-requires-clause-small c = quantity_small c.args.market.now c.args.optimum.now (get_or c.args.gated.now c.loop-place.place-index 0) c.requires.fits (c.requires.gated.there c.loop-place.place-index 0 c.loop-place-test.true)
+quantity-requires-clause-small c =
+    quantity_small c.args.market.now c.args.optimum.now (get_or c.args.gated.now c.loop-place.place-index 0) c.requires.fits (c.requires.gated.there c.loop-place.place-index 0 c.loop-place-test.true)
 
 pub loop-place-preserved : goal.loop-place-preserved
 loop-place-preserved c =
@@ -30,8 +32,10 @@ loop-place-preserved c =
     let order : get_or c.as_slice-orders.result.now k no_order ≡ order_at m k = ap (λ (os : List Order). get_or os k no_order) c.as_slice-orders.ensures in
     let old = c.loop-place.bounds in
     let new = c.raise.new.self in
-    let low = raised_as Least (get_or c.as_slice-orders.result.now k no_order) (order_at m k) c.quantity.result (quantity_at o k) old.least.items new.least.items order c.quantity.ensures c.raise.ensures.least in
-    let high = raised_as Greatest (get_or c.as_slice-orders.result.now k no_order) (order_at m k) c.quantity.result (quantity_at o k) old.greatest.items new.greatest.items order c.quantity.ensures c.raise.ensures.greatest in
+    let low = raised_as Least (get_or c.as_slice-orders.result.now k no_order) (order_at m k) c.quantity.result
+    (quantity_at o k) old.least.items new.least.items order c.quantity.ensures c.raise.ensures.least in
+    let high = raised_as Greatest (get_or c.as_slice-orders.result.now k no_order) (order_at m k) c.quantity.result
+    (quantity_at o k) old.greatest.items new.greatest.items order c.quantity.ensures c.raise.ensures.greatest in
     record {
       least = bounds_more Least m o gated i old.least.items new.least.items c.loop-place-test.true there c.loop-place.invariant.least c.raise.ensures.lows low;
       greatest = bounds_more Greatest m o gated i old.greatest.items new.greatest.items c.loop-place-test.true there c.loop-place.invariant.greatest c.raise.ensures.highs high;
@@ -48,5 +52,6 @@ returns c = λ a w f.
       feasible = f;
       flows = w.flow;
       least = tightest_over Least m o a gated bounds.least.items w c.requires.gated (subst (λ (ks : List ℕ). AreBoundsOver Least m o ks bounds.least.items) all c.loop-place.invariant.least);
-      greatest = tightest_over Greatest m o a gated bounds.greatest.items w c.requires.gated (subst (λ (ks : List ℕ). AreBoundsOver Greatest m o ks bounds.greatest.items) all c.loop-place.invariant.greatest);
+      greatest = tightest_over Greatest m o a gated bounds.greatest.items w c.requires.gated
+          (subst (λ (ks : List ℕ). AreBoundsOver Greatest m o ks bounds.greatest.items) all c.loop-place.invariant.greatest);
     }

@@ -23,6 +23,8 @@ loop-zone-preserved c =
     record {
       lows = omega (arith, c.in_ok-push.ensures.len, before.lows);
       highs = omega (arith, c.in_ok-push-2.ensures.len, before.highs);
-      least = bounds_push Least m o z lows c.push.new.self.items (to_z w64 (of_z w64 c.plain_ends-lower.result.0)) c.plain_ends-lower.result.0 before.lows c.in_ok-push.ensures.items (to_z-of_z low_fits) before.least c.plain_ends-lower.ensures.least;
-      greatest = bounds_push Greatest m o z highs c.push-in-loop-zone.new.self.items (to_z w64 (of_z w64 c.plain_ends-lower.result.1)) c.plain_ends-lower.result.1 before.highs c.in_ok-push-2.ensures.items (to_z-of_z high_fits) before.greatest c.plain_ends-lower.ensures.greatest;
+      least = bounds_push Least m o z lows c.push.new.self.items (to_z w64 (of_z w64 c.plain_ends-lower.result.0)) c.plain_ends-lower.result.0 before.lows c.in_ok-push.ensures.items
+          (to_z-of_z low_fits) before.least c.plain_ends-lower.ensures.least;
+      greatest = bounds_push Greatest m o z highs c.push-in-loop-zone.new.self.items (to_z w64 (of_z w64 c.plain_ends-lower.result.1)) c.plain_ends-lower.result.1 before.highs
+          c.in_ok-push-2.ensures.items (to_z-of_z high_fits) before.greatest c.plain_ends-lower.ensures.greatest;
     }

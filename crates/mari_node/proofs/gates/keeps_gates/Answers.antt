@@ -11,4 +11,5 @@ returns-then-run_together c = λ a w b.
 
 pub returns-else-run_together : goal.returns-else-run_together
 returns-else-run_together c = λ a w b.
-    apart_at c.args.market.now c.args.optimum.now a c.args.gated.now c.in-Some.runs c.run_together.result c.requires.valid c.requires.gated w c.in-Some.ensures.runs c.run_together.ensures c.if-run_together.false
+    apart_at c.args.market.now c.args.optimum.now a c.args.gated.now c.in-Some.runs c.run_together.result c.requires.valid c.requires.gated w c.in-Some.ensures.runs
+    c.run_together.ensures c.if-run_together.false

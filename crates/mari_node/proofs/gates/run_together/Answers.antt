@@ -9,7 +9,8 @@ use Rattle.mari_node.proofs.Gated.{quantity_small, tested_all}
 use Rattle.mari_node.proofs.gates.run_together.Goals as goal
 
 pub quantity-requires-clause-small : goal.quantity-requires-clause-small
-quantity-requires-clause-small c = quantity_small c.args.market.now c.args.optimum.now (get_or c.args.gated.now c.loop-place.place-index 0) c.requires.fits (c.requires.gated.there c.loop-place.place-index 0 c.loop-place-test.true)
+quantity-requires-clause-small c =
+    quantity_small c.args.market.now c.args.optimum.now (get_or c.args.gated.now c.loop-place.place-index 0) c.requires.fits (c.requires.gated.there c.loop-place.place-index 0 c.loop-place-test.true)
 
 pub loop-place-preserved : goal.loop-place-preserved
 loop-place-preserved c =
@@ -24,4 +25,5 @@ loop-place-preserved c =
 
 pub returns : goal.returns
 returns c =
-    tested_all (λ k. RunsWhereOpen (opens_in c.args.runs.now) (order_at c.args.market.now k) (quantity_at c.args.optimum.now k)) c.args.gated.now c.loop-place.place-index c.loop-place-test.false c.loop-place.invariant
+    tested_all (λ k. RunsWhereOpen (opens_in c.args.runs.now) (order_at c.args.market.now k) (quantity_at c.args.optimum.now k)) c.args.gated.now c.loop-place.place-index
+    c.loop-place-test.false c.loop-place.invariant

@@ -13,7 +13,8 @@ use Rattle.mari_node.proofs.gates.running.Goals as goal
 use Rattle.mari_node.proofs.gates.running.Goals.{else-mw-gt0-via-then-mw-gt0+else-mw-order, else-mw-gt0-via-else-mw-gt0}
 
 pub quantity-mw-requires-clause-small : goal.quantity-mw-requires-clause-small
-quantity-mw-requires-clause-small c = quantity_small c.args.market.now c.args.optimum.now (get_or c.args.gated.now c.loop-place.place-index 0) c.requires.fits (c.requires.gated.there c.loop-place.place-index 0 c.loop-place-test.true)
+quantity-mw-requires-clause-small c =
+    quantity_small c.args.market.now c.args.optimum.now (get_or c.args.gated.now c.loop-place.place-index 0) c.requires.fits (c.requires.gated.there c.loop-place.place-index 0 c.loop-place-test.true)
 
 pub loop-place-preserved : goal.loop-place-preserved
 loop-place-preserved c =
@@ -30,11 +31,13 @@ loop-place-preserved c =
     record {
       runs = λ g.
           runs_more g m o c.args.gated.now i (opens_in c.loop-place.runs g) (opens_in c.mark.new.self g) c.loop-place-test.true (c.loop-place.invariant.runs g)
-          (c.mark.ensures g ∙ ap (λ (order : Order). opens_in c.loop-place.runs g || is_run_of g order c.quantity-mw.result) here ∙ ap (λ (q : ℕ). opens_in c.loop-place.runs g || is_run_of g (order_at m p) q) mw);
+          (c.mark.ensures g ∙ ap (λ (order : Order). opens_in c.loop-place.runs g || is_run_of g order c.quantity-mw.result) here
+          ∙ ap (λ (q : ℕ). opens_in c.loop-place.runs g || is_run_of g (order_at m p) q) mw);
       whole = All-more (λ k. IsNotPartial (order_at m k) (quantity_at o k)) c.args.gated.now i 0 c.loop-place-test.true c.loop-place.invariant.whole
           (subst (IsNotPartial (order_at m p)) mw (subst (λ (order : Order). IsNotPartial order c.quantity-mw.result) here whole));
     }
 
 pub returns-clause-whole : goal.returns-clause-whole
 returns-clause-whole c =
-    subst (λ (ks : List ℕ). All (λ k. IsNotPartial (order_at c.args.market.now k) (quantity_at c.args.optimum.now k)) ks) (take_all c.loop-place.place-index c.args.gated.now c.loop-place-test.false) c.loop-place.invariant.whole
+    subst (λ (ks : List ℕ). All (λ k. IsNotPartial (order_at c.args.market.now k) (quantity_at c.args.optimum.now k)) ks)
+    (take_all c.loop-place.place-index c.args.gated.now c.loop-place-test.false) c.loop-place.invariant.whole

@@ -14,11 +14,19 @@ returns-in-None c = λ word n.
     let m = c.args.market.now in
     let s = c.in_ok-solved.solved in
     let admissible = subst (AnswersPrices m s.activation) c.in-None.is (c.in_ok-chain.ensures s.activation c.in_ok-solved.ensures.activation) in
-    subst (IsRelaxedFinding m word) (sym c.best_of.ensures) (last_best m word c.args.optimum s c.requires.valid n (record { activation = c.in_ok-solved.ensures.activation; potentials = c.in_ok-solved.ensures.potentials; welfare = c.in_ok-solved.ensures.welfare }) admissible)
+    subst (IsRelaxedFinding m word) (sym c.best_of.ensures) (last_best m word c.args.optimum s c.requires.valid n (record {
+      activation = c.in_ok-solved.ensures.activation;
+      potentials = c.in_ok-solved.ensures.potentials;
+      welfare = c.in_ok-solved.ensures.welfare;
+    }) admissible)
 
 pub returns-in_ok-conflict_by-in-Some : goal.returns-in_ok-conflict_by-in-Some
 returns-in_ok-conflict_by-in-Some c = λ word n.
     let m = c.args.market.now in
     let s = c.in_ok-solved.solved in
     let contradictory = subst (AnswersPrices m s.activation) c.in-Some.is (c.in_ok-chain.ensures s.activation c.in_ok-solved.ensures.activation) in
-    subst (IsRelaxedFinding m word) (sym c.in_ok-conflict_by-in-Some.ensures) (last_conflict m word c.args.optimum s c.in-Some.chain c.requires.valid n (record { activation = c.in_ok-solved.ensures.activation; potentials = c.in_ok-solved.ensures.potentials; welfare = c.in_ok-solved.ensures.welfare }) contradictory)
+    subst (IsRelaxedFinding m word) (sym c.in_ok-conflict_by-in-Some.ensures) (last_conflict m word c.args.optimum s c.in-Some.chain c.requires.valid n (record {
+      activation = c.in_ok-solved.ensures.activation;
+      potentials = c.in_ok-solved.ensures.potentials;
+      welfare = c.in_ok-solved.ensures.welfare;
+    }) contradictory)

@@ -4,10 +4,12 @@ use Rattle.mari_market.specs.Prefix.{word_of}
 use Rattle.mari_node.proofs.node.relaxed_node.Goals as goal
 
 pub last_node-requires-clause-optimum : goal.last_node-requires-clause-optimum
-last_node-requires-clause-optimum c = (word_of c.args.prefix.now, last_at c.args.market.now c.args.prefix.now c.args.optimum c.as_slice.result.now c.as_slice.ensures c.if-prefix-as_slice.true c.requires.prefix c.requires.optimum)
+last_node-requires-clause-optimum c =
+    (word_of c.args.prefix.now, last_at c.args.market.now c.args.prefix.now c.args.optimum c.as_slice.result.now c.as_slice.ensures c.if-prefix-as_slice.true c.requires.prefix c.requires.optimum)
 
 pub inner_node-requires-clause-optimum : goal.inner_node-requires-clause-optimum
-inner_node-requires-clause-optimum c = (word_of c.args.prefix.now, inner_at c.args.market.now c.args.prefix.now c.args.optimum c.as_slice.result.now c.as_slice.ensures c.if-prefix-as_slice.false c.requires.prefix c.requires.optimum)
+inner_node-requires-clause-optimum c =
+    (word_of c.args.prefix.now, inner_at c.args.market.now c.args.prefix.now c.args.optimum c.as_slice.result.now c.as_slice.ensures c.if-prefix-as_slice.false c.requires.prefix c.requires.optimum)
 
 pub returns-then-prefix-as_slice-clause-finding : goal.returns-then-prefix-as_slice-clause-finding
 returns-then-prefix-as_slice-clause-finding c =

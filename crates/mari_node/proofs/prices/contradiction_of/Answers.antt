@@ -17,7 +17,8 @@ none_loses-requires-clause-potentials c = are_prices c.args.market.now c.require
 
 pub returns-then-none_loses : goal.returns-then-none_loses
 returns-then-none_loses c = λ a w.
-    paid_consistent c.args.market.now c.requires.optimum.0 c.args.optimum.now a c.args.gated.now c.requires.valid c.requires.gated w (c.requires.feasible a w) (c.requires.optimum.1.solution a w) (c.none_loses.ensures.0 c.if-none_loses.true)
+    paid_consistent c.args.market.now c.requires.optimum.0 c.args.optimum.now a c.args.gated.now c.requires.valid c.requires.gated w (c.requires.feasible a w) (c.requires.optimum.1.solution a w)
+    (c.none_loses.ensures.0 c.if-none_loses.true)
 
 pub bounds_from-requires-clause-potentials : goal.bounds_from-requires-clause-potentials
 bounds_from-requires-clause-potentials c = are_prices c.args.market.now c.requires.optimum.0 c.args.optimum.now c.requires.optimum.1

@@ -12,7 +12,8 @@ loop-place-preserved c =
     let i = c.loop-place.place-index in
     let there = c.requires.gated.there i 0 c.loop-place-test.true in
     All-more (IsPaidAt m o) c.args.gated.now i 0 c.loop-place-test.true c.loop-place.invariant
-    (paid_read m o (get_or c.args.gated.now i 0) c.as_slice-orders.result.now c.as_slice-amounts.result.now c.as_slice-potentials.result.now c.requires.fits there c.as_slice-orders.ensures c.as_slice-amounts.ensures.value c.as_slice-potentials.ensures (c.is_paid.ensures.0 c.if-not-is_paid.false))
+    (paid_read m o (get_or c.args.gated.now i 0) c.as_slice-orders.result.now c.as_slice-amounts.result.now c.as_slice-potentials.result.now c.requires.fits there c.as_slice-orders.ensures
+    c.as_slice-amounts.ensures.value c.as_slice-potentials.ensures (c.is_paid.ensures.0 c.if-not-is_paid.false))
 
 pub returns : goal.returns
 returns c = tested_all (IsPaidAt c.args.market.now c.args.optimum.now) c.args.gated.now c.loop-place.place-index c.loop-place-test.false c.loop-place.invariant

@@ -29,7 +29,8 @@ stand_for-requires-clause-lengths c = omega (arith, c.put_slot-less.auto.slots, 
 pub stand_for-requires-clause-more : goal.stand_for-requires-clause-more
 stand_for-requires-clause-more c =
     let fits : FitsSigned w64 c.put_slot-less.result = search rules in
-    rw (to_z-of_z fits) (small_loss c.args.market.now c.args.slots.now c.args.amounts.now c.args.place c.args.slot c.put_slot-less.result c.requires.filled c.requires.place c.requires.slot c.put_slot-less.ensures.within)
+    rw (to_z-of_z fits) (small_loss c.args.market.now c.args.slots.now c.args.amounts.now c.args.place c.args.slot c.put_slot-less.result c.requires.filled c.requires.place c.requires.slot
+    c.put_slot-less.ensures.within)
 
 pub returns-then-eq-clause-here : goal.returns-then-eq-clause-here
 returns-then-eq-clause-here c =
@@ -45,7 +46,8 @@ gain_with_stand_in-requires-clause-filled c =
     let fits : FitsSigned w64 c.put_slot-less.result = search rules in
     let all : IsChanged c.args.market.now c.args.place c.args.slot c.args.slots.now c.stand_for.new.slots c.args.amounts.now c.stand_for.new.amounts =
     change_made c.args.market.now c.args.slots.now c.put_slot-less.new.slots c.stand_for.new.slots c.args.amounts.now c.put_slot-less.new.amounts c.stand_for.new.amounts c.args.place
-    (length c.as_slice.result.now + c.args.slot.zone) c.args.slot c.put_slot-less.result c.requires.filled c.requires.near c.requires.place c.requires.slot c.requires.zone c.put_slot-less.ensures.within
+    (length c.as_slice.result.now + c.args.slot.zone) c.args.slot c.put_slot-less.result c.requires.filled c.requires.near c.requires.place c.requires.slot c.requires.zone
+    c.put_slot-less.ensures.within
     (ap (λ (os : List Order). length os + c.args.slot.zone) c.as_slice.ensures) c.put_slot-less.ensures.slots c.put_slot-less.ensures.amounts
     (rw (to_z-of_z fits) at c.stand_for.ensures.slots) (rw (to_z-of_z fits) at c.stand_for.ensures.amounts) in
     all.filled
@@ -55,7 +57,8 @@ overflow_sub-worth c =
     let fits : FitsSigned w64 c.put_slot-less.result = search rules in
     let all : IsChanged c.args.market.now c.args.place c.args.slot c.args.slots.now c.stand_for.new.slots c.args.amounts.now c.stand_for.new.amounts =
     change_made c.args.market.now c.args.slots.now c.put_slot-less.new.slots c.stand_for.new.slots c.args.amounts.now c.put_slot-less.new.amounts c.stand_for.new.amounts c.args.place
-    (length c.as_slice.result.now + c.args.slot.zone) c.args.slot c.put_slot-less.result c.requires.filled c.requires.near c.requires.place c.requires.slot c.requires.zone c.put_slot-less.ensures.within
+    (length c.as_slice.result.now + c.args.slot.zone) c.args.slot c.put_slot-less.result c.requires.filled c.requires.near c.requires.place c.requires.slot c.requires.zone
+    c.put_slot-less.ensures.within
     (ap (λ (os : List Order). length os + c.args.slot.zone) c.as_slice.ensures) c.put_slot-less.ensures.slots c.put_slot-less.ensures.amounts
     (rw (to_z-of_z fits) at c.stand_for.ensures.slots) (rw (to_z-of_z fits) at c.stand_for.ensures.amounts) in
     let before = small_joint c.args.market.now c.args.slots.now c.args.amounts.now c.args.place c.requires.filled c.requires.place in
@@ -63,7 +66,8 @@ overflow_sub-worth c =
     omega (arith, ints, c.gain_with_stand_in-before.ensures, c.gain_with_stand_in.ensures, before.0, before.1, after.0, after.1)
 
 -- what all is worth after a change, as the code has it
-worth_after : (m : Market) (place : ℕ) (s : Slot) (slots new : List Slot) (xs ys : List ℤ) (worth before after : ℤ) → IsValid m → AreFilled m slots xs → place < length m.orders → worth ≡ sum_along slot_gain slots xs
+worth_after : (m : Market) (place : ℕ) (s : Slot) (slots new : List Slot) (xs ys : List ℤ) (worth before after : ℤ) → IsValid m → AreFilled m slots xs → place < length m.orders
+    → worth ≡ sum_along slot_gain slots xs
     → before ≡ joint_gain m slots xs place → after ≡ joint_gain m new ys place → IsChanged m place s slots new xs ys
     → to_z w128 (of_z w128 worth) +ℤ to_z w128 (of_z w128 (to_z w128 (of_z w128 after) -ℤ to_z w128 (of_z w128 before))) ≡ sum_along slot_gain new ys
 worth_after m place s slots new xs ys worth before after v filled l e f g all =
@@ -74,26 +78,34 @@ overflow_add-worth c =
     let fits : FitsSigned w64 c.put_slot-less.result = search rules in
     let all : IsChanged c.args.market.now c.args.place c.args.slot c.args.slots.now c.stand_for.new.slots c.args.amounts.now c.stand_for.new.amounts =
     change_made c.args.market.now c.args.slots.now c.put_slot-less.new.slots c.stand_for.new.slots c.args.amounts.now c.put_slot-less.new.amounts c.stand_for.new.amounts c.args.place
-    (length c.as_slice.result.now + c.args.slot.zone) c.args.slot c.put_slot-less.result c.requires.filled c.requires.near c.requires.place c.requires.slot c.requires.zone c.put_slot-less.ensures.within
+    (length c.as_slice.result.now + c.args.slot.zone) c.args.slot c.put_slot-less.result c.requires.filled c.requires.near c.requires.place c.requires.slot c.requires.zone
+    c.put_slot-less.ensures.within
     (ap (λ (os : List Order). length os + c.args.slot.zone) c.as_slice.ensures) c.put_slot-less.ensures.slots c.put_slot-less.ensures.amounts
     (rw (to_z-of_z fits) at c.stand_for.ensures.slots) (rw (to_z-of_z fits) at c.stand_for.ensures.amounts) in
-    let worth : FitsSigned w128 (sum_along slot_gain c.stand_for.new.slots c.stand_for.new.amounts) = filled_worth c.args.market.now c.stand_for.new.slots c.stand_for.new.amounts c.requires.market all.filled in
-    subst (λ (x : ℤ). FitsSigned w128 x) (sym (worth_after c.args.market.now c.args.place c.args.slot c.args.slots.now c.stand_for.new.slots c.args.amounts.now c.stand_for.new.amounts c.args.worth.now c.gain_with_stand_in-before.result c.gain_with_stand_in.result c.requires.market c.requires.filled c.requires.place c.requires.worth c.gain_with_stand_in-before.ensures c.gain_with_stand_in.ensures all)) worth
+    let worth : FitsSigned w128 (sum_along slot_gain c.stand_for.new.slots c.stand_for.new.amounts) =
+    filled_worth c.args.market.now c.stand_for.new.slots c.stand_for.new.amounts c.requires.market all.filled in
+    subst (λ (x : ℤ). FitsSigned w128 x) (sym
+    (worth_after c.args.market.now c.args.place c.args.slot c.args.slots.now c.stand_for.new.slots c.args.amounts.now c.stand_for.new.amounts c.args.worth.now c.gain_with_stand_in-before.result
+    c.gain_with_stand_in.result c.requires.market c.requires.filled c.requires.place c.requires.worth c.gain_with_stand_in-before.ensures c.gain_with_stand_in.ensures all)) worth
 
 pub returns : goal.returns
 returns c =
     let fits : FitsSigned w64 c.put_slot-less.result = search rules in
     let all : IsChanged c.args.market.now c.args.place c.args.slot c.args.slots.now c.stand_for.new.slots c.args.amounts.now c.stand_for.new.amounts =
     change_made c.args.market.now c.args.slots.now c.put_slot-less.new.slots c.stand_for.new.slots c.args.amounts.now c.put_slot-less.new.amounts c.stand_for.new.amounts c.args.place
-    (length c.as_slice.result.now + c.args.slot.zone) c.args.slot c.put_slot-less.result c.requires.filled c.requires.near c.requires.place c.requires.slot c.requires.zone c.put_slot-less.ensures.within
+    (length c.as_slice.result.now + c.args.slot.zone) c.args.slot c.put_slot-less.result c.requires.filled c.requires.near c.requires.place c.requires.slot c.requires.zone
+    c.put_slot-less.ensures.within
     (ap (λ (os : List Order). length os + c.args.slot.zone) c.as_slice.ensures) c.put_slot-less.ensures.slots c.put_slot-less.ensures.amounts
     (rw (to_z-of_z fits) at c.stand_for.ensures.slots) (rw (to_z-of_z fits) at c.stand_for.ensures.amounts) in
-    let worth : FitsSigned w128 (sum_along slot_gain c.stand_for.new.slots c.stand_for.new.amounts) = filled_worth c.args.market.now c.stand_for.new.slots c.stand_for.new.amounts c.requires.market all.filled in
+    let worth : FitsSigned w128 (sum_along slot_gain c.stand_for.new.slots c.stand_for.new.amounts) =
+    filled_worth c.args.market.now c.stand_for.new.slots c.stand_for.new.amounts c.requires.market all.filled in
     record {
       filled = all.filled;
       near = all.near;
       into = all.into;
-      worth = ap (λ (x : ℤ). to_z w128 (of_z w128 x)) (worth_after c.args.market.now c.args.place c.args.slot c.args.slots.now c.stand_for.new.slots c.args.amounts.now c.stand_for.new.amounts c.args.worth.now c.gain_with_stand_in-before.result c.gain_with_stand_in.result c.requires.market c.requires.filled c.requires.place c.requires.worth c.gain_with_stand_in-before.ensures c.gain_with_stand_in.ensures all) ∙ to_z-of_z worth;
+      worth = ap (λ (x : ℤ). to_z w128 (of_z w128 x))
+          (worth_after c.args.market.now c.args.place c.args.slot c.args.slots.now c.stand_for.new.slots c.args.amounts.now c.stand_for.new.amounts c.args.worth.now c.gain_with_stand_in-before.result
+          c.gain_with_stand_in.result c.requires.market c.requires.filled c.requires.place c.requires.worth c.gain_with_stand_in-before.ensures c.gain_with_stand_in.ensures all) ∙ to_z-of_z worth;
       here = all.here;
       others = all.others;
       zones = all.zones;

@@ -21,8 +21,10 @@ change_slot-requires-clause-slot c =
     let order = get_or c.as_slice-orders.result.now p no_order in
     let is : c.slot_from-slot.result ≡ slot_in c.args.market.now c.args.prefix.now (get_or c.args.gated.now c.loop-place.place-index 0) =
     slot_made m c.args.prefix.now c.as_slice-orders.result.now p _ _ (span_in (state_in c.states_at-states.result) order) c.slot_from-slot.result c.as_slice-orders.ensures
-    (c.states_at-states.ensures.bounds order (gate_fits m c.as_slice-orders.result.now p c.requires.market c.as_slice-orders.ensures there)) c.span-least.ensures.least c.span-least.ensures.greatest c.slot_from-slot.ensures in
-    subst (λ (s : Slot). FitsOrder c.args.market.now.zones (order_at c.args.market.now (get_or c.args.gated.now c.loop-place.place-index 0)) s) (sym is) (order_fits m c.args.prefix.now p c.requires.market there)
+    (c.states_at-states.ensures.bounds order (gate_fits m c.as_slice-orders.result.now p c.requires.market c.as_slice-orders.ensures there)) c.span-least.ensures.least c.span-least.ensures.greatest
+    c.slot_from-slot.ensures in
+    subst (λ (s : Slot). FitsOrder c.args.market.now.zones (order_at c.args.market.now (get_or c.args.gated.now c.loop-place.place-index 0)) s) (sym is)
+    (order_fits m c.args.prefix.now p c.requires.market there)
 
 pub change_slot-requires-clause-near : goal.change_slot-requires-clause-near
 change_slot-requires-clause-near c = λ z l.
@@ -52,12 +54,14 @@ loop-place-preserved c =
     let order = get_or c.as_slice-orders.result.now p no_order in
     let is : c.slot_from-slot.result ≡ slot_in c.args.market.now c.args.prefix.now (get_or c.args.gated.now c.loop-place.place-index 0) =
     slot_made m c.args.prefix.now c.as_slice-orders.result.now p _ _ (span_in (state_in c.states_at-states.result) order) c.slot_from-slot.result c.as_slice-orders.ensures
-    (c.states_at-states.ensures.bounds order (gate_fits m c.as_slice-orders.result.now p c.requires.market c.as_slice-orders.ensures there)) c.span-least.ensures.least c.span-least.ensures.greatest c.slot_from-slot.ensures in
+    (c.states_at-states.ensures.bounds order (gate_fits m c.as_slice-orders.result.now p c.requires.market c.as_slice-orders.ensures there)) c.span-least.ensures.least c.span-least.ensures.greatest
+    c.slot_from-slot.ensures in
     let here : slot_at c.change_slot.new.slots p ≡ slot_in m c.args.prefix.now p = c.change_slot.ensures.here ∙ is in
     let all = c.change_slot.ensures in
     record {
       filled = all.filled;
-      near = λ z l. near_wider (700000000 + 200000 * c.loop-place.place-index + 200000) (700000000 + 200000 * (c.loop-place.place-index + 1)) (int_at c.change_slot.new.amounts (length c.args.market.now.orders + z))
+      near = λ z l. near_wider (700000000 + 200000 * c.loop-place.place-index + 200000) (700000000 + 200000 * (c.loop-place.place-index + 1))
+          (int_at c.change_slot.new.amounts (length c.args.market.now.orders + z))
           (all.near (700000000 + 200000 * c.loop-place.place-index) c.loop-place.invariant.near z l) (omega arith);
       worth = all.worth;
       into = λ z. all.into z ∙ c.loop-place.invariant.into z;

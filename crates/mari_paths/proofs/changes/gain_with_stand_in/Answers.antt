@@ -16,7 +16,12 @@ bounds-amounts-place c = omega (arith, c.requires.filled.long, c.requires.place,
 pub bounds-amounts-stand : goal.bounds-amounts-stand
 bounds-amounts-stand c =
     let n = ap (λ (os : List Order). length os) c.as_slice.ensures in
-    omega (arith, n, stand_there c.args.market.now c.args.slots.now c.args.amounts.now c.args.place c.requires.filled c.requires.place, zip_long IsWithinSlot c.args.slots.now c.args.amounts.now c.requires.filled.within)
+    omega (
+      arith,
+      n,
+      stand_there c.args.market.now c.args.slots.now c.args.amounts.now c.args.place c.requires.filled c.requires.place,
+      zip_long IsWithinSlot c.args.slots.now c.args.amounts.now c.requires.filled.within,
+    )
 
 -- what the slot and the stand-in add, as the code reads it, and that both are small
 record AreGains (m : Market) (slots : List Slot) (xs : List ℤ) (place : ℕ) (first second : ℤ) : Type 0 where
@@ -46,11 +51,13 @@ gains m slots xs orders place first second filled l same one two e f =
 pub overflow_add-result : goal.overflow_add-result
 overflow_add-result c =
     let both : AreGains c.args.market.now c.args.slots.now c.args.amounts.now c.args.place c.gain_of.result c.gain_of-2.result =
-    gains c.args.market.now c.args.slots.now c.args.amounts.now c.as_slice.result.now c.args.place c.gain_of.result c.gain_of-2.result c.requires.filled c.requires.place c.as_slice.ensures (search rules) (search rules) c.gain_of.ensures c.gain_of-2.ensures in
+    gains c.args.market.now c.args.slots.now c.args.amounts.now c.as_slice.result.now c.args.place c.gain_of.result c.gain_of-2.result c.requires.filled c.requires.place c.as_slice.ensures
+    (search rules) (search rules) c.gain_of.ensures c.gain_of-2.ensures in
     omega (arith, ints, both.first_small.0, both.first_small.1, both.second_small.0, both.second_small.1)
 
 pub returns : goal.returns
 returns c =
     let both : AreGains c.args.market.now c.args.slots.now c.args.amounts.now c.args.place c.gain_of.result c.gain_of-2.result =
-    gains c.args.market.now c.args.slots.now c.args.amounts.now c.as_slice.result.now c.args.place c.gain_of.result c.gain_of-2.result c.requires.filled c.requires.place c.as_slice.ensures (search rules) (search rules) c.gain_of.ensures c.gain_of-2.ensures in
+    gains c.args.market.now c.args.slots.now c.args.amounts.now c.as_slice.result.now c.args.place c.gain_of.result c.gain_of-2.result c.requires.filled c.requires.place c.as_slice.ensures
+    (search rules) (search rules) c.gain_of.ensures c.gain_of-2.ensures in
     omega (arith, ints, both.first_is, both.second_is, both.first_small.0, both.first_small.1, both.second_small.0, both.second_small.1)

@@ -22,5 +22,6 @@ loop-width-preserved c =
       low = omega (arith, ints, middle, c.loop-width.invariant.low);
       high = omega (arith, ints, middle, less, c.loop-width.invariant.high);
       here = inr (search rules);
-      above = above_all (λ x. (x ≡ BEYOND) ⊎ (pos 0 <ℤ supplied_by_all c.args.curves.now x)) (to_z w64 c.loop-width.price-bits) _ c.loop-width.width (c.loop-width.width / 2) middle less c.loop-width.invariant.above;
+      above = above_all (λ x. (x ≡ BEYOND) ⊎ (pos 0 <ℤ supplied_by_all c.args.curves.now x)) (to_z w64 c.loop-width.price-bits) _ c.loop-width.width
+          (c.loop-width.width / 2) middle less c.loop-width.invariant.above;
     }

@@ -29,11 +29,15 @@ loop-rung-preserved c =
     let range : IsOrderRange (slot_at c.args.slots.now (rung_at c.args.ladder.now c.loop-rung.rung-index).place) =
     c.requires.slots (rung_at c.args.ladder.now c.loop-rung.rung-index).place no_slot (c.requires.ladder.there c.loop-rung.rung-index no_rung c.loop-rung-test.true) in
     let few : c.loop-rung.rung-index < 4608 = omega (arith, c.loop-rung-test.true, c.requires.ladder.few) in
-    let low : IsNear 99999 (slot_at c.args.slots.now (rung_at c.args.ladder.now c.loop-rung.rung-index).place).low = record { low = range.low; high = omega (arith, ints, range.in_order, range.high) } in
-    let wide : IsNear 199998 ((slot_at c.args.slots.now (rung_at c.args.ladder.now c.loop-rung.rung-index).place).high -ℤ (slot_at c.args.slots.now (rung_at c.args.ladder.now c.loop-rung.rung-index).place).low) =
+    let low : IsNear 99999 (slot_at c.args.slots.now (rung_at c.args.ladder.now c.loop-rung.rung-index).place).low =
+    record { low = range.low; high = omega (arith, ints, range.in_order, range.high) } in
+    let wide : IsNear 199998
+    ((slot_at c.args.slots.now (rung_at c.args.ladder.now c.loop-rung.rung-index).place).high -ℤ (slot_at c.args.slots.now (rung_at c.args.ladder.now c.loop-rung.rung-index).place).low) =
     record { low = omega (arith, ints, range.in_order); high = omega (arith, ints, range.low, range.high) } in
-    let more_is : to_z w64 (of_z w64 (to_z w64 c.loop-rung.more-bits +ℤ to_z w64 (of_z w64 (to_z w64 (of_z w64 (slot_at c.args.slots.now (rung_at c.args.ladder.now c.loop-rung.rung-index).place).high) -ℤ to_z w64 (of_z w64 (slot_at c.args.slots.now (rung_at c.args.ladder.now c.loop-rung.rung-index).place).low)))))
-    ≡ to_z w64 c.loop-rung.more-bits +ℤ ((slot_at c.args.slots.now (rung_at c.args.ladder.now c.loop-rung.rung-index).place).high -ℤ (slot_at c.args.slots.now (rung_at c.args.ladder.now c.loop-rung.rung-index).place).low) =
+    let more_is : to_z w64 (of_z w64 (to_z w64 c.loop-rung.more-bits +ℤ to_z w64 (of_z w64 (to_z w64 (of_z w64 (slot_at c.args.slots.now (rung_at c.args.ladder.now c.loop-rung.rung-index).place).high)
+    -ℤ to_z w64 (of_z w64 (slot_at c.args.slots.now (rung_at c.args.ladder.now c.loop-rung.rung-index).place).low)))))
+    ≡ to_z w64 c.loop-rung.more-bits
+    +ℤ ((slot_at c.args.slots.now (rung_at c.args.ladder.now c.loop-rung.rung-index).place).high -ℤ (slot_at c.args.slots.now (rung_at c.args.ladder.now c.loop-rung.rung-index).place).low) =
     omega (arith, ints, few, range.low, range.in_order, range.high, c.loop-rung.invariant.more_near.low, c.loop-rung.invariant.more_near.high) in
     let least_is : to_z w64 (of_z w64 (to_z w64 c.loop-rung.least-bits +ℤ to_z w64 (of_z w64 (slot_at c.args.slots.now (rung_at c.args.ladder.now c.loop-rung.rung-index).place).low)))
     ≡ to_z w64 c.loop-rung.least-bits +ℤ (slot_at c.args.slots.now (rung_at c.args.ladder.now c.loop-rung.rung-index).place).low =

@@ -25,7 +25,8 @@ returns-in_default-clause-supply c =
     ≡ c.args.curve.now.least +ℤ (get_or c.as_slice-steps.result.now (c.steps_below.result - 1) no_step).more =
     omega (arith, ints, c.requires.least.low, c.requires.least.high, small.low, small.high, last) in
     is ∙ ap (λ (x : ℤ). c.args.curve.now.least +ℤ x) (sym (last_some (λ (s : Step). s.more) c.steps_below.result (pos 0) c.as_slice-steps.result.now no_step some))
-    ∙ supply_first c.steps_below.result c.args.price _ c.args.curve.now.least c.as_slice-steps.result.now c.args.curve.now.steps.items c.as_slice-steps.ensures.value (to_z-of_z fits) c.steps_below.ensures.few
+    ∙ supply_first c.steps_below.result c.args.price _ c.args.curve.now.least c.as_slice-steps.result.now c.args.curve.now.steps.items c.as_slice-steps.ensures.value
+    (to_z-of_z fits) c.steps_below.ensures.few
     c.steps_below.ensures.below c.steps_below.ensures.rest
 
 pub returns-in_default-clause-near : goal.returns-in_default-clause-near

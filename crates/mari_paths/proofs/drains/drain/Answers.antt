@@ -17,7 +17,8 @@ loop-amounts-preserved c =
       margins = new.margins;
       hops = rw c.go_on.ensures.hops inv.hops;
       same = same;
-      along = along_again slots bs c.args.chain.now.hops.items c.args.amounts.now c.args.flows.now c.loop-amounts.amounts c.loop-amounts.flows c.push_along-in-loop-amounts.new.amounts c.push_along-in-loop-amounts.new.flows
+      along = along_again slots bs c.args.chain.now.hops.items c.args.amounts.now c.args.flows.now c.loop-amounts.amounts c.loop-amounts.flows c.push_along-in-loop-amounts.new.amounts
+          c.push_along-in-loop-amounts.new.flows
           inv.along (rw same at new.along);
       rises = omega (arith, ints, inv.rises, new.rises);
     }

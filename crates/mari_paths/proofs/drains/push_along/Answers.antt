@@ -26,14 +26,16 @@ returns-then-from-to-clause-margins c =
     let from_there : zone_of slots source < zones = c.requires.network.zones source no_slot c.requires.chain.more.0 in
     let to = c.renew.ensures.here old moved (margins_at slots old zones n was (zone_of slots sink) c.requires.margins.on_ladders to_there) in
     let from = c.renew-then-from-to.ensures.here old moved
-    (subst (λ (m : Margin). IsMarginIn slots old (zone_of slots source) n m) (sym (c.renew.ensures.others (zone_of slots source) apart).0) (margins_at slots old zones n was (zone_of slots source) c.requires.margins.on_ladders from_there)) in
+    (subst (λ (m : Margin). IsMarginIn slots old (zone_of slots source) n m) (sym (c.renew.ensures.others (zone_of slots source) apart).0)
+    (margins_at slots old zones n was (zone_of slots source) c.requires.margins.on_ladders from_there)) in
     let stays = c.renew-then-from-to.ensures.others (zone_of slots sink) away in
     let long = c.renew-then-from-to.ensures.long in
     record {
       on_ladders = margins_after slots old new zones n sink source was c.renew-then-from-to.new.margins.on_ladders.items moved (long.0 ∙ c.renew.ensures.long.0 ∙ c.requires.margins.on_ladders.long)
           (subst (λ (m : Margin). IsMarginIn slots new (zone_of slots sink) n m) (sym stays.0) to.0) from.0
           (λ z first other. (c.renew-then-from-to.ensures.others z other).0 ∙ (c.renew.ensures.others z first).0) c.requires.margins.on_ladders;
-      all = margins_after slots old new zones (length slots) sink source c.args.margins.now.all.items c.renew-then-from-to.new.margins.all.items moved (long.1 ∙ c.renew.ensures.long.1 ∙ c.requires.margins.all.long)
+      all = margins_after slots old new zones (length slots) sink source c.args.margins.now.all.items c.renew-then-from-to.new.margins.all.items moved
+          (long.1 ∙ c.renew.ensures.long.1 ∙ c.requires.margins.all.long)
           (subst (λ (m : Margin). IsMarginIn slots new (zone_of slots sink) (length slots) m) (sym stays.1) to.1) from.1
           (λ z first other. (c.renew-then-from-to.ensures.others z other).1 ∙ (c.renew.ensures.others z first).1) c.requires.margins.all;
     }
@@ -67,7 +69,8 @@ overflow_add-worth c =
     let rise : FitsSigned w128 c.improve.result = search rules in
     let old = worth_fits c.args.network.now.slots.now c.args.amounts.now c.requires.network.small c.requires.runs.amounts few in
     let new = worth_fits c.args.network.now.slots.now c.improve.new.amounts c.requires.network.small c.improve.ensures.runs.amounts few in
-    subst (λ (x : ℤ). FitsSigned w128 x) (sym (rise_step c.args.worth.now (sum_along slot_gain c.args.network.now.slots.now c.args.amounts.now) c.improve.result (sum_along slot_gain c.args.network.now.slots.now c.improve.new.amounts) old rise c.requires.worth c.improve.ensures.worth)) new
+    subst (λ (x : ℤ). FitsSigned w128 x) (sym (rise_step c.args.worth.now (sum_along slot_gain c.args.network.now.slots.now c.args.amounts.now) c.improve.result
+    (sum_along slot_gain c.args.network.now.slots.now c.improve.new.amounts) old rise c.requires.worth c.improve.ensures.worth)) new
 
 pub renew-requires-then-from-to-clause-dearest : goal.renew-requires-then-from-to-clause-dearest
 renew-requires-then-from-to-clause-dearest c = λ i e.
@@ -93,7 +96,8 @@ returns-then-from-to-clause-worth c =
     let rise : FitsSigned w128 c.improve.result = search rules in
     let old = worth_fits c.args.network.now.slots.now c.args.amounts.now c.requires.network.small c.requires.runs.amounts few in
     let new = worth_fits c.args.network.now.slots.now c.improve.new.amounts c.requires.network.small c.improve.ensures.runs.amounts few in
-    ap (λ (x : ℤ). to_z w128 (of_z w128 x)) (rise_step c.args.worth.now (sum_along slot_gain c.args.network.now.slots.now c.args.amounts.now) c.improve.result (sum_along slot_gain c.args.network.now.slots.now c.improve.new.amounts) old rise c.requires.worth c.improve.ensures.worth) ∙ to_z-of_z new
+    ap (λ (x : ℤ). to_z w128 (of_z w128 x)) (rise_step c.args.worth.now (sum_along slot_gain c.args.network.now.slots.now c.args.amounts.now) c.improve.result
+    (sum_along slot_gain c.args.network.now.slots.now c.improve.new.amounts) old rise c.requires.worth c.improve.ensures.worth) ∙ to_z-of_z new
 
 pub returns-else-from-to-clause-worth : goal.returns-else-from-to-clause-worth
 returns-else-from-to-clause-worth c =
@@ -101,4 +105,5 @@ returns-else-from-to-clause-worth c =
     let rise : FitsSigned w128 c.improve.result = search rules in
     let old = worth_fits c.args.network.now.slots.now c.args.amounts.now c.requires.network.small c.requires.runs.amounts few in
     let new = worth_fits c.args.network.now.slots.now c.improve.new.amounts c.requires.network.small c.improve.ensures.runs.amounts few in
-    ap (λ (x : ℤ). to_z w128 (of_z w128 x)) (rise_step c.args.worth.now (sum_along slot_gain c.args.network.now.slots.now c.args.amounts.now) c.improve.result (sum_along slot_gain c.args.network.now.slots.now c.improve.new.amounts) old rise c.requires.worth c.improve.ensures.worth) ∙ to_z-of_z new
+    ap (λ (x : ℤ). to_z w128 (of_z w128 x)) (rise_step c.args.worth.now (sum_along slot_gain c.args.network.now.slots.now c.args.amounts.now) c.improve.result
+    (sum_along slot_gain c.args.network.now.slots.now c.improve.new.amounts) old rise c.requires.worth c.improve.ensures.worth) ∙ to_z-of_z new

@@ -17,7 +17,8 @@ loop-slot-preserved c =
       within =
           zip_step IsWithinSlot c.args.slots.now c.loop-slot.amounts.items c.push.new.self.items c.loop-slot.slot-index no_slot _ c.loop-slot-test.true
           c.in_ok-push.ensures.items c.loop-slot.invariant.within (rw (to_z-of_z fits) (least_within (slot_at c.args.slots.now c.loop-slot.slot-index) range));
-      least = pushed_map (λ (s : Slot). s.low) c.args.slots.now c.loop-slot.slot-index no_slot c.loop-slot.amounts.items c.push.new.self.items _ c.loop-slot-test.true c.in_ok-push.ensures.items c.loop-slot.invariant.least (to_z-of_z fits);
+      least = pushed_map (λ (s : Slot). s.low) c.args.slots.now c.loop-slot.slot-index no_slot c.loop-slot.amounts.items c.push.new.self.items _ c.loop-slot-test.true c.in_ok-push.ensures.items
+          c.loop-slot.invariant.least (to_z-of_z fits);
     }
 
 low_at : (slots : List Slot) (k : ℕ) → k < length slots → int_at (map (λ (s : Slot). s.low) slots) k ≡ (slot_at slots k).low

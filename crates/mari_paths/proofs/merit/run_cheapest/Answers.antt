@@ -29,16 +29,20 @@ loop-rung-preserved c =
     let place = (rung_at c.args.ladder.now c.loop-rung.rung-index).place in
     let there : (rung_at c.args.ladder.now c.loop-rung.rung-index).place < length c.args.slots.now = c.requires.ladder.there c.loop-rung.rung-index no_rung c.loop-rung-test.true in
     let range : IsOrderRange (slot_at c.args.slots.now (rung_at c.args.ladder.now c.loop-rung.rung-index).place) = c.requires.slots place no_slot there in
-    let within : IsWithinSlot (slot_at c.args.slots.now (rung_at c.args.ladder.now c.loop-rung.rung-index).place) ((slot_at c.args.slots.now (rung_at c.args.ladder.now c.loop-rung.rung-index).place).low +ℤ c.part_of-part.result) = c.part_of-part.ensures.within in
-    let new : to_z w64 (of_z w64 (to_z w64 (of_z w64 (slot_at c.args.slots.now (rung_at c.args.ladder.now c.loop-rung.rung-index).place).low) +ℤ to_z w64 (of_z w64 c.part_of-part.result))) ≡ (slot_at c.args.slots.now (rung_at c.args.ladder.now c.loop-rung.rung-index).place).low +ℤ c.part_of-part.result =
+    let within : IsWithinSlot (slot_at c.args.slots.now (rung_at c.args.ladder.now c.loop-rung.rung-index).place)
+    ((slot_at c.args.slots.now (rung_at c.args.ladder.now c.loop-rung.rung-index).place).low +ℤ c.part_of-part.result) = c.part_of-part.ensures.within in
+    let new : to_z w64 (of_z w64 (to_z w64 (of_z w64 (slot_at c.args.slots.now (rung_at c.args.ladder.now c.loop-rung.rung-index).place).low) +ℤ to_z w64 (of_z w64 c.part_of-part.result)))
+    ≡ (slot_at c.args.slots.now (rung_at c.args.ladder.now c.loop-rung.rung-index).place).low +ℤ c.part_of-part.result =
     omega (arith, ints, range.low, range.in_order, range.high, within.least, within.most) in
     let left : to_z w64 (of_z w64 (to_z w64 c.loop-rung.left-bits -ℤ to_z w64 (of_z w64 c.part_of-part.result))) ≡ to_z w64 c.loop-rung.left-bits -ℤ c.part_of-part.result = search rules in
     let some : pos 0 <ℤ to_z w64 c.loop-rung.left-bits = not_most (to_z w64 c.loop-rung.left-bits) (pos 0) c.if-left-le0.false in
     record {
       within = AllZip-set IsWithinSlot c.args.slots.now c.loop-rung.amounts place _ no_slot there
           (subst (λ (x : ℤ). IsWithinSlot (slot_at c.args.slots.now (rung_at c.args.ladder.now c.loop-rung.rung-index).place) x) (sym new) within) c.loop-rung.invariant.within;
-      halfway = further c.args.slots.now c.args.ladder.now (to_z w64 (of_z w64 c.args.more)) (to_z w64 c.loop-rung.left-bits) _ c.part_of-part.result c.loop-rung.rung-index c.loop-rung.amounts _ c.requires.ladder
-          (ladder_in_order c.args.slots.now c.args.ladder.now c.requires.slots c.requires.ladder) c.loop-rung.invariant.within c.loop-rung-test.true some c.part_of-part.ensures.part left new c.loop-rung.invariant.halfway;
+      halfway = further c.args.slots.now c.args.ladder.now (to_z w64 (of_z w64 c.args.more))
+          (to_z w64 c.loop-rung.left-bits) _ c.part_of-part.result c.loop-rung.rung-index c.loop-rung.amounts _ c.requires.ladder
+          (ladder_in_order c.args.slots.now c.args.ladder.now c.requires.slots c.requires.ladder) c.loop-rung.invariant.within c.loop-rung-test.true some c.part_of-part.ensures.part left new
+          c.loop-rung.invariant.halfway;
       others = λ k other. get_or-set_other c.loop-rung.amounts place k _ (pos 0) (λ e. other c.loop-rung.rung-index no_rung c.loop-rung-test.true (sym e)) ∙ c.loop-rung.invariant.others k other;
     }
 
@@ -46,11 +50,13 @@ pub returns-then-left-le0-clause-merit : goal.returns-then-left-le0-clause-merit
 returns-then-left-le0-clause-merit c =
     let none : to_z w64 c.loop-rung.left-bits ≤ℤ pos 0 = search rules in
     let fits : FitsSigned w64 c.args.more = search rules in
-    run_out c.args.slots.now c.args.ladder.now c.args.more (to_z w64 c.loop-rung.left-bits) c.loop-rung.rung-index c.loop-rung.amounts c.requires.ladder (ladder_in_order c.args.slots.now c.args.ladder.now c.requires.slots c.requires.ladder)
+    run_out c.args.slots.now c.args.ladder.now c.args.more (to_z w64 c.loop-rung.left-bits) c.loop-rung.rung-index c.loop-rung.amounts c.requires.ladder
+    (ladder_in_order c.args.slots.now c.args.ladder.now c.requires.slots c.requires.ladder)
     c.loop-rung.invariant.within (λ l. none) (rw (to_z-of_z fits) at c.loop-rung.invariant.halfway)
 
 pub returns-clause-merit : goal.returns-clause-merit
 returns-clause-merit c =
     let fits : FitsSigned w64 c.args.more = search rules in
-    run_out c.args.slots.now c.args.ladder.now c.args.more (to_z w64 c.loop-rung.left-bits) c.loop-rung.rung-index c.loop-rung.amounts c.requires.ladder (ladder_in_order c.args.slots.now c.args.ladder.now c.requires.slots c.requires.ladder)
+    run_out c.args.slots.now c.args.ladder.now c.args.more (to_z w64 c.loop-rung.left-bits) c.loop-rung.rung-index c.loop-rung.amounts c.requires.ladder
+    (ladder_in_order c.args.slots.now c.args.ladder.now c.requires.slots c.requires.ladder)
     c.loop-rung.invariant.within (λ l. absurd (omega (arith, l, c.loop-rung-test.false))) (rw (to_z-of_z fits) at c.loop-rung.invariant.halfway)

@@ -10,7 +10,8 @@ pub answer-requires-clause-worth : goal.answer-requires-clause-worth
 answer-requires-clause-worth c =
     let few : length c.args.network.now.slots.now < 2 ^ 60 = search rules in
     let worth : c.run.new.worth ≡ sum_along slot_gain c.args.network.now.slots.now c.run.new.amounts = c.run.ensures.worth in
-    let fits : FitsSigned w128 c.run.new.worth = subst (λ (x : ℤ). FitsSigned w128 x) (sym worth) (worth_fits c.args.network.now.slots.now c.run.new.amounts c.requires.network.small c.run.ensures.runs.amounts few) in
+    let fits : FitsSigned w128 c.run.new.worth =
+    subst (λ (x : ℤ). FitsSigned w128 x) (sym worth) (worth_fits c.args.network.now.slots.now c.run.new.amounts c.requires.network.small c.run.ensures.runs.amounts few) in
     let amounts = with_items_is c.args.amounts c.run.new.amounts (c.run.auto.amounts ∙ c.deref_mut.ensures.len) in
     rw (to_z-of_z fits, amounts) worth
 

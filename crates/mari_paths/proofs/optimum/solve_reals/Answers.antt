@@ -16,7 +16,8 @@ pub solve_slots-requires-clause-places : goal.solve_slots-requires-clause-places
 solve_slots-requires-clause-places c =
     let m = c.args.market.now in
     rw c.deref-2.ensures.value
-    (started_places m c.args.reals.items c.in_ok-begun.begun.slots.items c.in_ok-begun.begun.amounts.items c.in_ok-places.places c.requires.reals c.in_ok-begun.ensures.reals c.in_ok-begun.ensures.filled
+    (started_places m c.args.reals.items c.in_ok-begun.begun.slots.items c.in_ok-begun.begun.amounts.items c.in_ok-places.places c.requires.reals c.in_ok-begun.ensures.reals
+    c.in_ok-begun.ensures.filled
     (c.in_ok-places.ensures.on_ladders ∙ ap (λ (os : List Order). length os) c.as_slice-orders.ensures)
     (subst (λ (ss : List Slot). ArePlaces m.zones ss m.borders c.in_ok-places.places) c.deref.ensures.value c.in_ok-places.ensures.places))
 

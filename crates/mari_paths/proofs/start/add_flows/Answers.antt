@@ -21,7 +21,8 @@ carry_out-requires-clause-flow c =
 pub loop-i-preserved : goal.loop-i-preserved
 loop-i-preserved c =
     let fits : FitsSigned w64 (int_at c.args.flows.now c.loop-i.i) = search rules in
-    let more : (z : ℕ) → int_at c.carry_out.new.short z ≡ int_at c.loop-i.short z +ℤ carried_out z (border_at c.args.borders.now c.loop-i.i) (int_at c.args.flows.now c.loop-i.i) = λ z. rw (to_z-of_z fits) at c.carry_out.ensures.each z in
+    let more : (z : ℕ) → int_at c.carry_out.new.short z ≡ int_at c.loop-i.short z +ℤ carried_out z (border_at c.args.borders.now c.loop-i.i) (int_at c.args.flows.now c.loop-i.i) =
+    λ z. rw (to_z-of_z fits) at c.carry_out.ensures.each z in
     let long : c.loop-i.i < length c.args.flows.now = omega (arith, zip_long IsWithinLimits c.args.borders.now c.args.flows.now c.requires.within, c.loop-i-test.true) in
     record {
       long = omega (arith, c.carry_out.ensures.long, c.loop-i.invariant.long);
@@ -29,7 +30,8 @@ loop-i-preserved c =
           near_more (500000000 + 400000 * c.loop-i.i) 400000 (500000000 + 400000 * (c.loop-i.i + 1)) (int_at c.loop-i.short z)
           (carried_out z (border_at c.args.borders.now c.loop-i.i) (int_at c.args.flows.now c.loop-i.i)) (int_at c.carry_out.new.short z)
           (c.loop-i.invariant.near z)
-          (carried_near z (border_at c.args.borders.now c.loop-i.i) (int_at c.args.flows.now c.loop-i.i) (small_flow c.args.borders.now c.args.flows.now c.loop-i.i c.requires.limits c.requires.within c.loop-i-test.true)) (more z) (omega arith);
+          (carried_near z (border_at c.args.borders.now c.loop-i.i) (int_at c.args.flows.now c.loop-i.i)
+          (small_flow c.args.borders.now c.args.flows.now c.loop-i.i c.requires.limits c.requires.within c.loop-i-test.true)) (more z) (omega arith);
       each = λ z. omega (arith, ints, more z, c.loop-i.invariant.each z, sum_along_more (carried_out z) c.args.borders.now c.args.flows.now c.loop-i.i no_border (pos 0) c.loop-i-test.true long);
     }
 

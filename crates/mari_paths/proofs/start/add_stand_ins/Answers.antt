@@ -10,7 +10,8 @@ use Rattle.mari_paths.proofs.start.add_stand_ins.Goals as goal
 pub loop-zone-preserved : goal.loop-zone-preserved
 loop-zone-preserved c =
     let fits : FitsSigned w64 (int_at c.args.short.now c.loop-zone.zone) = search rules in
-    let next : take (c.loop-zone.zone + 1) c.args.short.now ≡ take c.loop-zone.zone c.args.short.now ++ int_at c.args.short.now c.loop-zone.zone ∷ [] = take_more c.args.short.now c.loop-zone.zone (pos 0) c.loop-zone-test.true in
+    let next : take (c.loop-zone.zone + 1) c.args.short.now ≡ take c.loop-zone.zone c.args.short.now ++ int_at c.args.short.now c.loop-zone.zone ∷ [] =
+    take_more c.args.short.now c.loop-zone.zone (pos 0) c.loop-zone-test.true in
     let made : c.stand_in.result ≡ stand_in_of c.loop-zone.zone (int_at c.args.short.now c.loop-zone.zone) = rw (to_z-of_z fits) at c.stand_in.ensures in
     let long : length (take c.loop-zone.zone c.args.short.now) ≡ c.loop-zone.zone = length-take-le c.loop-zone.zone c.args.short.now (omega (arith, c.loop-zone-test.true)) in
     let place : 0 + length (take c.loop-zone.zone c.args.short.now) ≡ c.loop-zone.zone = omega (arith, long) in
@@ -22,5 +23,7 @@ loop-zone-preserved c =
           ∙ ap (λ (k : ℕ). c.args.slots.now.items ++ (stand_ins 0 (take c.loop-zone.zone c.args.short.now) ++ stand_in_of k (int_at c.args.short.now c.loop-zone.zone) ∷ [])) (sym place)
           ∙ ap (λ (ss : List Slot). c.args.slots.now.items ++ ss) (sym (stand_ins_push 0 (take c.loop-zone.zone c.args.short.now) (int_at c.args.short.now c.loop-zone.zone)))
           ∙ ap (λ (xs : List ℤ). c.args.slots.now.items ++ stand_ins 0 xs) (sym next);
-      amounts = rw (to_z-of_z fits) at c.in_ok-push-2.ensures.items ∙ ap (λ (xs : List ℤ). xs ++ int_at c.args.short.now c.loop-zone.zone ∷ []) c.loop-zone.invariant.amounts ∙ append_assoc c.args.amounts.now.items (take c.loop-zone.zone c.args.short.now) (int_at c.args.short.now c.loop-zone.zone ∷ []) ∙ ap (λ (xs : List ℤ). c.args.amounts.now.items ++ xs) (sym next);
+      amounts = rw (to_z-of_z fits) at c.in_ok-push-2.ensures.items ∙ ap (λ (xs : List ℤ). xs ++ int_at c.args.short.now c.loop-zone.zone ∷ []) c.loop-zone.invariant.amounts
+          ∙ append_assoc c.args.amounts.now.items (take c.loop-zone.zone c.args.short.now) (int_at c.args.short.now c.loop-zone.zone ∷ [])
+          ∙ ap (λ (xs : List ℤ). c.args.amounts.now.items ++ xs) (sym next);
     }

@@ -12,7 +12,8 @@ take_at-requires-clause-before c =
     near_more 700000000 200000 700200000 (int_at c.args.short.now c.args.border.now.to)
     (at_zone c.args.border.now.to c.args.border.now.from c.args.flow) (int_at c.add_at.new.short c.args.border.now.to)
     (c.requires.near c.args.border.now.to) (near_zone 200000 c.args.border.now.to c.args.border.now.from c.args.flow c.requires.flow)
-    (ap (λ (xs : List ℤ). int_at xs c.args.border.now.to) (rw (to_z-of_z fits) at c.add_at.ensures) ∙ more_at c.args.short.now c.args.border.now.from c.args.border.now.to c.args.flow c.requires.ends.0)
+    (ap (λ (xs : List ℤ). int_at xs c.args.border.now.to) (rw (to_z-of_z fits) at c.add_at.ensures)
+    ∙ more_at c.args.short.now c.args.border.now.from c.args.border.now.to c.args.flow c.requires.ends.0)
     (omega arith)
 
 pub returns-clause-each : goal.returns-clause-each

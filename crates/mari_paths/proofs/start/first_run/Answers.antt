@@ -7,7 +7,8 @@ use Rattle.mari_paths.proofs.start.first_run.Goals as goal
 pub amounts_by_price-requires-clause-ladders : goal.amounts_by_price-requires-clause-ladders
 amounts_by_price-requires-clause-ladders c =
     rw c.as_slice-ladders.ensures.value
-    (ladders_there c.args.market.now.zones c.args.slots.now c.args.market.now.borders c.args.places.now (omega (arith, c.requires.slots.long, c.requires.market.few_orders)) c.requires.slots.fine (omega (arith, c.requires.slots.long, c.requires.on_ladders)) c.requires.places)
+    (ladders_there c.args.market.now.zones c.args.slots.now c.args.market.now.borders c.args.places.now (omega (arith, c.requires.slots.long, c.requires.market.few_orders)) c.requires.slots.fine
+    (omega (arith, c.requires.slots.long, c.requires.on_ladders)) c.requires.places)
 
 pub shortages_alone-requires-clause-within : goal.shortages_alone-requires-clause-within
 shortages_alone-requires-clause-within c =

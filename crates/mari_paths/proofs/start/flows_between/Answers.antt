@@ -20,7 +20,8 @@ pub flow_between-flow-requires-clause-from : goal.flow_between-flow-requires-cla
 flow_between-flow-requires-clause-from c =
     let from = (border_at c.args.borders.now c.loop-border.border-index).from in
     read_near most_short (int_at c.loop-border.short from) (omega arith)
-    (near_wider (500000000 + 400000 * c.loop-border.border-index) most_short (int_at c.loop-border.short from) (c.loop-border.invariant.near from) (omega (arith, c.requires.few, c.loop-border-test.true)))
+    (near_wider (500000000 + 400000 * c.loop-border.border-index) most_short (int_at c.loop-border.short from) (c.loop-border.invariant.near from)
+    (omega (arith, c.requires.few, c.loop-border-test.true)))
 
 pub flow_between-flow-requires-clause-to : goal.flow_between-flow-requires-clause-to
 flow_between-flow-requires-clause-to c =
@@ -52,7 +53,8 @@ loop-border-preserved c =
     let fits : FitsSigned w64 c.flow_between-flow.result = search rules in
     let within : IsWithinLimits (border_at c.args.borders.now c.loop-border.border-index) c.flow_between-flow.result = c.flow_between-flow.ensures in
     let small : IsNear 200000 c.flow_between-flow.result = within_near border c.flow_between-flow.result (c.requires.limits c.loop-border.border-index no_border c.loop-border-test.true) within in
-    let more : (z : ℕ) → int_at c.carry_out.new.short z ≡ int_at c.loop-border.short z +ℤ carried_out z (border_at c.args.borders.now c.loop-border.border-index) c.flow_between-flow.result = λ z. rw (to_z-of_z fits) at c.carry_out.ensures.each z in
+    let more : (z : ℕ) → int_at c.carry_out.new.short z ≡ int_at c.loop-border.short z +ℤ carried_out z (border_at c.args.borders.now c.loop-border.border-index) c.flow_between-flow.result =
+    λ z. rw (to_z-of_z fits) at c.carry_out.ensures.each z in
     record {
       long = omega (arith, c.carry_out.ensures.long, c.loop-border.invariant.long);
       near = λ z.

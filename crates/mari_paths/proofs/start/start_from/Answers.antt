@@ -14,11 +14,13 @@ returns c =
     let m = c.args.market.now in
     let slots : c.add_stand_ins.new.slots.items ≡ c.args.reals.items ++ stand_ins 0 c.deref-5.result.now = c.in_ok-add_stand_ins.ensures.slots in
     let amounts : c.add_stand_ins.new.amounts.items ≡ c.in_ok-amounts.amounts.items ++ c.deref-5.result.now = c.in_ok-add_stand_ins.ensures.amounts in
-    let within : AllZip IsWithinSlot c.args.reals.items c.in_ok-amounts.amounts.items = subst (λ (ss : List Slot). AllZip IsWithinSlot ss c.in_ok-amounts.amounts.items) c.deref.ensures.value c.in_ok-amounts.ensures.amounts in
+    let within : AllZip IsWithinSlot c.args.reals.items c.in_ok-amounts.amounts.items =
+    subst (λ (ss : List Slot). AllZip IsWithinSlot ss c.in_ok-amounts.amounts.items) c.deref.ensures.value c.in_ok-amounts.ensures.amounts in
     let short : AreShort c.args.market.now.zones c.args.reals.items c.args.market.now.borders c.in_ok-amounts.amounts.items c.in_ok-amounts.flows.items c.in_ok-short.short.items =
     subst (λ (gs : List ℤ). AreShort c.args.market.now.zones c.args.reals.items c.args.market.now.borders c.in_ok-amounts.amounts.items gs c.in_ok-short.short.items) c.deref-4.ensures.value
     (subst (λ (ys : List ℤ). AreShort c.args.market.now.zones c.args.reals.items c.args.market.now.borders ys c.deref-4.result.now c.in_ok-short.short.items) c.deref-3.ensures.value
-    (subst (λ (ss : List Slot). AreShort c.args.market.now.zones ss c.args.market.now.borders c.deref-3.result.now c.deref-4.result.now c.in_ok-short.short.items) c.deref-2.ensures.value c.in_ok-short.ensures.short)) in
+    (subst (λ (ss : List Slot). AreShort c.args.market.now.zones ss c.args.market.now.borders c.deref-3.result.now c.deref-4.result.now c.in_ok-short.short.items) c.deref-2.ensures.value
+    c.in_ok-short.ensures.short)) in
     let all : IsStarted c.args.market.now c.args.reals.items c.add_stand_ins.new.slots.items c.add_stand_ins.new.amounts.items c.in_ok-amounts.flows.items =
     starts m c.args.reals.items c.add_stand_ins.new.slots.items c.in_ok-amounts.amounts.items c.add_stand_ins.new.amounts.items c.in_ok-amounts.flows.items c.in_ok-short.short.items
     c.requires.reals within c.in_ok-amounts.ensures.flows short c.in_ok-short.ensures.near (rw c.deref-5.ensures.value at slots) (rw c.deref-5.ensures.value at amounts) in

@@ -16,7 +16,8 @@ pub take_at-requires-clause-less : goal.take_at-requires-clause-less
 take_at-requires-clause-less c =
     let fits : FitsSigned w64 (int_at c.args.amounts.now c.loop-i.i) = search rules in
     rw (to_z-of_z fits)
-    (near_wider 99999 200000 (int_at c.args.amounts.now c.loop-i.i) (small_amount (length c.args.short.now) c.args.slots.now c.args.amounts.now c.loop-i.i c.requires.slots c.requires.within c.loop-i-test.true) (omega arith))
+    (near_wider 99999 200000 (int_at c.args.amounts.now c.loop-i.i)
+    (small_amount (length c.args.short.now) c.args.slots.now c.args.amounts.now c.loop-i.i c.requires.slots c.requires.within c.loop-i-test.true) (omega arith))
 
 pub loop-i-preserved : goal.loop-i-preserved
 loop-i-preserved c =
@@ -32,7 +33,8 @@ loop-i-preserved c =
           near_less (99999 * c.loop-i.i) 99999 (99999 * (c.loop-i.i + 1)) (int_at c.loop-i.short z)
           (at_zone z (zone_of c.args.slots.now c.loop-i.i) (int_at c.args.amounts.now c.loop-i.i)) (int_at c.take_at.new.short z)
           (c.loop-i.invariant.near z)
-          (near_zone 99999 z (zone_of c.args.slots.now c.loop-i.i) (int_at c.args.amounts.now c.loop-i.i) (small_amount (length c.args.short.now) c.args.slots.now c.args.amounts.now c.loop-i.i c.requires.slots c.requires.within c.loop-i-test.true)) (less z) (omega arith);
+          (near_zone 99999 z (zone_of c.args.slots.now c.loop-i.i) (int_at c.args.amounts.now c.loop-i.i)
+          (small_amount (length c.args.short.now) c.args.slots.now c.args.amounts.now c.loop-i.i c.requires.slots c.requires.within c.loop-i-test.true)) (less z) (omega arith);
       each = λ z. omega (arith, ints, less z, c.loop-i.invariant.each z, sum_along_more (slot_into z) c.args.slots.now c.args.amounts.now c.loop-i.i no_slot (pos 0) c.loop-i-test.true long);
     }
 

@@ -18,7 +18,8 @@ loop-i-preserved c =
           let items : c.if-is_some.places.items ≡ c.loop-i.places.items ++ c.loop-i.i ∷ [] = ap (λ (v : Vec ℕ Global). v.items) w.places-is ∙ w.in_ok-push.ensures.items in
           let gate : is_some (get_or c.as_slice-orders.result.now c.loop-i.i no_order).gate ≡ true = search rules in
           record {
-            there = subst (λ (ps : List ℕ). All (λ k. k < length c.as_slice-orders.result.now) ps) (sym items) (All-push (λ k. k < length c.as_slice-orders.result.now) places i before.there c.loop-i-test.true);
+            there = subst (λ (ps : List ℕ). All (λ k. k < length c.as_slice-orders.result.now) ps) (sym items)
+                (All-push (λ k. k < length c.as_slice-orders.result.now) places i before.there c.loop-i-test.true);
             few = omega (arith, ap (λ (ps : List ℕ). length ps) items, length_push places i, before.few);
             only = subst (λ (ps : List ℕ). All (λ k. is_some (get_or c.as_slice-orders.result.now k no_order).gate ≡ true) ps) (sym items)
                 (All-push (λ k. is_some (get_or c.as_slice-orders.result.now k no_order).gate ≡ true) places i before.only gate);

@@ -38,7 +38,8 @@ pub returns-clause-least : goal.returns-clause-least
 returns-clause-least c = all_orders Least c.args.orders.now c.args.mw.now c.loop-i.i c.args.zones c.loop-i.bounds.least.items c.requires.lengths c.loop-i-test.false c.loop-i.invariant.least
 
 pub returns-clause-greatest : goal.returns-clause-greatest
-returns-clause-greatest c = all_orders Greatest c.args.orders.now c.args.mw.now c.loop-i.i c.args.zones c.loop-i.bounds.greatest.items c.requires.lengths c.loop-i-test.false c.loop-i.invariant.greatest
+returns-clause-greatest c =
+    all_orders Greatest c.args.orders.now c.args.mw.now c.loop-i.i c.args.zones c.loop-i.bounds.greatest.items c.requires.lengths c.loop-i-test.false c.loop-i.invariant.greatest
 
 pub loop-i-preserved : goal.loop-i-preserved
 loop-i-preserved c =

@@ -38,5 +38,13 @@ returns c =
       entry = s.0;
       settled = s.1;
       start = sym (c.previous_of.ensures s.0 s.1) ∙ c.in_default.is;
-      short = omega (arith, ap depth_of s.1, ap depth_of e.1, c.requires.trails.some c.loop-before.first s.0 s.1, c.requires.trails.short c.args.last e.0 e.1, c.loop-before.invariant.long, length-reverse c.loop-before.chain.items);
+      short = omega (
+        arith,
+        ap depth_of s.1,
+        ap depth_of e.1,
+        c.requires.trails.some c.loop-before.first s.0 s.1,
+        c.requires.trails.short c.args.last e.0 e.1,
+        c.loop-before.invariant.long,
+        length-reverse c.loop-before.chain.items,
+      );
     })

@@ -12,6 +12,8 @@ loop-zone-preserved c =
     let read : to_z w64 (of_z w64 (get_or c.args.uppers.now c.loop-zone.zone (pos 0))) ≡ get_or c.args.uppers.now c.loop-zone.zone (pos 0) = to_z-of_z fits in
     let here : (s : SettledZone) → entry_at c.args.settled.now c.loop-zone.zone ≡ Some s → s.value ≤ℤ neg_ℤ (int_at c.args.uppers.now c.loop-zone.zone) =
     λ s e. by_lt_z (neg_ℤ (int_at c.args.uppers.now c.loop-zone.zone)) s.value
-    (λ l. let up : neg_ℤ (to_z w64 (of_z w64 (get_or c.args.uppers.now c.loop-zone.zone (pos 0)))) <ℤ s.value = subst (λ (v : ℤ). neg_ℤ v <ℤ s.value) (sym read) l in absurd (both_ways c.is_above.result c.if-is_above.false ((c.is_above.ensures.some s e).1 up)))
+    (λ l. let up : neg_ℤ (to_z w64 (of_z w64 (get_or c.args.uppers.now c.loop-zone.zone (pos 0))))
+    <ℤ s.value = subst (λ (v : ℤ). neg_ℤ v <ℤ s.value) (sym read) l in absurd (both_ways c.is_above.result c.if-is_above.false ((c.is_above.ensures.some s e).1 up)))
     (λ l. l) in
-    λ z s h e. below_more (λ (x : ℕ). (t : SettledZone) → entry_at c.args.settled.now x ≡ Some t → t.value ≤ℤ neg_ℤ (int_at c.args.uppers.now x)) _ (λ x k t f. c.loop-zone.invariant x t k f) here z h s e
+    λ z s h e. below_more (λ (x : ℕ). (t : SettledZone) → entry_at c.args.settled.now x ≡ Some t → t.value ≤ℤ neg_ℤ (int_at c.args.uppers.now x)) _
+    (λ x k t f. c.loop-zone.invariant x t k f) here z h s e

@@ -29,21 +29,24 @@ fits_read xs xs' uppers e = subst (λ (ys : List (Option SettledZone)). AreUncon
 contradictory : (m : Market) (a : Activation) (chain : Option (List ℕ)) (zs : List ℕ) → chain ≡ Some zs → MatchOption chain (IsAdmissible m a) (IsContradictoryChain m a) → IsContradictoryChain m a zs
 contradictory m a chain zs e h = rw e at h
 
-none_above : (xs : List (Option SettledZone)) (uppers : List ℤ) (chain : Option (List ℕ)) → chain ≡ None → IfNone chain (AreUncontradicted (length xs) xs uppers) → AreUncontradicted (length xs) xs uppers
+none_above : (xs : List (Option SettledZone)) (uppers : List ℤ) (chain : Option (List ℕ)) → chain ≡ None → IfNone chain (AreUncontradicted (length xs) xs uppers)
+    → AreUncontradicted (length xs) xs uppers
 none_above xs uppers chain e h = rw e at h
 
 pub chain_by-requires-clause-ends : goal.chain_by-requires-clause-ends
 chain_by-requires-clause-ends c =
     let m = c.args.market.now in
     let a = c.args.activation.now in
-    let e = end_read Least m a c.as_slice-flow.result.now c.deref.result.now c.in_ok-bounds.bounds.least.items c.in_ok-least.least.items c.requires.feasible c.as_slice-flow.ensures c.deref.ensures.value c.in_ok-bounds.ensures.least c.in_ok-least.ensures in
+    let e = end_read Least m a c.as_slice-flow.result.now c.deref.result.now c.in_ok-bounds.bounds.least.items c.in_ok-least.least.items c.requires.feasible c.as_slice-flow.ensures
+    c.deref.ensures.value c.in_ok-bounds.ensures.least c.in_ok-least.ensures in
     (a, ends_read m a c.in_ok-bounds.bounds c.in_ok-least.least.items c.deref-2.result.now c.deref-2.ensures.value c.requires.feasible e c.in_ok-bounds.ensures.greatest)
 
 pub returns-in-Some-clause-none : goal.returns-in-Some-clause-none
 returns-in-Some-clause-none c = λ ps h.
     let m = c.args.market.now in
     let a = c.args.activation.now in
-    let e = end_read Least m a c.as_slice-flow.result.now c.deref.result.now c.in_ok-bounds.bounds.least.items c.in_ok-least.least.items c.requires.feasible c.as_slice-flow.ensures c.deref.ensures.value c.in_ok-bounds.ensures.least c.in_ok-least.ensures in
+    let e = end_read Least m a c.as_slice-flow.result.now c.deref.result.now c.in_ok-bounds.bounds.least.items c.in_ok-least.least.items c.requires.feasible c.as_slice-flow.ensures
+    c.deref.ensures.value c.in_ok-bounds.ensures.least c.in_ok-least.ensures in
     let ends = ends_read m a c.in_ok-bounds.bounds c.in_ok-least.least.items c.deref-2.result.now c.deref-2.ensures.value c.requires.feasible e c.in_ok-bounds.ensures.greatest in
     none_consistent m a c.in-Some.chain ps (contradictory m a c.in_ok-chain.field-0 c.in-Some.chain c.in-Some.is (c.in_ok-chain.ensures.chain a ends)) h
 
@@ -51,14 +54,16 @@ pub prices_of_settled-requires : goal.prices_of_settled-requires
 prices_of_settled-requires c =
     let m = c.args.market.now in
     let a = c.args.activation.now in
-    let e = end_read Least m a c.as_slice-flow.result.now c.deref.result.now c.in_ok-bounds.bounds.least.items c.in_ok-least.least.items c.requires.feasible c.as_slice-flow.ensures c.deref.ensures.value c.in_ok-bounds.ensures.least c.in_ok-least.ensures in
+    let e = end_read Least m a c.as_slice-flow.result.now c.deref.result.now c.in_ok-bounds.bounds.least.items c.in_ok-least.least.items c.requires.feasible c.as_slice-flow.ensures
+    c.deref.ensures.value c.in_ok-bounds.ensures.least c.in_ok-least.ensures in
     subst ArePriced (sym c.deref-4.ensures.value) (priced Least m a c.in_ok-bounds.bounds.least.items c.in_ok-least.least.items c.requires.valid e)
 
 pub prices_of_settled-requires-2 : goal.prices_of_settled-requires-2
 prices_of_settled-requires-2 c =
     let m = c.args.market.now in
     let a = c.args.activation.now in
-    let g = end_read Greatest m a c.as_slice-flow.result.now c.deref-3.result.now c.in_ok-bounds.bounds.greatest.items c.in_ok-greatest.greatest.items c.requires.feasible c.as_slice-flow.ensures c.deref-3.ensures.value c.in_ok-bounds.ensures.greatest c.in_ok-greatest.ensures in
+    let g = end_read Greatest m a c.as_slice-flow.result.now c.deref-3.result.now c.in_ok-bounds.bounds.greatest.items c.in_ok-greatest.greatest.items c.requires.feasible c.as_slice-flow.ensures
+    c.deref-3.ensures.value c.in_ok-bounds.ensures.greatest c.in_ok-greatest.ensures in
     subst ArePriced (sym c.deref-5.ensures.value) (priced Greatest m a c.in_ok-bounds.bounds.greatest.items c.in_ok-greatest.greatest.items c.requires.valid g)
 
 pub returns-clause-least : goal.returns-clause-least
@@ -69,7 +74,8 @@ returns-clause-least c =
     let lows = c.in_ok-bounds.bounds.least.items in
     let highs = c.in_ok-bounds.bounds.greatest.items in
     let ps = c.in_ok-prices_of_settled.field-0.cents in
-    let e = end_read Least m a c.as_slice-flow.result.now c.deref.result.now c.in_ok-bounds.bounds.least.items c.in_ok-least.least.items c.requires.feasible c.as_slice-flow.ensures c.deref.ensures.value c.in_ok-bounds.ensures.least c.in_ok-least.ensures in
+    let e = end_read Least m a c.as_slice-flow.result.now c.deref.result.now c.in_ok-bounds.bounds.least.items c.in_ok-least.least.items c.requires.feasible c.as_slice-flow.ensures
+    c.deref.ensures.value c.in_ok-bounds.ensures.least c.in_ok-least.ensures in
     let fit = fits_read xs c.deref-2.result.now highs c.deref-2.ensures.value (none_above c.deref-2.result.now highs c.in_ok-chain.field-0 c.in_default.is c.in_ok-chain.ensures.none) in
     let p = subst (λ (ys : List (Option SettledZone)). ArePricesOf Least ys ps) c.deref-4.ensures.value c.in_ok-prices_of_settled.ensures in
     are_least m a lows xs ps c.requires.valid c.requires.feasible e (least_keeps m a lows highs xs ps c.requires.valid c.requires.feasible e c.in_ok-bounds.ensures.greatest fit p) p
@@ -84,8 +90,10 @@ returns-clause-greatest c =
     let highs = c.in_ok-bounds.bounds.greatest.items in
     let ps = c.in_ok-prices_of_settled.field-0.cents in
     let qs = c.in_ok-prices_of_settled-2.field-0.cents in
-    let e = end_read Least m a c.as_slice-flow.result.now c.deref.result.now c.in_ok-bounds.bounds.least.items c.in_ok-least.least.items c.requires.feasible c.as_slice-flow.ensures c.deref.ensures.value c.in_ok-bounds.ensures.least c.in_ok-least.ensures in
-    let g = end_read Greatest m a c.as_slice-flow.result.now c.deref-3.result.now c.in_ok-bounds.bounds.greatest.items c.in_ok-greatest.greatest.items c.requires.feasible c.as_slice-flow.ensures c.deref-3.ensures.value c.in_ok-bounds.ensures.greatest c.in_ok-greatest.ensures in
+    let e = end_read Least m a c.as_slice-flow.result.now c.deref.result.now c.in_ok-bounds.bounds.least.items c.in_ok-least.least.items c.requires.feasible c.as_slice-flow.ensures
+    c.deref.ensures.value c.in_ok-bounds.ensures.least c.in_ok-least.ensures in
+    let g = end_read Greatest m a c.as_slice-flow.result.now c.deref-3.result.now c.in_ok-bounds.bounds.greatest.items c.in_ok-greatest.greatest.items c.requires.feasible c.as_slice-flow.ensures
+    c.deref-3.ensures.value c.in_ok-bounds.ensures.greatest c.in_ok-greatest.ensures in
     let fit = fits_read xs c.deref-2.result.now highs c.deref-2.ensures.value (none_above c.deref-2.result.now highs c.in_ok-chain.field-0 c.in_default.is c.in_ok-chain.ensures.none) in
     let p = subst (λ (zs : List (Option SettledZone)). ArePricesOf Least zs ps) c.deref-4.ensures.value c.in_ok-prices_of_settled.ensures in
     let q = subst (λ (zs : List (Option SettledZone)). ArePricesOf Greatest zs qs) c.deref-5.ensures.value c.in_ok-prices_of_settled-2.ensures in

@@ -17,7 +17,8 @@ spread_read m a bs fs vs values xs b f e l p k s = record {
   values_each = l;
   one_each = k ∙ ap length e ∙ l;
   places = p;
-  spread = subst (λ (us : List ℤ). SpreadsAlong Joined m.borders a.flow us xs) e (subst (λ (gs : List ℤ). SpreadsAlong Joined m.borders gs vs xs) f (subst (λ (cs : List Border). SpreadsAlong Joined cs fs vs xs) b s));
+  spread = subst (λ (us : List ℤ). SpreadsAlong Joined m.borders a.flow us xs) e
+      (subst (λ (gs : List ℤ). SpreadsAlong Joined m.borders gs vs xs) f (subst (λ (cs : List Border). SpreadsAlong Joined cs fs vs xs) b s));
 }
 
 pub spread-requires-clause-lengths : goal.spread-requires-clause-lengths
@@ -27,14 +28,16 @@ spread-requires-clause-lengths c =
 
 pub number-requires-clause-firsts : goal.number-requires-clause-firsts
 number-requires-clause-firsts c =
-    let s = spread_read c.args.market.now c.args.activation.now c.as_slice-borders.result.now c.as_slice-flow.result.now c.deref.result.now c.in_ok-places.places.items c.in_ok-settled.settled.items c.as_slice-borders.ensures c.as_slice-flow.ensures c.deref.ensures.value
+    let s = spread_read c.args.market.now c.args.activation.now c.as_slice-borders.result.now c.as_slice-flow.result.now c.deref.result.now c.in_ok-places.places.items c.in_ok-settled.settled.items
+    c.as_slice-borders.ensures c.as_slice-flow.ensures c.deref.ensures.value
     c.in_ok-places.ensures.one_each c.in_ok-places.ensures.places c.in_ok-settled.ensures.one_each c.in_ok-settled.ensures.spread in
     subst (λ (xs : List (Option SettledZone)). AreFirsts (length xs) (first_at xs)) (sym c.deref-2.ensures.value)
     (firsts c.args.market.now c.args.activation.now c.in_ok-places.places.items c.in_ok-settled.settled.items c.requires.valid s)
 
 pub returns : goal.returns
 returns c =
-    let s = spread_read c.args.market.now c.args.activation.now c.as_slice-borders.result.now c.as_slice-flow.result.now c.deref.result.now c.in_ok-places.places.items c.in_ok-settled.settled.items c.as_slice-borders.ensures c.as_slice-flow.ensures c.deref.ensures.value
+    let s = spread_read c.args.market.now c.args.activation.now c.as_slice-borders.result.now c.as_slice-flow.result.now c.deref.result.now c.in_ok-places.places.items c.in_ok-settled.settled.items
+    c.as_slice-borders.ensures c.as_slice-flow.ensures c.deref.ensures.value
     c.in_ok-places.ensures.one_each c.in_ok-places.ensures.places c.in_ok-settled.ensures.one_each c.in_ok-settled.ensures.spread in
     numbered_areas c.args.market.now c.args.activation.now c.in_ok-places.places.items c.in_ok-settled.settled.items c.in_ok-number.field-0.items c.requires.valid s
     (subst (λ (xs : List (Option SettledZone)). AreNumberedByFirsts xs c.in_ok-number.field-0.items) c.deref-2.ensures.value c.in_ok-number.ensures)

@@ -11,10 +11,12 @@ loop-zone-preserved c =
     elim c.if-first-zone.branch [
       | then-first-zone+in_ok-push w ↦
           let all = push_new_area (first_at c.args.settled.now) c.loop-zone.areas.items c.if-first-zone.areas.items c.loop-zone.zone c.loop-zone.count c.if-first-zone.count
-          c.loop-zone.invariant.long (ap (λ (v : Vec ℕ Global). v.items) w.areas-is ∙ w.in_ok-push.ensures.items) w.count-is c.loop-zone.invariant.numbering back (sym c.first_of-first.ensures ∙ w.if-first-zone.true) in
+          c.loop-zone.invariant.long (ap (λ (v : Vec ℕ Global). v.items) w.areas-is ∙ w.in_ok-push.ensures.items) w.count-is c.loop-zone.invariant.numbering back
+          (sym c.first_of-first.ensures ∙ w.if-first-zone.true) in
           record { long = all.0; numbering = all.1 }
       | else-first-zone+in_ok-push-2 w ↦
-          let all = push_old_area (first_at c.args.settled.now) c.loop-zone.areas.items c.if-first-zone.areas.items c.loop-zone.zone c.loop-zone.count c.if-first-zone.count w.index-area.result.now c.first_of-first.result
+          let all = push_old_area
+          (first_at c.args.settled.now) c.loop-zone.areas.items c.if-first-zone.areas.items c.loop-zone.zone c.loop-zone.count c.if-first-zone.count w.index-area.result.now c.first_of-first.result
           c.loop-zone.invariant.long (ap (λ (v : Vec ℕ Global). v.items) w.areas-is ∙ w.in_ok-push-2.ensures.items) w.count-is
           c.loop-zone.invariant.numbering back c.first_of-first.ensures w.index-area.ensures
           (let other = w.if-first-zone.false in omega (arith, c.first_of-first.ensures, no_later)) in

@@ -22,7 +22,8 @@ loop-i-preserved c =
     let high : c.index-in-loop-i.result.now ≡ get_or one b.to 0 = c.index-in-loop-i.ensures ∙ get_or_default one b.to c.index-in-loop-i.result.now 0 (omega (arith, ends.1)) in
     record {
       long = omega (arith, length-set one b.to c.min-in-loop-i.result);
-      apart = firsts_more firsts bs none i n c.min.result c.min-in-loop-i.result c.loop-i.invariant.long ends.0 ends.1 c.loop-i.invariant.apart (omega (arith, c.min.ensures)) (omega (arith, c.min.ensures)) (omega (arith, c.min-in-loop-i.ensures)) (omega (arith, c.min-in-loop-i.ensures));
+      apart = firsts_more firsts bs none i n c.min.result c.min-in-loop-i.result c.loop-i.invariant.long ends.0 ends.1 c.loop-i.invariant.apart (omega (arith, c.min.ensures))
+          (omega (arith, c.min.ensures)) (omega (arith, c.min-in-loop-i.ensures)) (omega (arith, c.min-in-loop-i.ensures));
     }
 
 pub returns-clause-firsts : goal.returns-clause-firsts

@@ -19,7 +19,8 @@ returns-in-Some-clause-some c =
     let none : Border = record { from = 0; to = 0; limit = 0; back = 0 } in
     let fits : FitsSigned w64 (get_or c.args.flow.now c.loop-i.i (pos 0)) = search rules in
     let read : to_z w64 (of_z w64 (get_or c.args.flow.now c.loop-i.i (pos 0))) ≡ get_or c.args.flow.now c.loop-i.i (pos 0) = to_z-of_z fits in
-    let over : IsLedOver c.args.along c.args.settled.now (get_or c.args.borders.now c.loop-i.i none) (to_z w64 (of_z w64 (get_or c.args.flow.now c.loop-i.i (pos 0)))) c.in-Some.zone c.in-Some.entry = c.in-Some.ensures.some in
+    let over : IsLedOver c.args.along c.args.settled.now (get_or c.args.borders.now c.loop-i.i none) (to_z w64 (of_z w64 (get_or c.args.flow.now c.loop-i.i (pos 0)))) c.in-Some.zone c.in-Some.entry =
+    c.in-Some.ensures.some in
     let p = over.passed in
     record {
       free = p.free;

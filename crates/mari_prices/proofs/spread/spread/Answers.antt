@@ -53,7 +53,8 @@ loop-next-preserved c =
     let next = subst (λ (ys : List (Option SettledZone)). IsNext lead (int_at c.args.values.now) ys z e) c.deref.ensures.value c.in-Some.ensures.some in
     let free : IsFree xs z = next_free lead (int_at c.args.values.now) xs z e next in
     let before = subst (λ (ys : List (Option SettledZone)). NoneOverBefore c.args.along c.args.borders.now c.args.flow.now ys c.in-Some.next.border) c.deref.ensures.value c.in-Some.ensures.before in
-    let own : c.index.result.now ≡ slice_index c.in_ok-firsts.firsts.items z = c.index.ensures ∙ get_or_default c.in_ok-firsts.firsts.items z c.index.result.now 0 (omega (arith, free.0, c.loop-next.invariant.long, c.in_ok-firsts.ensures.one_each)) in
+    let own : c.index.result.now ≡ slice_index c.in_ok-firsts.firsts.items z =
+    c.index.ensures ∙ get_or_default c.in_ok-firsts.firsts.items z c.index.result.now 0 (omega (arith, free.0, c.loop-next.invariant.long, c.in_ok-firsts.ensures.one_each)) in
     record {
       long = omega (arith, length-set xs z (Some e));
       spreading = settle_next lead (int_at c.args.values.now) xs z e c.loop-next.invariant.spreading next;

@@ -8,4 +8,5 @@ pub loop-i-preserved : goal.loop-i-preserved
 loop-i-preserved c =
     let fits : FitsSigned w64 c.raised-bound.result = search rules in
     rw (to_z-of_z fits)
-    (lower_more (opens_gate c.args.prefix.now) c.args.zone c.args.orders.now c.args.mw.now c.loop-i.i _ _ c.raised-bound.result c.loop-i-test.true (omega arith) c.loop-i.invariant c.raised-bound.ensures.least c.raised-bound.ensures.above c.raised-bound.ensures.reached)
+    (lower_more (opens_gate c.args.prefix.now) c.args.zone c.args.orders.now c.args.mw.now c.loop-i.i _ _ c.raised-bound.result c.loop-i-test.true
+    (omega arith) c.loop-i.invariant c.raised-bound.ensures.least c.raised-bound.ensures.above c.raised-bound.ensures.reached)

@@ -20,5 +20,6 @@ returns-then-prefix-as_slice c =
 
 pub returns-else-prefix-as_slice : goal.returns-else-prefix-as_slice
 returns-else-prefix-as_slice c =
-    let never = λ (e : gate_word_of c.args.market.now c.args.activation.now ≡ word_of c.args.prefix.now). c.if-prefix-as_slice.false (length_of_word c.args.market.now c.args.prefix.now c.args.activation.now e ∙ sym (ap length c.as_slice.ensures)) in
+    let never = λ (e : gate_word_of c.args.market.now c.args.activation.now ≡ word_of c.args.prefix.now). c.if-prefix-as_slice.false
+    (length_of_word c.args.market.now c.args.prefix.now c.args.activation.now e ∙ sym (ap length c.as_slice.ensures)) in
     (λ yes. absurd (c.if-prefix-as_slice.false (grind (arith, nat_tests))), λ e. absurd (never e))

@@ -9,7 +9,8 @@ pub returns-then-not-has_tight_potentials : goal.returns-then-not-has_tight_pote
 returns-then-not-has_tight_potentials c = (
   λ no. absurd (cc),
   λ k. absurd (both_ways c.has_tight_potentials.result c.if-not-has_tight_potentials.true
-      (c.has_tight_potentials.ensures.1 (subst (λ (ps : List Cents). AreTightPotentials c.args.market.now c.args.conflict.now.activation ps) (sym c.as_slice-potentials.ensures) (record { prices = k.prices; tight = k.tight })))),
+      (c.has_tight_potentials.ensures.1
+      (subst (λ (ps : List Cents). AreTightPotentials c.args.market.now c.args.conflict.now.activation ps) (sym c.as_slice-potentials.ensures) (record { prices = k.prices; tight = k.tight })))),
 )
 
 pub returns : goal.returns

@@ -6,7 +6,8 @@ use Rattle.mari_proofs.proofs.dual.borders_value.Goals as goal
 
 pub loop-border-preserved : goal.loop-border-preserved
 loop-border-preserved c = record {
-  sum = sum_step (best_border c.args.potentials.now) c.args.borders.now c.loop-border.border-index _ _ _ _ c.loop-border-test.true c.loop-border.invariant.sum c.best_border-total.ensures.value (omega (arith, ints));
+  sum = sum_step (best_border c.args.potentials.now) c.args.borders.now c.loop-border.border-index _ _ _ _ c.loop-border-test.true c.loop-border.invariant.sum c.best_border-total.ensures.value
+      (omega (arith, ints));
   low = omega (arith, ints);
   high = omega (arith, ints);
 }

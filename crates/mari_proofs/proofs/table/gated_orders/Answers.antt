@@ -17,11 +17,13 @@ loop-order-preserved c = elim c.if-is_some.branch [
       let read = ap (λ (os : List Order). is_some (get_or os c.loop-order.order-index no_order).gate) c.as_slice-order-items.ensures in
       let is : is_some (get_or c.args.market.now.orders c.loop-order.order-index no_order).gate ≡ true = sym read ∙ sym c.is_some.ensures ∙ w.if-is_some.true in
       let new : c.if-is_some.gated.items ≡ c.loop-order.gated.items ++ get_or c.args.market.now.orders c.loop-order.order-index no_order ∷ [] =
-      ap (λ (v : Vec Order Global). v.items) w.gated-is ∙ w.in_ok-push.ensures.items ∙ ap (λ (os : List Order). c.loop-order.gated.items ++ get_or os c.loop-order.order-index no_order ∷ []) c.as_slice-order-items.ensures in
+      ap (λ (v : Vec Order Global). v.items) w.gated-is
+      ∙ w.in_ok-push.ensures.items ∙ ap (λ (os : List Order). c.loop-order.gated.items ++ get_or os c.loop-order.order-index no_order ∷ []) c.as_slice-order-items.ensures in
       record {
         few = omega (arith, c.loop-order.invariant.few, ap length new, length-append c.loop-order.gated.items (get_or c.args.market.now.orders c.loop-order.order-index no_order ∷ []));
         orders = subst (All (IsValidOrder c.args.market.now.zones (length c.args.market.now.gates))) (sym new)
-            (All-push (IsValidOrder c.args.market.now.zones (length c.args.market.now.gates)) c.loop-order.gated.items _ c.loop-order.invariant.orders (c.requires.market.orders c.loop-order.order-index no_order there));
+            (All-push (IsValidOrder c.args.market.now.zones (length c.args.market.now.gates)) c.loop-order.gated.items _ c.loop-order.invariant.orders
+            (c.requires.market.orders c.loop-order.order-index no_order there));
         once = gated_take c.args.market.now.orders c.loop-order.order-index no_order c.loop-order.gated.items c.if-is_some.gated.items there is new c.loop-order.invariant.once;
       }
   | else-is_some w ↦

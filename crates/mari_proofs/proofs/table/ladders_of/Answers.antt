@@ -15,7 +15,8 @@ rung_after-rung-requires-clause-ladder c =
     let zone = (get_or c.args.offers.now c.loop-offer.offer-index no_offer).zone in
     let there : zone < c.args.zones = (c.requires.offers at no_offer c.loop-offer-test.true).zone in
     subst (All (IsSmallRung MOST_ORDERS)) (sym (c.as_slice.ensures.value ∙ ap (λ (v : Vec Rung Global). v.items) c.index.ensures))
-    (ladder_small zone at c.args.offers.now (get_or c.loop-offer.ladders.items zone c.index.result.now).items (omega (arith, c.loop-offer-test.true)) c.requires.few (c.loop-offer.invariant.ladders zone c.index.result.now there))
+    (ladder_small zone at c.args.offers.now (get_or c.loop-offer.ladders.items zone c.index.result.now).items (omega (arith, c.loop-offer-test.true)) c.requires.few
+    (c.loop-offer.invariant.ladders zone c.index.result.now there))
 
 pub loop-offer-preserved : goal.loop-offer-preserved
 loop-offer-preserved c =
@@ -34,7 +35,8 @@ loop-offer-preserved c =
             let new : (get_or c.add_to.new.ladders.items zone d).items ≡ rungs ++ rung_after (last_rung rungs) offer ∷ [] =
             c.in_ok-add_to.ensures.here d c.index.result.now ∙ ap (λ (r : Rung). rungs ++ r ∷ []) rung in
             subst (λ (k : ℕ). IsLadderOf k (take (at + 1) offers) (get_or c.add_to.new.ladders.items k d).items) (sym e)
-            (ladder_take_at offers at no_offer rungs (get_or c.add_to.new.ladders.items zone d).items c.args.zones c.requires.rising c.loop-offer-test.true c.requires.offers new (c.loop-offer.invariant.ladders zone c.index.result.now there))
+            (ladder_take_at offers at no_offer rungs (get_or c.add_to.new.ladders.items zone d).items c.args.zones c.requires.rising c.loop-offer-test.true c.requires.offers new
+            (c.loop-offer.invariant.ladders zone c.index.result.now there))
         | inr n ↦
             subst (λ (v : Vec Rung Global). IsLadderOf z (take (at + 1) offers) v.items) (sym (c.add_to.ensures.others z d n))
             (ladder_skip_at z offers at no_offer (get_or c.loop-offer.ladders.items z d).items c.loop-offer-test.true (λ e. n (sym e)) (c.loop-offer.invariant.ladders z d l))
@@ -43,4 +45,5 @@ loop-offer-preserved c =
 
 pub returns-clause-ladders : goal.returns-clause-ladders
 returns-clause-ladders c = λ z d l.
-    subst (λ (xs : List Offer). IsLadderOf z xs (get_or c.loop-offer.ladders.items z d).items) (take_all c.loop-offer.offer-index c.args.offers.now c.loop-offer-test.false) (c.loop-offer.invariant.ladders z d l)
+    subst (λ (xs : List Offer). IsLadderOf z xs (get_or c.loop-offer.ladders.items z d).items) (take_all c.loop-offer.offer-index c.args.offers.now c.loop-offer-test.false)
+    (c.loop-offer.invariant.ladders z d l)

@@ -7,10 +7,12 @@ use Rattle.mari_proofs.proofs.table.rungs_below.Goals as goal
 
 pub returns-clause-below : goal.returns-clause-below
 returns-clause-below c =
-    let point = IsPartitionPoint-from_clause (λ (r : Rung). lt_z r.price c.args.level) _ _ c.partition_point.ensures.partitioned (parts_below (λ (r : Rung). r.price) c.args.ladder.now c.args.level c.requires) (λ a r q k. search rules) in
+    let point = IsPartitionPoint-from_clause (λ (r : Rung). lt_z r.price c.args.level) _ _ c.partition_point.ensures.partitioned
+    (parts_below (λ (r : Rung). r.price) c.args.ladder.now c.args.level c.requires) (λ a r q k. search rules) in
     λ j d l. less ((get_or c.args.ladder.now j d).price) c.args.level (point.0 j d (omega arith) l)
 
 pub returns-clause-rest : goal.returns-clause-rest
 returns-clause-rest c =
-    let point = IsPartitionPoint-from_clause (λ (r : Rung). lt_z r.price c.args.level) _ _ c.partition_point.ensures.partitioned (parts_below (λ (r : Rung). r.price) c.args.ladder.now c.args.level c.requires) (λ a r q k. search rules) in
+    let point = IsPartitionPoint-from_clause (λ (r : Rung). lt_z r.price c.args.level) _ _ c.partition_point.ensures.partitioned
+    (parts_below (λ (r : Rung). r.price) c.args.ladder.now c.args.level c.requires) (λ a r q k. search rules) in
     λ j d l m. not_less ((get_or c.args.ladder.now j d).price) c.args.level (point.1 j d l m)

@@ -17,8 +17,10 @@ ladders_of-requires-clause-offers c =
 pub returns : goal.returns
 returns c =
     let few = c.in_ok-offers.ensures.few in
-    let offers = subst (All (IsOffer c.args.market.now.zones)) (sym c.as_slice.ensures.value) (All-permutation (IsOffer c.args.market.now.zones) _ _ c.sort_offers.ensures.same c.in_ok-offers.ensures.offers) in
-    let once = subst (AreOffersOf c.args.side c.args.market.now.orders) (sym c.as_slice.ensures.value) (offers_moved c.args.side c.args.market.now.orders _ _ c.sort_offers.ensures.same c.in_ok-offers.ensures.once) in
+    let offers =
+    subst (All (IsOffer c.args.market.now.zones)) (sym c.as_slice.ensures.value) (All-permutation (IsOffer c.args.market.now.zones) _ _ c.sort_offers.ensures.same c.in_ok-offers.ensures.offers) in
+    let once = subst (AreOffersOf c.args.side c.args.market.now.orders) (sym c.as_slice.ensures.value)
+    (offers_moved c.args.side c.args.market.now.orders _ _ c.sort_offers.ensures.same c.in_ok-offers.ensures.once) in
     if_ok_both c.ladders_of.result _ _ _ c.ladders_of.ensures.long c.ladders_of.ensures.ladders
     (λ v long each. side_is c.args.market.now c.args.side c.as_slice.result.now v.items long
     (omega (arith, few, ap (λ (xs : List Offer). length xs) c.as_slice.ensures.value, length_permutation _ _ c.sort_offers.ensures.same)) offers once each)

@@ -21,7 +21,8 @@ loop-zone-preserved c =
     let new : to_z w64 (of_z w64 (to_z w64 c.loop-zone.total-bits +ℤ to_z w64 (of_z w64 c.ladder_gain-total.result))) ≡ to_z w64 c.loop-zone.total-bits +ℤ c.ladder_gain-total.result =
     omega (arith, ints, few, c.loop-zone.invariant.low, c.loop-zone.invariant.high, c.ladder_gain-total.ensures.low, c.ladder_gain-total.ensures.high) in
     record {
-      sum = below_step (λ (z : ℕ). gain_from (level_of c.args.side (price_at c.args.potentials.now z)) (pos 0) (ladder_at c.args.ladders.now z)) c.loop-zone.zone (to_z w64 c.loop-zone.total-bits) c.ladder_gain-total.result _
+      sum = below_step (λ (z : ℕ). gain_from (level_of c.args.side (price_at c.args.potentials.now z)) (pos 0) (ladder_at c.args.ladders.now z)) c.loop-zone.zone
+          (to_z w64 c.loop-zone.total-bits) c.ladder_gain-total.result _
           c.loop-zone.invariant.sum
           (c.ladder_gain-total.ensures.value
           ∙ ap (λ (x : ℤ). gain_from x (pos 0) c.as_slice-ladder.result.now) (to_z-of_z level_fits ∙ c.level_at.ensures.value)

@@ -15,12 +15,15 @@ use Rattle.mari_proofs.proofs.table.total_value.Goals as goal
 
 pub returns : goal.returns
 returns c =
-    value_by (state_in c.args.states.now) c.args.market.now c.args.table.now c.args.potentials.now c.side_value-injecting.result c.side_value-withdrawing.result c.orders_value-gated.result c.borders_value.result _
+    value_by (state_in c.args.states.now) c.args.market.now c.args.table.now c.args.potentials.now c.side_value-injecting.result c.side_value-withdrawing.result
+    c.orders_value-gated.result c.borders_value.result _
     c.requires.table
     (c.side_value-injecting.ensures.value
-    ∙ ap (λ (ladders : List (Vec Rung Global)). sum_below (λ (z : ℕ). gain_from (level_of Inject (price_at c.args.potentials.now z)) (pos 0) (ladder_at ladders z)) c.args.market.now.zones) c.as_slice.ensures.value)
+    ∙ ap (λ (ladders : List (Vec Rung Global)). sum_below (λ (z : ℕ). gain_from (level_of Inject (price_at c.args.potentials.now z)) (pos 0) (ladder_at ladders z)) c.args.market.now.zones)
+    c.as_slice.ensures.value)
     (c.side_value-withdrawing.ensures.value
-    ∙ ap (λ (ladders : List (Vec Rung Global)). sum_below (λ (z : ℕ). gain_from (level_of Withdraw (price_at c.args.potentials.now z)) (pos 0) (ladder_at ladders z)) c.args.market.now.zones) c.as_slice-2.ensures.value)
+    ∙ ap (λ (ladders : List (Vec Rung Global)). sum_below (λ (z : ℕ). gain_from (level_of Withdraw (price_at c.args.potentials.now z)) (pos 0) (ladder_at ladders z)) c.args.market.now.zones)
+    c.as_slice-2.ensures.value)
     (c.orders_value-gated.ensures.value ∙ ap (λ (os : List Order). int_sum (best_order (span_in (state_in c.args.states.now)) c.args.potentials.now) os) c.as_slice-3.ensures.value)
     (c.borders_value.ensures.value ∙ ap (λ (bs : List Border). int_sum (best_border c.args.potentials.now) bs) c.as_slice-4.ensures)
     (omega (

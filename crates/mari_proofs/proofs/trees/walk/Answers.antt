@@ -14,7 +14,8 @@ loop-place-preserved c =
     let step = c.in-On.ensures in
     let fits = subst (λ (i : TreeItem). FitsItem m holds c.in-Some.prefix i c.in-On.following) c.index-tree-place.is step.0 in
     record {
-      before = walk_more m holds c.args.tree.now c.loop-place.place c.index-tree-place.result c.in-Some.prefix c.loop-place.next c.in-On.following c.loop-place-test.true c.in-Some.is c.loop-place.invariant.before fits;
+      before = walk_more m holds c.args.tree.now c.loop-place.place c.index-tree-place.result c.in-Some.prefix c.loop-place.next c.in-On.following c.loop-place-test.true c.in-Some.is
+          c.loop-place.invariant.before fits;
       feasible = step.1;
     }
 

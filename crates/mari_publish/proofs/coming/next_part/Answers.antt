@@ -15,7 +15,8 @@ handle_line-requires-clause-counts c =
     (c.requires.reader.0, c.requires.reader.1, c.take_bids.ensures.stands _ _ (c.lines.invariant.stands c.requires.reader.0 c.requires.reader.1 c.requires.reader.2))
 
 pub handle_line-requires-clause-room : goal.handle_line-requires-clause-room
-handle_line-requires-clause-room c = room_of (come_of c.take_bids.new.coming) (c.requires.reader.0, c.requires.reader.1, c.take_bids.ensures.stands _ _ (c.lines.invariant.stands c.requires.reader.0 c.requires.reader.1 c.requires.reader.2))
+handle_line-requires-clause-room c = room_of (come_of c.take_bids.new.coming)
+    (c.requires.reader.0, c.requires.reader.1, c.take_bids.ensures.stands _ _ (c.lines.invariant.stands c.requires.reader.0 c.requires.reader.1 c.requires.reader.2))
 
 pub handle_line-requires-clause-lines : goal.handle_line-requires-clause-lines
 handle_line-requires-clause-lines c =
@@ -25,7 +26,8 @@ handle_line-requires-clause-lines c =
 pub lines-preserved : goal.lines-preserved
 lines-preserved c = record {
   handled = c.handle_line.ensures.handled;
-  stands = λ text parts s. taken (come_of c.take_bids.new.coming) (come_of c.handle_line.new.coming) None (line_step _ _ c.in-Ok-Line-None.field-0 None (c.in-Ok-Line-None.field-0-is ∙ ap step.Line c.in-Ok-Line-None.field-0-0-is) c.in-Ok-Line-None.ensures.handles) text parts (c.take_bids.ensures.stands text parts (c.lines.invariant.stands text parts s));
+  stands = λ text parts s. taken (come_of c.take_bids.new.coming) (come_of c.handle_line.new.coming) None (line_step _ _ c.in-Ok-Line-None.field-0 None (c.in-Ok-Line-None.field-0-is
+      ∙ ap step.Line c.in-Ok-Line-None.field-0-0-is) c.in-Ok-Line-None.ensures.handles) text parts (c.take_bids.ensures.stands text parts (c.lines.invariant.stands text parts s));
 }
 
 pub returns-in-Ok-Line-Some-clause-next : goal.returns-in-Ok-Line-Some-clause-next
@@ -47,8 +49,10 @@ returns-in-Ok-Nothing-clause-next c = λ text parts s.
 
 pub returns-in-Err-clause-next : goal.returns-in-Err-clause-next
 returns-in-Err-clause-next c = λ text parts s.
-    (fault_next (come_of c.take_bids.new.coming) (come_of c.handle_line.new.coming) c.in-Err.fault c.in-Err.ensures.handles text parts (c.take_bids.ensures.stands text parts (c.lines.invariant.stands text parts s))).0
+    (fault_next (come_of c.take_bids.new.coming) (come_of c.handle_line.new.coming) c.in-Err.fault c.in-Err.ensures.handles text parts
+    (c.take_bids.ensures.stands text parts (c.lines.invariant.stands text parts s))).0
 
 pub returns-in-Err-clause-stands : goal.returns-in-Err-clause-stands
 returns-in-Err-clause-stands c = λ text parts s.
-    (fault_next (come_of c.take_bids.new.coming) (come_of c.handle_line.new.coming) c.in-Err.fault c.in-Err.ensures.handles text parts (c.take_bids.ensures.stands text parts (c.lines.invariant.stands text parts s))).1
+    (fault_next (come_of c.take_bids.new.coming) (come_of c.handle_line.new.coming) c.in-Err.fault c.in-Err.ensures.handles text parts
+    (c.take_bids.ensures.stands text parts (c.lines.invariant.stands text parts s))).1

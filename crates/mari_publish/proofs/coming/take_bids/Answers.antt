@@ -17,7 +17,8 @@ returns-in-Listing-clause-stands c = λ text parts s.
     let after = bids.result.0.now in
     let unread = from_place bytes c.deref.result.now coming.handled _ c.deref.ensures.value refl in
     let taken = subst (λ (bs : List ℕ). BidsTaken block.bids new.bids bs after) (sym unread) bids.ensures.taken in
-    let come = bids_stand coming.kept coming.lines coming.ahead (drop coming.handled bytes) after block new bids.result.1 c.in-Whole.is c.in-Listing.is taken bids.ensures.place bids.ensures.same bids.ensures.number text parts s in
+    let come = bids_stand coming.kept coming.lines coming.ahead
+    (drop coming.handled bytes) after block new bids.result.1 c.in-Whole.is c.in-Listing.is taken bids.ensures.place bids.ensures.same bids.ensures.number text parts s in
     let long : c.len.result ≡ length bytes = omega (arith, c.len.ensures, coming.bytes.ok.0) in
     let handled : coming.handled ≤ length bytes = omega (arith, c.requires.handled, coming.bytes.ok.0) in
     let left : drop (c.len.result - length after) bytes ≡ after = ap (λ n. drop (n - length after) bytes) long ∙ rest_left block.bids new.bids bytes after coming.handled handled taken in

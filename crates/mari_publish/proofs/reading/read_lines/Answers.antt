@@ -22,7 +22,8 @@ pub overflow_add-number : goal.overflow_add-number
 overflow_add-number c = let small = number_fits c.args.bytes.now c.loop-here.rest.now c.loop-here.number (seen c.loop-here.gathered) c.loop-here.kept c.loop-here.invariant in omega (arith, small)
 
 pub returns-in-Err : goal.returns-in-Err
-returns-in-Err c = rw c.at.ensures (refused c.args.bytes.now c.loop-here.rest.now c.in-Some.here.now c.in-Some.after.now c.loop-here.number (seen c.loop-here.gathered) c.loop-here.kept c.take_line.new.kept
+returns-in-Err c =
+    rw c.at.ensures (refused c.args.bytes.now c.loop-here.rest.now c.in-Some.here.now c.in-Some.after.now c.loop-here.number (seen c.loop-here.gathered) c.loop-here.kept c.take_line.new.kept
     c.loop-here.invariant c.in-Some.ensures.0 c.in-Some.ensures.1 c.in-Err.fault c.in-Err.ensures)
 
 pub loop-here-smaller : goal.loop-here-smaller

@@ -37,7 +37,8 @@ returns-in-Ok-None-clause-report g c = λ first lent text parts taken.
 pub returns-in-Err-clause-report : goal.returns-in-Err-clause-report
 returns-in-Err-clause-report g c = λ first lent text parts taken.
     let s = c.parts.invariant.taken first lent text parts taken in
-    rw c.stop_of_reader.ensures (fault-reported _ text s.0 _ s.1 (g.P.PartsSoFar.Breaks first lent c.parts.so_far c.parts.with) c.next.new.self c.in-Err.fault (c.in-Err.ensures.next text s.0 s.1.stands))
+    rw c.stop_of_reader.ensures
+    (fault-reported _ text s.0 _ s.1 (g.P.PartsSoFar.Breaks first lent c.parts.so_far c.parts.with) c.next.new.self c.in-Err.fault (c.in-Err.ensures.next text s.0 s.1.stands))
 
 pub returns-in-Err-take-clause-report : goal.returns-in-Err-take-clause-report
 returns-in-Err-take-clause-report g c = λ first lent text parts taken.

@@ -25,4 +25,5 @@ pub returns-in-Err-clause-late : goal.returns-in-Err-clause-late
 returns-in-Err-clause-late g c = unread-late c.args.books.now c.args.first c.args.last c.args.budget c.args.page.now c.in-Err.fault c.in-Err.ensures.read
 
 pub returns-in-Ok-clause-late : goal.returns-in-Ok-clause-late
-returns-in-Ok-clause-late g c = market-late c.args.books.now c.args.first c.args.last c.args.budget c.args.page.now c.in-Ok.blocks c.in-Ok.ensures.read c.clear_blocks.result c.clear_blocks.ensures.text
+returns-in-Ok-clause-late g c =
+    market-late c.args.books.now c.args.first c.args.last c.args.budget c.args.page.now c.in-Ok.blocks c.in-Ok.ensures.read c.clear_blocks.result c.clear_blocks.ensures.text

@@ -71,7 +71,8 @@ returns-clause-orders c =
     let numbers = c.loop-number.invariant.all_there ∙ ap (filter avail) (ap (λ k. take k c.bids_of-all.result.now) end ∙ take-length c.bids_of-all.result.now ∙ all) in
     let gated = c.loop-number.invariant.all_gated ∙ ap (filter (has_gate books.links)) numbers in
     subst
-    (λ (gs : List ℕ). c.loop-number.choice.orders.items ≡ map (λ i. bid_order (bid_numbered books.bids.bids i) (gate_of gs i) ((taken_in books kept run.quarter).mw i)) c.loop-number.choice.numbers.items)
+    (λ (gs : List ℕ). c.loop-number.choice.orders.items
+    ≡ map (λ i. bid_order (bid_numbered books.bids.bids i) (gate_of gs i) ((taken_in books kept run.quarter).mw i)) c.loop-number.choice.numbers.items)
     (sym gated) c.loop-number.invariant.all_ordered
 
 pub loop-number-preserved : goal.loop-number-preserved
@@ -98,15 +99,18 @@ loop-number-preserved c =
     elim c.if-is_next.branch [
       | then-is_next+in_ok-add w ↦ (
           let is_open : avail i ≡ true = sym found ∙ w.if-is_next.true in
-          let order : bid_order (bid_numbered books.bids.bids i) (cond (has_gate books.links i) (Some (length c.loop-number.choice.gated.items)) None) c.mw_at-taken.result ≡ order_chosen books kept run i
+          let order : bid_order (bid_numbered books.bids.bids i) (cond (has_gate books.links i) (Some (length c.loop-number.choice.gated.items)) None) c.mw_at-taken.result
+          ≡ order_chosen books kept run i
           = rw c.mw_at-taken.ensures (next-order books kept run c.requires.accepted k i c.loop-number.choice.gated.items l2 here2 own.own is_open gated) in
           let numbers_are : w.add.new.self.numbers.items ≡ c.loop-number.choice.numbers.items ++ i ∷ [] = search rules in
           let gated_are : w.add.new.self.gated.items ≡ cond (has_gate books.links i) (c.loop-number.choice.gated.items ++ i ∷ []) c.loop-number.choice.gated.items = search rules in
           let orders_are : w.add.new.self.orders.items ≡ c.loop-number.choice.orders.items
           ++ bid_order (bid_numbered books.bids.bids i) (cond (has_gate books.links i) (Some (length c.loop-number.choice.gated.items)) None) c.mw_at-taken.result ∷ [] = search rules in
           rw (w.choice-is, numbers_are, gated_are, orders_are, order)
-          (chosen-next avail (has_gate books.links) (order_chosen books kept run) all k i c.loop-number.choice.numbers.items c.loop-number.choice.gated.items c.loop-number.choice.orders.items l here inv is_open))
+          (chosen-next avail (has_gate books.links)
+          (order_chosen books kept run) all k i c.loop-number.choice.numbers.items c.loop-number.choice.gated.items c.loop-number.choice.orders.items l here inv is_open))
       | else-is_next w ↦ rw w.choice-is
-          (chosen-not avail (has_gate books.links) (order_chosen books kept run) all k i c.loop-number.choice.numbers.items c.loop-number.choice.gated.items c.loop-number.choice.orders.items l here inv
+          (chosen-not avail (has_gate books.links)
+          (order_chosen books kept run) all k i c.loop-number.choice.numbers.items c.loop-number.choice.gated.items c.loop-number.choice.orders.items l here inv
           (sym found ∙ w.if-is_next.false))
     ]

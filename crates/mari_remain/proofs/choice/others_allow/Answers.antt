@@ -14,4 +14,5 @@ returns-then-alone c =
     let there : i < length links = omega (arith, all, c.requires.there) in
     let at : slice_get links i ≡ Some own = slice_get-get_or links i own there ∙ ap Some (sym (rw c.as_slice.ensures at c.index-as_slice-number.is)) in
     let alone = sym c.is_alone-alone.ensures ∙ c.if-alone.true in
-    rw (alone-free links i own at alone (taken_in c.args.books.now c.args.remaining.now c.args.quarter), alone-keeps links i own at alone c.args.remaining.now, alone-parent links i own at alone _) refl
+    rw (alone-free links i own at alone (taken_in c.args.books.now c.args.remaining.now c.args.quarter), alone-keeps links i own at alone c.args.remaining.now, alone-parent links i own at alone _)
+    refl

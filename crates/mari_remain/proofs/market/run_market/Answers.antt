@@ -14,7 +14,8 @@ gates_of-requires c =
     let run = c.run_entry-entry.result in
     let avail : ℕ → Bool = is_available c.args.books.now (taken_in c.args.books.now c.args.remaining.now run.quarter) run in
     rw c.deref.ensures.value
-    (few-chosen c.args.books.now avail run.quarter c.in_ok-choice.choice.numbers.items c.in_ok-choice.choice.gated.items c.requires.accepted c.in_ok-choice.ensures.numbers c.in_ok-choice.ensures.gated)
+    (few-chosen c.args.books.now avail run.quarter c.in_ok-choice.choice.numbers.items c.in_ok-choice.choice.gated.items c.requires.accepted c.in_ok-choice.ensures.numbers
+    c.in_ok-choice.ensures.gated)
 
 pub overflow_cast-result : goal.overflow_cast-result
 overflow_cast-result c =

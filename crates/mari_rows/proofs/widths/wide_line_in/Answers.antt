@@ -8,7 +8,8 @@ use Rattle.mari_rows.proofs.widths.wide_line_in.Goals as goal
 pub returns-then-commas-most : goal.returns-then-commas-most
 returns-then-commas-most c =
     let l = c.loop-byte in
-    let more = first_from-more c.args.most c.args.text.now l.byte-index (state_of l.place) (state_of c.after-next.result.0) ended.Record l.line l.commas c.loop-byte-test.true c.after-next.ensures.place (sym c.in-Record.is ∙ c.after-next.ensures.ended) in
+    let more = first_from-more c.args.most c.args.text.now l.byte-index (state_of l.place)
+    (state_of c.after-next.result.0) ended.Record l.line l.commas c.loop-byte-test.true c.after-next.ensures.place (sym c.in-Record.is ∙ c.after-next.ensures.ended) in
     sym (at_end-wide c.args.most l.line l.commas _ c.if-commas-most.true) ∙ more ∙ l.invariant.same ∙ first-records c.args.most c.args.text.now
 
 pub loop-byte-preserved : goal.loop-byte-preserved

@@ -7,6 +7,7 @@ loop-i-init c = record { text = first bid_line c.args.number c.args.out.now.item
 
 pub loop-i-preserved : goal.loop-i-preserved
 loop-i-preserved c = record {
-  text = more bid_line c.loop-i.i c.args.number c.loop-i.state c.args.out.now.items c.loop-i.out.items c.put_bid_line.new.out.items c.loop-i.invariant.text c.loop-i.invariant.state c.in_ok-state.ensures.text;
+  text = more bid_line c.loop-i.i c.args.number c.loop-i.state c.args.out.now.items c.loop-i.out.items c.put_bid_line.new.out.items c.loop-i.invariant.text c.loop-i.invariant.state
+      c.in_ok-state.ensures.text;
   state = more_state bid_line c.loop-i.i c.args.number c.loop-i.state c.in_ok-state.state c.loop-i.invariant.state c.in_ok-state.ensures.state;
 }

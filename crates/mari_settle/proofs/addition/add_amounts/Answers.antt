@@ -9,7 +9,8 @@ sum_of-requires c = unchanged_at AddUp c.loop-i.amounts c.args.amounts.now c.arg
 
 pub loop-i-preserved : goal.loop-i-preserved
 loop-i-preserved c = record {
-  written = changed_more together AddUp c.loop-i.amounts c.args.amounts.now c.args.others.now c.loop-i.i _ _ (omega arith) c.loop-i.auto.amounts c.requires c.loop-i.invariant.rest c.loop-i.invariant.written c.sum_of.ensures;
+  written = changed_more together AddUp c.loop-i.amounts c.args.amounts.now c.args.others.now c.loop-i.i _ _
+      (omega arith) c.loop-i.auto.amounts c.requires c.loop-i.invariant.rest c.loop-i.invariant.written c.sum_of.ensures;
   rest = same_after c.loop-i.amounts c.args.amounts.now c.loop-i.i _ c.loop-i.invariant.rest;
 }
 

@@ -9,7 +9,8 @@ sum_of_lines-requires c = unchanged_at LinesAddUp c.loop-i.lines c.args.lines.no
 
 pub loop-i-preserved : goal.loop-i-preserved
 loop-i-preserved c = record {
-  written = changed_more lines_together LinesAddUp c.loop-i.lines c.args.lines.now c.args.others.now c.loop-i.i _ _ (omega arith) c.loop-i.auto.lines c.requires c.loop-i.invariant.rest c.loop-i.invariant.written c.sum_of_lines.ensures;
+  written = changed_more lines_together LinesAddUp c.loop-i.lines c.args.lines.now c.args.others.now c.loop-i.i _ _
+      (omega arith) c.loop-i.auto.lines c.requires c.loop-i.invariant.rest c.loop-i.invariant.written c.sum_of_lines.ensures;
   rest = same_after c.loop-i.lines c.args.lines.now c.loop-i.i _ c.loop-i.invariant.rest;
 }
 

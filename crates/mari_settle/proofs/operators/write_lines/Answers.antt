@@ -16,5 +16,6 @@ loop-operator-preserved c =
       written =
           rw (to_z-of_z payment_fits, to_z-of_z rent_fits, c.operator_payment.ensures.value, c.operator_rent.ensures.value)
           (written_more line c.loop-operator.lines c.loop-operator.operator _ (omega arith) c.loop-operator.invariant.written refl);
-      small = small_more IsSmallLine c.loop-operator.lines c.loop-operator.operator _ (omega arith) c.loop-operator.invariant.small (record { payment = omega (arith, ints); rent = omega (arith, ints) });
+      small =
+          small_more IsSmallLine c.loop-operator.lines c.loop-operator.operator _ (omega arith) c.loop-operator.invariant.small (record { payment = omega (arith, ints); rent = omega (arith, ints) });
     }

@@ -22,7 +22,8 @@ loop-i-preserved c =
           (c.loop-i.invariant.paid k)
           (amount_here c.args.prices.now c.args.scheduled.now c.args.bids.now.bids number (get_or c.args.mw.now c.loop-i.i 0) k c.earned.result there (rw bs at c.earned.ensures.value))
           (rw (to_z-of_z fits, bs) at (c.pay.ensures.paid k));
-      small = λ k. let paid = rw (to_z-of_z fits, bs) at (c.pay.ensures.paid k) in omega (arith, ints, paid, c.loop-i.invariant.small k, small_if (bid.provider == k) c.earned.result 1000000000000 c.earned.ensures.small);
+      small = λ k. let paid =
+          rw (to_z-of_z fits, bs) at (c.pay.ensures.paid k) in omega (arith, ints, paid, c.loop-i.invariant.small k, small_if (bid.provider == k) c.earned.result 1000000000000 c.earned.ensures.small);
     }
 
 pub returns-clause-paid : goal.returns-clause-paid

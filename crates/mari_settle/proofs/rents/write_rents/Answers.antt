@@ -27,6 +27,7 @@ loop-i-preserved c =
     record {
       written =
           rw (to_z-of_z rent_fits, value)
-          (written_along_more rent c.args.market.now.borders c.args.activation.now.flow c.loop-i.rents c.loop-i.i no_border (pos 0) _ here (omega (arith, c.requires.flows.one_each)) (omega arith) c.loop-i.invariant.written refl);
+          (written_along_more rent c.args.market.now.borders c.args.activation.now.flow c.loop-i.rents c.loop-i.i no_border (pos 0) _ here (omega (arith, c.requires.flows.one_each))
+          (omega arith) c.loop-i.invariant.written refl);
       small = small_more IsSmall c.loop-i.rents c.loop-i.i _ (omega arith) c.loop-i.invariant.small (omega (arith, ints));
     }

@@ -51,7 +51,8 @@ returns-clause-rents_at_least_0 c =
     let m = c.args.market.now in
     let a = c.args.activation.now in
     let ps = c.args.prices.now.cents in
-    let rents : with_items c.args.ledger.now.rents c.write_rents.new.rents ≡ rents_of m a ps = written_over _ _ _ (c.write_rents.auto.rents ∙ ap length c.as_mut_slice.ensures.value) (rw c.as_slice-prices.ensures at c.write_rents.ensures.value) in
+    let rents : with_items c.args.ledger.now.rents c.write_rents.new.rents ≡ rents_of m a ps =
+    written_over _ _ _ (c.write_rents.auto.rents ∙ ap length c.as_mut_slice.ensures.value) (rw c.as_slice-prices.ensures at c.write_rents.ensures.value) in
     subst (All (λ (rent : Quarters). pos 0 ≤ℤ rent.0)) (sym rents) (no_rent_below_0 m a ps c.requires.consistent.borders)
 
 pub returns-clause-nets_sum_to_0 : goal.returns-clause-nets_sum_to_0
@@ -59,7 +60,8 @@ returns-clause-nets_sum_to_0 c =
     let m = c.args.market.now in
     let a = c.args.activation.now in
     let ps = c.args.prices.now.cents in
-    let lines : with_items c.args.ledger.now.operators c.write_lines.new.lines ≡ operator_lines c.args.zones.now m a ps = written_over _ _ _ (c.write_lines.auto.lines ∙ ap length c.as_mut_slice-2.ensures.value) (rw c.as_slice-prices.ensures at c.write_lines.ensures.value) in
+    let lines : with_items c.args.ledger.now.operators c.write_lines.new.lines ≡ operator_lines c.args.zones.now m a ps =
+    written_over _ _ _ (c.write_lines.auto.lines ∙ ap length c.as_mut_slice-2.ensures.value) (rw c.as_slice-prices.ensures at c.write_lines.ensures.value) in
     subst (λ (xs : List OperatorLine). int_sum net_of xs ≡ pos 0) (sym lines) (nets_sum_to_0 c.args.zones.now m a ps c.requires.operators_there c.requires.zones c.requires.market)
 
 pub returns-clause-operators_small : goal.returns-clause-operators_small
@@ -67,13 +69,17 @@ returns-clause-operators_small c =
     let m = c.args.market.now in
     let a = c.args.activation.now in
     let ps = c.args.prices.now.cents in
-    let lines : with_items c.args.ledger.now.operators c.write_lines.new.lines ≡ operator_lines c.args.zones.now m a ps = written_over _ _ _ (c.write_lines.auto.lines ∙ ap length c.as_mut_slice-2.ensures.value) (rw c.as_slice-prices.ensures at c.write_lines.ensures.value) in
+    let lines : with_items c.args.ledger.now.operators c.write_lines.new.lines ≡ operator_lines c.args.zones.now m a ps =
+    written_over _ _ _ (c.write_lines.auto.lines ∙ ap length c.as_mut_slice-2.ensures.value) (rw c.as_slice-prices.ensures at c.write_lines.ensures.value) in
     subst (All (LineIsWithin most_of_operator)) (sym lines) (lines_small c.args.zones.now m a ps c.requires.market c.requires.consistent.prices c.requires.feasible.borders)
 
 pub returns-clause-providers_small : goal.returns-clause-providers_small
 returns-clause-providers_small c = λ fewer.
     let m = c.args.market.now in
-    let amounts : with_items c.args.ledger.now.providers c.write_amounts.new.amounts ≡ provider_amounts c.args.bids.now c.args.numbers.now c.args.activation.now c.as_slice-prices.result.now c.scheduled_or-scheduled.result.now =
+    let amounts : with_items c.args.ledger.now.providers c.write_amounts.new.amounts
+    ≡ provider_amounts c.args.bids.now c.args.numbers.now c.args.activation.now c.as_slice-prices.result.now c.scheduled_or-scheduled.result.now =
     written_over _ _ _ (c.write_amounts.auto.amounts ∙ ap length c.as_mut_slice-3.ensures.value) c.write_amounts.ensures.value in
     subst (All (MoneyIsWithin most_of_provider)) (sym amounts) (amounts_small c.args.bids.now c.args.numbers.now c.args.activation.now c.as_slice-prices.result.now c.scheduled_or-scheduled.result.now
-    (rw c.as_slice-prices.ensures c.requires.consistent.prices.capped) (c.scheduled_or-scheduled.ensures.capped (rw c.as_slice-prices.ensures c.requires.consistent.prices.capped) (if_some _ _ c.args.also (λ s h. h.capped) c.requires.also)) (omega (arith, c.requires.market.few_orders, few_numbers c.args.bids.now.bids c.args.numbers.now m.orders c.requires.numbers)) fewer)
+    (rw c.as_slice-prices.ensures c.requires.consistent.prices.capped)
+    (c.scheduled_or-scheduled.ensures.capped (rw c.as_slice-prices.ensures c.requires.consistent.prices.capped) (if_some _ _ c.args.also (λ s h. h.capped) c.requires.also))
+    (omega (arith, c.requires.market.few_orders, few_numbers c.args.bids.now.bids c.args.numbers.now m.orders c.requires.numbers)) fewer)

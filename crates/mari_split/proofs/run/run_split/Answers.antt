@@ -22,7 +22,8 @@ returns-in_ok-done-in-Published-clause-fits g c =
     let law = rw c.deref.ensures.value at c.in-Published.ensures.law in
     let done = c.in_ok-done-in-Published.done in
     subst (λ (xs : List Island). RunFits (record { block = done.block; islands = xs; clearings = c.in-Published.clearings })) (sym c.of-in-Published.ensures)
-    (run_fits c.in_ok-made.made.market c.in_ok-made.ensures.of_books.valid c.args.budget islands c.in_ok-islands.ensures.islands c.in-Published.joined c.in-Published.clearings law done.block c.requires.budget.1 c.in_ok-done-in-Published.ensures.market_fits)
+    (run_fits c.in_ok-made.made.market c.in_ok-made.ensures.of_books.valid c.args.budget islands c.in_ok-islands.ensures.islands c.in-Published.joined c.in-Published.clearings law done.block
+    c.requires.budget.1 c.in_ok-done-in-Published.ensures.market_fits)
 
 pub returns-in_ok-done-in-Published-clause-done : goal.returns-in_ok-done-in-Published-clause-done
 returns-in_ok-done-in-Published-clause-done g c = λ blocks progress is.
@@ -34,7 +35,8 @@ returns-in_ok-done-in-Published-clause-done g c = λ blocks progress is.
     let clearings = c.in-Published.clearings in
     let law = rw c.deref.ensures.value at c.in-Published.ensures.law in
     let done = c.in_ok-done-in-Published.done in
-    let own = split books c.args.budget c.args.run made _ islands c.in_ok-islands.ensures.islands c.in-Published.joined clearings law c.in-Published.ensures.first c.of.result done.block c.in_ok-done-in-Published.ensures.reported in
+    let own = split books c.args.budget c.args.run made _ islands c.in_ok-islands.ensures.islands c.in-Published.joined clearings law c.in-Published.ensures.first c.of.result done.block
+    c.in_ok-done-in-Published.ensures.reported in
     record {
       block = subst (λ (xs : List Island). IsSplitRun books c.args.budget blocks (record { block = done.block; islands = xs; clearings = clearings })) (sym c.of-in-Published.ensures)
           (split_after books c.args.budget blocks made same c.args.run is _ also (record { block = done.block; islands = islands; clearings = clearings }) own);

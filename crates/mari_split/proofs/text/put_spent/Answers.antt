@@ -12,6 +12,8 @@ returns c =
     let island : List ℕ = 32 ∷ decimal c.args.island in
     let count : List ℕ = 32 ∷ decimal c.args.count in
     let word : c.put_field.new.out.items ≡ c.args.out.now.items ++ 32 ∷ codes "unpublished" = c.in_ok-put_field.ensures in
-    let first : c.put_number_field.new.out.items ≡ c.put_field.new.out.items ++ island = c.in_ok-put_number_field.ensures ∙ ap (λ (n : ℕ). c.put_field.new.out.items ++ 32 ∷ decimal n) c.from.ensures in
-    let second : c.put_number_field-2.new.out.items ≡ c.put_number_field.new.out.items ++ count = c.in_ok-put_number_field-2.ensures ∙ ap (λ (n : ℕ). c.put_number_field.new.out.items ++ 32 ∷ decimal n) c.from-2.ensures in
+    let first : c.put_number_field.new.out.items ≡ c.put_field.new.out.items ++ island =
+    c.in_ok-put_number_field.ensures ∙ ap (λ (n : ℕ). c.put_field.new.out.items ++ 32 ∷ decimal n) c.from.ensures in
+    let second : c.put_number_field-2.new.out.items ≡ c.put_number_field.new.out.items ++ count =
+    c.in_ok-put_number_field-2.ensures ∙ ap (λ (n : ℕ). c.put_number_field.new.out.items ++ 32 ∷ decimal n) c.from-2.ensures in
     second ∙ ap (λ (t : List ℕ). t ++ count) (first ∙ ap (λ (t : List ℕ). t ++ island) word) ∙ regroup c.args.out.now.items (32 ∷ codes "unpublished") island count

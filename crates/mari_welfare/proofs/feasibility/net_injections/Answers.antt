@@ -21,5 +21,6 @@ loop-i-preserved c =
     record {
       sum = λ z. sum_along_step (put_into z) c.args.orders.now c.args.mw.now c.loop-i.i _ 0 _ _ _ c.loop-i-test.true (omega arith) (c.loop-i.invariant.sum z)
           (same_if _ _ _ c.put_in.ensures.value) (rw (to_z-of_z fits) at (c.add_to.ensures z));
-      small = λ z. let added = rw (to_z-of_z fits) at (c.add_to.ensures z) in small_step ((get_or c.args.orders.now c.loop-i.i none).zone == z) (int_at c.loop-i.left z) c.put_in.result (int_at c.add_to.new.left z) (2 ^ 32) c.loop-i.i added (c.loop-i.invariant.small z) c.put_in.ensures.small;
+      small = λ z. let added = rw (to_z-of_z fits) at (c.add_to.ensures z) in small_step ((get_or c.args.orders.now c.loop-i.i none).zone == z) (int_at c.loop-i.left z) c.put_in.result
+          (int_at c.add_to.new.left z) (2 ^ 32) c.loop-i.i added (c.loop-i.invariant.small z) c.put_in.ensures.small;
     }

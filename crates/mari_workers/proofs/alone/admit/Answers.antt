@@ -41,5 +41,6 @@ loop-queue-preserved c =
 pub returns : goal.returns
 returns c =
     let past = node_past c.args.search.now.tree.nodes c.len.result c.prefix_of.result c.prefix_of.ensures.word (sym c.is_some.ensures ∙ c.loop-queue-test.false) in
-    let all : length c.loop-queue.queue.keys - length c.args.queue.now.keys ≡ length c.args.search.now.tree.nodes - length c.args.queue.now.keys = omega (arith, past, c.len.ensures.len, c.loop-queue.invariant.made) in
+    let all : length c.loop-queue.queue.keys - length c.args.queue.now.keys ≡ length c.args.search.now.tree.nodes - length c.args.queue.now.keys =
+    omega (arith, past, c.len.ensures.len, c.loop-queue.invariant.made) in
     subst (λ (n : ℕ). IsMore c.args.key n c.args.queue.now c.loop-queue.queue) all c.loop-queue.invariant.more

@@ -12,8 +12,10 @@ offered c = c.in_ok-offer_found.ensures.offered ∙ ap (λ (s : Machine). after_
 
 pub step-requires-2-clause-proper : goal.step-requires-2-clause-proper
 step-requires-2-clause-proper c =
-    (settle_allowed c.args.market.now c.args.search.now c.offer_found.new.search c.args.node (word_of c.args.prefix.now) c.in_ok-finding.finding c.requires.waits c.requires.word c.in_ok-finding.ensures.finding (offered c) c.in_ok-offer_found.ensures.facts).proper
+    (settle_allowed c.args.market.now c.args.search.now c.offer_found.new.search c.args.node
+    (word_of c.args.prefix.now) c.in_ok-finding.finding c.requires.waits c.requires.word c.in_ok-finding.ensures.finding (offered c) c.in_ok-offer_found.ensures.facts).proper
 
 pub step-requires-2-clause-accepted : goal.step-requires-2-clause-accepted
 step-requires-2-clause-accepted c =
-    (settle_allowed c.args.market.now c.args.search.now c.offer_found.new.search c.args.node (word_of c.args.prefix.now) c.in_ok-finding.finding c.requires.waits c.requires.word c.in_ok-finding.ensures.finding (offered c) c.in_ok-offer_found.ensures.facts).accepted
+    (settle_allowed c.args.market.now c.args.search.now c.offer_found.new.search c.args.node
+    (word_of c.args.prefix.now) c.in_ok-finding.finding c.requires.waits c.requires.word c.in_ok-finding.ensures.finding (offered c) c.in_ok-offer_found.ensures.facts).accepted

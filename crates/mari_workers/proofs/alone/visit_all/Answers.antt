@@ -5,7 +5,8 @@ use Rattle.mari_workers.proofs.alone.visit_all.Goals as goal
 
 pub unreachable-requires : goal.unreachable-requires
 unreachable-requires c =
-    has_word c.args.market.now c.loop-node.search c.loop-node.queue c.take_first.new.self c.in-Some.node c.loop-node.invariant.still.under_way c.in-Some.ensures (sym c.in_default-prefix_of.ensures.word)
+    has_word c.args.market.now c.loop-node.search c.loop-node.queue c.take_first.new.self c.in-Some.node c.loop-node.invariant.still.under_way c.in-Some.ensures
+    (sym c.in_default-prefix_of.ensures.word)
 
 pub visit-requires-clause-waits : goal.visit-requires-clause-waits
 visit-requires-clause-waits c = at_node c.args.market.now c.loop-node.search c.loop-node.queue c.take_first.new.self c.in-Some.node c.loop-node.invariant.still.under_way c.in-Some.ensures
@@ -22,7 +23,8 @@ returns-then-is_full c =
 
 pub admit-requires : goal.admit-requires
 admit-requires c =
-    let may = may_admit c.args.market.now c.loop-node.search c.visit.new.search c.in-Some.node (word_of c.in-Some-prefix_of.prefix) c.in_ok-key.key c.loop-node.queue c.take_first.new.self c.loop-node.invariant.still.under_way c.in-Some.ensures c.in_ok-key.ensures.visited in
+    let may = may_admit c.args.market.now c.loop-node.search c.visit.new.search c.in-Some.node
+    (word_of c.in-Some-prefix_of.prefix) c.in_ok-key.key c.loop-node.queue c.take_first.new.self c.loop-node.invariant.still.under_way c.in-Some.ensures c.in_ok-key.ensures.visited in
     record { facts = c.visit.ensures.facts; room = may.room; made = may.made; waiting = may.waiting }
 
 pub loop-node-smaller : goal.loop-node-smaller

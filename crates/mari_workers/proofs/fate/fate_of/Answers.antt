@@ -41,6 +41,7 @@ returns c =
     let gates : length c.as_slice.result.now ≡ length m.gates = ap length c.as_slice.ensures in
     let within : x.length ≤ length m.gates = length_feasible m x c.requires.prefix in
     subst (IsFate m aim.welfare (word_of aim.word) (word_of x)) (sym c.fate_by.ensures)
-    (found_fate m aim (aim.welfare - 1) (word_of x) c.args.leaf c.in_ok-finding.finding (eqb x.length (length c.as_slice.result.now)) c.requires.aim (omega (arith, some)) c.requires.leaf early c.in_ok-finding.ensures.finding (omega (arith, long, within))
+    (found_fate m aim (aim.welfare - 1) (word_of x) c.args.leaf c.in_ok-finding.finding (eqb x.length (length c.as_slice.result.now)) c.requires.aim
+    (omega (arith, some)) c.requires.leaf early c.in_ok-finding.ensures.finding (omega (arith, long, within))
     (λ e. omega (arith, long, gates, eqb-true x.length (length c.as_slice.result.now) e))
     (λ e. omega (arith, long, gates, within, all_or_less x.length (length c.as_slice.result.now) (omega (arith, gates, within)) e)))

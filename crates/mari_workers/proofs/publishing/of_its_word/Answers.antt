@@ -14,10 +14,12 @@ unreachable-requires-in-None c =
 
 pub returns-clause-gates : goal.returns-clause-gates
 returns-clause-gates c =
-    let good = as_good c.args.market.now (word_of c.args.word.now) c.args.activation c.in_ok-relaxed.field-0 c.in-Relaxed.relaxed c.in-Some.best c.requires.market c.requires.optimal c.requires.word c.in-Relaxed.is c.in_ok-relaxed.ensures.finding c.in-Some.is in
+    let good = as_good c.args.market.now (word_of c.args.word.now) c.args.activation c.in_ok-relaxed.field-0 c.in-Relaxed.relaxed c.in-Some.best c.requires.market c.requires.optimal c.requires.word
+    c.in-Relaxed.is c.in_ok-relaxed.ensures.finding c.in-Some.is in
     good.1
 
 pub returns-clause-welfare : goal.returns-clause-welfare
 returns-clause-welfare c =
-    let good = as_good c.args.market.now (word_of c.args.word.now) c.args.activation c.in_ok-relaxed.field-0 c.in-Relaxed.relaxed c.in-Some.best c.requires.market c.requires.optimal c.requires.word c.in-Relaxed.is c.in_ok-relaxed.ensures.finding c.in-Some.is in
+    let good = as_good c.args.market.now (word_of c.args.word.now) c.args.activation c.in_ok-relaxed.field-0 c.in-Relaxed.relaxed c.in-Some.best c.requires.market c.requires.optimal c.requires.word
+    c.in-Relaxed.is c.in_ok-relaxed.ensures.finding c.in-Some.is in
     good.2

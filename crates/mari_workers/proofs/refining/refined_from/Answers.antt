@@ -17,7 +17,8 @@ returns-in-Ok-clause-law c =
     let aim : Aim = record { word = c.gate_word.result; welfare = c.args.found.welfare; budget = c.args.budget } in
     let found = c.args.found in
     clears_as m c.args.budget c.ended.result (ended c.walked.new.walk c.in-Ok.last found.activation found.welfare) c.ended.ensures
-    (last_clears m aim c.walked.new.walk c.in-Ok.last found.activation c.requires.market c.requires.found.clearing.optimal.admissible c.requires.found.clearing.welfare (sym c.gate_word.ensures.word) c.in-Ok.ensures)
+    (last_clears m aim c.walked.new.walk c.in-Ok.last found.activation c.requires.market c.requires.found.clearing.optimal.admissible c.requires.found.clearing.welfare
+    (sym c.gate_word.ensures.word) c.in-Ok.ensures)
 
 pub returns-in-Ok-clause-nodes : goal.returns-in-Ok-clause-nodes
 returns-in-Ok-clause-nodes c =

@@ -44,6 +44,19 @@ returns c lines same =
     let back : limit_in c.args.version (field_of c.args.line.now 3) ≡ c.limit_of-back.result = sym (rw c.field-4.ensures at c.limit_of-back.ensures) in
     let apart : (c.in-Some.from == c.in-Some-find.to) ≡ false = ne_eqb _ _ c.if-from-to.false in
     let new = sym c.is_repeated.ensures ∙ c.if-is_repeated.false in (
-      simp (room _ lines _ same c.if-earlier-ge-MOST_BORDERS.false, from, to, limit, back, apart, sym same, new, c.is_none.ensures, c.if-is_none.false, c.is_none-else-is_none.ensures, c.if-is_none-2.false) refl,
+      simp (
+        room _ lines _ same c.if-earlier-ge-MOST_BORDERS.false,
+        from,
+        to,
+        limit,
+        back,
+        apart,
+        sym same,
+        new,
+        c.is_none.ensures,
+        c.if-is_none.false,
+        c.is_none-else-is_none.ensures,
+        c.if-is_none-2.false,
+      ) refl,
       simp (from, to, limit, back, c.unwrap_or.ensures, c.unwrap_or-2.ensures) refl,
     )

@@ -46,7 +46,8 @@ put_run-requires-clause-lengths c =
     let s = c.requires.stands in
     let run = after-is c.args.books.now c.requires.accepted s.0 c.args.self.now.day s.1 c.next_run-run.result c.next_run-run.ensures in
     let free = subst (λ (f : Option ℕ). FindsNumber (IsFreeIn c.args.books.now c.args.self.now.day.budget s.0 c.args.block.now) f) c.in-None.is (c.in_ok-fault.ensures.finds s.0 s.1) in
-    let feasible = block-feasible c.args.books.now c.args.self.now.day.budget s.0 c.args.block.now c.args.full.now c.requires.is c.in_ok-made.made (c.in_ok-made.ensures.market s.0 s.1.progress run) free in
+    let feasible =
+    block-feasible c.args.books.now c.args.self.now.day.budget s.0 c.args.block.now c.args.full.now c.requires.is c.in_ok-made.made (c.in_ok-made.ensures.market s.0 s.1.progress run) free in
     rw c.deref.ensures.value (as-many-lines c.in_ok-made.made.market c.args.full.now _ _ c.args.self.now.more c.in_ok-worths-in-None.worths.items feasible c.in_ok-worths-in-None.ensures)
 
 pub put_run-requires-clause-printable : goal.put_run-requires-clause-printable
@@ -54,7 +55,8 @@ put_run-requires-clause-printable c =
     let s = c.requires.stands in
     let run = after-is c.args.books.now c.requires.accepted s.0 c.args.self.now.day s.1 c.next_run-run.result c.next_run-run.ensures in
     let free = subst (λ (f : Option ℕ). FindsNumber (IsFreeIn c.args.books.now c.args.self.now.day.budget s.0 c.args.block.now) f) c.in-None.is (c.in_ok-fault.ensures.finds s.0 s.1) in
-    let consistent = block-consistent c.args.books.now c.args.self.now.day.budget s.0 c.args.block.now c.args.full.now c.requires.is c.in_ok-made.made (c.in_ok-made.ensures.market s.0 s.1.progress run) free in
+    let consistent =
+    block-consistent c.args.books.now c.args.self.now.day.budget s.0 c.args.block.now c.args.full.now c.requires.is c.in_ok-made.made (c.in_ok-made.ensures.market s.0 s.1.progress run) free in
     rw c.deref.ensures.value (worths-printable c.in_ok-made.made.market _ _ c.args.self.now.more c.in_ok-worths-in-None.worths.items consistent.prices c.requires.more c.in_ok-worths-in-None.ensures)
 
 pub returns-clause-lines : goal.returns-clause-lines

@@ -18,7 +18,8 @@ returns-then-not-has_totals c = λ p head budget checked first second.
 
 pub returns : goal.returns
 returns c = λ p head budget checked first second. (
-  is-valid c.args.books.now p head c.args.self.now budget checked c.run_count-runs.result c.run_count-runs.ensures (omega (arith, c.if-self-runs.false)) ((c.has_totals.ensures p checked.progress.totals first second).0 c.if-not-has_totals.false),
+  is-valid c.args.books.now p head c.args.self.now budget checked c.run_count-runs.result c.run_count-runs.ensures (omega (arith, c.if-self-runs.false))
+      ((c.has_totals.ensures p checked.progress.totals first second).0 c.if-not-has_totals.false),
   checked.progress.published,
   checked.unpublished,
 )

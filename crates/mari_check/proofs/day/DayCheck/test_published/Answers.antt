@@ -25,7 +25,8 @@ returns-in-Sound c = λ blocks checked is.
     let books = c.args.books.now in
     let made = c.in_ok-made.ensures.market blocks checked.progress is in
     let also = c.also-also.ensures.after blocks checked.progress is in
-    let found = found-sound books c.args.run c.in_ok-made.made _ (Some c.args.self.now.budget) c.args.block.now c.in_ok-fault.field-0 c.in-Sound.activation c.in-Sound.prices c.in-Sound.ledger c.in-Sound.is c.in_ok-fault.ensures in (
+    let found = found-sound books c.args.run c.in_ok-made.made _
+    (Some c.args.self.now.budget) c.args.block.now c.in_ok-fault.field-0 c.in-Sound.activation c.in-Sound.prices c.in-Sound.ledger c.in-Sound.is c.in_ok-fault.ensures in (
       all-after books c.args.self.now.budget blocks c.args.run is c.requires.last c.in_ok-made.made made _ also c.args.block.now found.0,
       settled-after books blocks c.in_ok-made.made made _ also c.args.block.now _ found.1,
     )

@@ -13,13 +13,25 @@ some_child w false = omega arith
 
 pub child_of-requires-clause-room : goal.child_of-requires-clause-room
 child_of-requires-clause-room c =
-    omega
-    (arith, length-decisions c.args.prefix.now c.args.prefix.now.length, ap length c.requires.prefix.0, c.requires.may.may.undecided, c.self.invariant.0.valid.few_gates, ap (λ (g : Grown). length g.market.gates) c.self.view_is)
+    omega (
+      arith,
+      length-decisions c.args.prefix.now c.args.prefix.now.length,
+      ap length c.requires.prefix.0,
+      c.requires.may.may.undecided,
+      c.self.invariant.0.valid.few_gates,
+      ap (λ (g : Grown). length g.market.gates) c.self.view_is,
+    )
 
 pub child_of-requires-then-may_open-clause-room : goal.child_of-requires-then-may_open-clause-room
 child_of-requires-then-may_open-clause-room c =
-    omega
-    (arith, length-decisions c.args.prefix.now c.args.prefix.now.length, ap length c.requires.prefix.0, c.requires.may.may.undecided, c.self.invariant.0.valid.few_gates, ap (λ (g : Grown). length g.market.gates) c.self.view_is)
+    omega (
+      arith,
+      length-decisions c.args.prefix.now c.args.prefix.now.length,
+      ap length c.requires.prefix.0,
+      c.requires.may.may.undecided,
+      c.self.invariant.0.valid.few_gates,
+      ap (λ (g : Grown). length g.market.gates) c.self.view_is,
+    )
 
 pub push_reserved-requires : goal.push_reserved-requires
 push_reserved-requires c =
@@ -53,7 +65,8 @@ both_kept c =
     ∙ ap (λ (n : TreeNode). (c.set_state.new.nodes.items ++ new_node (word_of c.child_of.result) ∷ []) ++ n ∷ []) c.new-then-may_open.ensures
     ∙ both_pushed c.self.inside.nodes.items c.self.inside.nodes.items c.set_state.new.nodes.items c.args.node c.len-first.result
     c.then_some-opened.result (word_of c.args.prefix.now) (word_of c.child_of.result) (word_of c.child_of-then-may_open.result)
-    refl first (c.then_some-opened.ensures ∙ ap (λ (b : Bool). then_some b (c.len-first.result + 1)) c.if-may_open.true) c.set_state.ensures.nodes c.child_of.ensures.word c.child_of-then-may_open.ensures.word)
+    refl first (c.then_some-opened.ensures
+    ∙ ap (λ (b : Bool). then_some b (c.len-first.result + 1)) c.if-may_open.true) c.set_state.ensures.nodes c.child_of.ensures.word c.child_of-then-may_open.ensures.word)
 
 -- the closed child is pushed
 closed_kept : (c : goal.Else-may_open)
@@ -74,7 +87,8 @@ closed_kept c =
     refl first (c.then_some-opened.ensures ∙ ap (λ (b : Bool). then_some b (c.len-first.result + 1)) c.if-may_open.false) c.set_state.ensures.nodes c.child_of.ensures.word)
 
 pub invariant_of-self : goal.invariant_of-self
-invariant_of-self c = let k = both_kept c in (k.grows, k.next_is, omega (arith, c.self.invariant.2, c.set_state.ensures.room, c.push_reserved.ensures.capacity, c.push_reserved-then-may_open.ensures.capacity))
+invariant_of-self c =
+    let k = both_kept c in (k.grows, k.next_is, omega (arith, c.self.invariant.2, c.set_state.ensures.room, c.push_reserved.ensures.capacity, c.push_reserved-then-may_open.ensures.capacity))
 
 pub invariant_of-self-else-may_open : goal.invariant_of-self-else-may_open
 invariant_of-self-else-may_open c = let k = closed_kept c in (k.grows, k.next_is, omega (arith, c.self.invariant.2, c.set_state.ensures.room, c.push_reserved.ensures.capacity))

@@ -11,7 +11,8 @@ invariant_of-self c =
     let can = subst (λ (g : Grown). CanClose g c.args.node c.args.leaf c.args.cutoff) (sym c.self.view_is) c.requires in (
       entry_kept_by _ (Close can.actor c.args.node c.args.leaf c.args.cutoff) c.set_state.new.nodes.items c.self.invariant.0 can.may c.set_state.ensures.nodes,
       subst (λ (ns : List TreeNode). IsNext ns c.self.inside.next) (sym c.set_state.ensures.nodes)
-          (next_stays (Taken can.actor) (Closed c.args.leaf c.args.cutoff) c.self.inside.nodes.items c.args.node c.self.inside.next (λ e. absurd (cc)) (λ e. absurd (cc)) can.may.taken (within_nodes c.self.inside.nodes.items c.args.node (Taken can.actor) can.may.taken) c.self.invariant.1),
+          (next_stays (Taken can.actor) (Closed c.args.leaf c.args.cutoff) c.self.inside.nodes.items c.args.node c.self.inside.next (λ e. absurd (cc)) (λ e. absurd (cc)) can.may.taken
+          (within_nodes c.self.inside.nodes.items c.args.node (Taken can.actor) can.may.taken) c.self.invariant.1),
       omega (arith, c.self.invariant.2, c.set_state.ensures.room),
     )
 

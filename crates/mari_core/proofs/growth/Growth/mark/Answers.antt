@@ -12,7 +12,8 @@ invariant_of-self c =
     let more = subst (λ (g : Grown). g.budget < length g.nodes + length (children_at g c.args.node)) (sym c.self.view_is) c.requires.full in (
       entry_kept_by _ (Full can.actor c.args.node can.cutoff) c.set_state.new.nodes.items c.self.invariant.0 (can.may, more) c.set_state.ensures.nodes,
       subst (λ (ns : List TreeNode). IsNext ns c.min-self-inside.result) (sym c.set_state.ensures.nodes)
-          (next_back c.self.inside.nodes.items c.args.node c.self.inside.next c.min-self-inside.result (within_nodes c.self.inside.nodes.items c.args.node (Taken can.actor) can.may.taken) c.min-self-inside.ensures c.self.invariant.1),
+          (next_back c.self.inside.nodes.items c.args.node c.self.inside.next c.min-self-inside.result
+          (within_nodes c.self.inside.nodes.items c.args.node (Taken can.actor) can.may.taken) c.min-self-inside.ensures c.self.invariant.1),
       omega (arith, c.self.invariant.2, c.set_state.ensures.room),
     )
 

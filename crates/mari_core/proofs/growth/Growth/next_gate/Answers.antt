@@ -20,8 +20,13 @@ may_branch_up-may_open-requires-clause-prefix c =
 pub may_branch_up-may_open-requires-clause-undecided : goal.may_branch_up-may_open-requires-clause-undecided
 may_branch_up-may_open-requires-clause-undecided c =
     let can = subst (λ (g : Grown). CanBranch g c.args.node) (sym c.self.view_is) c.requires in
-    omega
-    (arith, can.may.undecided, length-decisions c.prefix-prefix.result c.prefix-prefix.result.length, ap length c.prefix-prefix.ensures.word, ap length (word_of_node c.self.inside.nodes.items c.args.node c.index.result.now (there _ c.args.node c.index.result.now can c.index.ensures)))
+    omega (
+      arith,
+      can.may.undecided,
+      length-decisions c.prefix-prefix.result c.prefix-prefix.result.length,
+      ap length c.prefix-prefix.ensures.word,
+      ap length (word_of_node c.self.inside.nodes.items c.args.node c.index.result.now (there _ c.args.node c.index.result.now can c.index.ensures)),
+    )
 
 pub index-requires : goal.index-requires
 index-requires c =

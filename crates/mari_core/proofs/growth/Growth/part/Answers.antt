@@ -18,4 +18,5 @@ pub returns-clause-spent : goal.returns-clause-spent
 returns-clause-spent c = λ full.
     subst (λ (g : Grown). IfOk c.part_items.result (λ v. IsSpent g.market g.budget (record { items = v.items }))) c.self.view_is
     (IfOk-weaker c.part_items.result (λ v. IsPart c.deref.result.now v.items) (λ v. IsSpent c.self.inside.market.now c.self.inside.budget (record { items = v.items }))
-    (λ v p. part_is_spent _ v.items c.self.invariant.0 (subst (λ (ns : List TreeNode). IsPart ns v.items) c.deref.ensures.value p) (ap (λ (g : Grown). g.full) c.self.view_is ∙ full)) c.part_items.ensures)
+    (λ v p. part_is_spent _ v.items c.self.invariant.0 (subst (λ (ns : List TreeNode). IsPart ns v.items) c.deref.ensures.value p) (ap (λ (g : Grown). g.full) c.self.view_is ∙ full))
+    c.part_items.ensures)

@@ -7,14 +7,16 @@ use Rattle.mari_core.proofs.growth.Growth.settle.Goals as goal
 pub close-requires : goal.close-requires
 close-requires c = record {
   actor = c.args.actor;
-  may = may_close c.args.self.now c.args.actor c.args.node c.args.cutoff c.args.finding c.in-Some.leaf c.in_ok-check_taken.ensures.facts c.requires.cutoff c.requires.finding (return_passes c.args.actor _ c.in_ok-check_taken.ensures.answer) (sym c.closing_leaf.ensures ∙ c.in-Some.is);
+  may = may_close c.args.self.now c.args.actor c.args.node c.args.cutoff c.args.finding c.in-Some.leaf c.in_ok-check_taken.ensures.facts c.requires.cutoff c.requires.finding
+      (return_passes c.args.actor _ c.in_ok-check_taken.ensures.answer) (sym c.closing_leaf.ensures ∙ c.in-Some.is);
 }
 
 pub branch_or_mark-requires : goal.branch_or_mark-requires
 branch_or_mark-requires c = record {
   actor = c.args.actor;
   cutoff = c.args.cutoff;
-  may = may_branch c.args.self.now c.args.actor c.args.node c.args.cutoff c.args.finding c.in_ok-check_taken.ensures.facts c.requires.cutoff c.requires.finding (return_passes c.args.actor _ c.in_ok-check_taken.ensures.answer) (sym c.closing_leaf.ensures ∙ c.in-None.is);
+  may = may_branch c.args.self.now c.args.actor c.args.node c.args.cutoff c.args.finding c.in_ok-check_taken.ensures.facts c.requires.cutoff c.requires.finding
+      (return_passes c.args.actor _ c.in_ok-check_taken.ensures.answer) (sym c.closing_leaf.ensures ∙ c.in-None.is);
 }
 
 pub returns-in-Some-clause-change : goal.returns-in-Some-clause-change

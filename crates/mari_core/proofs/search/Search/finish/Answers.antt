@@ -14,11 +14,17 @@ returns-clause-clearing c =
     c.self.view_is
     (clearing_by (record { tree = c.self.inside.tree; incumbent = c.self.inside.incumbent; actors = c.self.inside.actors.items; first = c.self.inside.first }) _ c.self.invariant
     (ap (λ (a : Attained). a.activation) c.best_of-best.ensures) refl
-    (subst (λ (items : List TreeItem). TreeHolds c.self.inside.tree.market (pos c.self.inside.incumbent) items) (sym c.of.ensures) (c.in_ok-tree.ensures.holds c.self.inside.incumbent c.self.invariant.cutoffs))
+    (subst (λ (items : List TreeItem). TreeHolds c.self.inside.tree.market (pos c.self.inside.incumbent) items) (sym c.of.ensures)
+    (c.in_ok-tree.ensures.holds c.self.inside.incumbent c.self.invariant.cutoffs))
     (omega (arith, ap length c.of.ensures, c.in_ok-tree.ensures.within_budget)))
 
 pub returns-clause-first : goal.returns-clause-first
 returns-clause-first c = λ e.
-    ap (λ (a : Attained). a.activation) (c.best_of-best.ensures ∙ first_is_best (record { tree = c.self.inside.tree; incumbent = c.self.inside.incumbent; actors = c.self.inside.actors.items; first = c.self.inside.first }) c.self.invariant
+    ap (λ (a : Attained). a.activation) (c.best_of-best.ensures ∙ first_is_best (record {
+      tree = c.self.inside.tree;
+      incumbent = c.self.inside.incumbent;
+      actors = c.self.inside.actors.items;
+      first = c.self.inside.first;
+    }) c.self.invariant
     (subst (λ (s : Machine). s.incumbent ≡ s.first.welfare) (sym c.self.view_is) e))
     ∙ ap (λ (s : Machine). s.first.activation) c.self.view_is

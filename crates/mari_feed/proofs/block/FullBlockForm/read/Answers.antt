@@ -7,63 +7,110 @@ use Rattle.mari_feed.proofs.NotRead.{begins, after, going_on, member_unread, no_
 use Rattle.mari_feed.proofs.block.FullBlockForm.read.Goals as goal
 
 pub returns-in_err-bids : goal.returns-in_err-bids
-returns-in_err-bids c = member_unread _ _ _ _ no_members _ _ (view c.args.value.now) _ c.from_residual-in_err-bids.result (err_from_is_err_and c.from_residual-in_err-bids.result c.from_residual-in_err-bids.ensures.1) c.in_err-bids.ensures (λ b r e.
-    let m0 = begins _ _ _ c.in_ok-members.ensures e in
-    (b.bids, member (codes "borders") (list_of border_value b.borders) (member (codes "demands") (list_of natural b.demands) (member (codes "kind") (kind_value b.heading.direct) (member (codes "operators") (list_of operator_value b.operators) (member (codes "providers") (list_of provider_value b.providers) (member (codes "quarter") (natural b.heading.quarter) (member (codes "run") (natural b.heading.run) (member (codes "tree") (list_of item_value b.tree) (member (codes "welfare") (natural b.welfare) (member (codes "zones") (list_of zone_value b.zones) no_members))))))))), r.bids, m0))
+returns-in_err-bids c = member_unread _ _ _ _ no_members _ _ (view c.args.value.now) _ c.from_residual-in_err-bids.result
+    (err_from_is_err_and c.from_residual-in_err-bids.result c.from_residual-in_err-bids.ensures.1) c.in_err-bids.ensures (λ b r e.
+    let m0 = begins _ _ _ c.in_ok-members.ensures e in (
+      b.bids,
+      member (codes "borders") (list_of border_value b.borders) (member (codes "demands") (list_of natural b.demands) (member (codes "kind") (kind_value b.heading.direct) (member (codes "operators")
+          (list_of operator_value b.operators) (member (codes "providers") (list_of provider_value b.providers) (member (codes "quarter") (natural b.heading.quarter) (member (codes "run") (natural
+          b.heading.run) (member (codes "tree") (list_of item_value b.tree) (member (codes "welfare") (natural b.welfare) (member (codes "zones") (list_of zone_value b.zones) no_members))))))))),
+      r.bids,
+      m0,
+    ))
 
 pub returns-in_err-borders : goal.returns-in_err-borders
-returns-in_err-borders c = member_unread _ _ _ _ no_members _ _ (view c.args.value.now) _ c.from_residual-in_err-borders.result (err_from_is_err_and c.from_residual-in_err-borders.result c.from_residual-in_err-borders.ensures.1) c.in_err-borders.ensures (λ b r e.
+returns-in_err-borders c = member_unread _ _ _ _ no_members _ _ (view c.args.value.now) _ c.from_residual-in_err-borders.result
+    (err_from_is_err_and c.from_residual-in_err-borders.result c.from_residual-in_err-borders.ensures.1) c.in_err-borders.ensures (λ b r e.
     let m0 = begins _ _ _ c.in_ok-members.ensures e in
-    let m1 = after _ _ _ _ _ _ c.in_ok-bids.ensures.1 m0 in
-    (b.borders, member (codes "demands") (list_of natural b.demands) (member (codes "kind") (kind_value b.heading.direct) (member (codes "operators") (list_of operator_value b.operators) (member (codes "providers") (list_of provider_value b.providers) (member (codes "quarter") (natural b.heading.quarter) (member (codes "run") (natural b.heading.run) (member (codes "tree") (list_of item_value b.tree) (member (codes "welfare") (natural b.welfare) (member (codes "zones") (list_of zone_value b.zones) no_members)))))))), r.borders, m1))
+    let m1 = after _ _ _ _ _ _ c.in_ok-bids.ensures.1 m0 in (
+      b.borders,
+      member (codes "demands") (list_of natural b.demands) (member (codes "kind") (kind_value b.heading.direct) (member (codes "operators") (list_of operator_value b.operators)
+          (member (codes "providers") (list_of provider_value b.providers) (member (codes "quarter") (natural b.heading.quarter) (member (codes "run") (natural b.heading.run)
+          (member (codes "tree") (list_of item_value b.tree) (member (codes "welfare") (natural b.welfare) (member (codes "zones") (list_of zone_value b.zones) no_members)))))))),
+      r.borders,
+      m1,
+    ))
 
 pub returns-in_err-demands : goal.returns-in_err-demands
-returns-in_err-demands c = member_unread _ _ _ _ no_members _ _ (view c.args.value.now) _ c.from_residual-in_err-demands.result (err_from_is_err_and c.from_residual-in_err-demands.result c.from_residual-in_err-demands.ensures.1) c.in_err-demands.ensures (λ b r e.
+returns-in_err-demands c = member_unread _ _ _ _ no_members _ _ (view c.args.value.now) _ c.from_residual-in_err-demands.result
+    (err_from_is_err_and c.from_residual-in_err-demands.result c.from_residual-in_err-demands.ensures.1) c.in_err-demands.ensures (λ b r e.
     let m0 = begins _ _ _ c.in_ok-members.ensures e in
     let m1 = after _ _ _ _ _ _ c.in_ok-bids.ensures.1 m0 in
-    let m2 = after _ _ _ _ _ _ c.in_ok-borders.ensures.1 m1 in
-    (b.demands, member (codes "kind") (kind_value b.heading.direct) (member (codes "operators") (list_of operator_value b.operators) (member (codes "providers") (list_of provider_value b.providers) (member (codes "quarter") (natural b.heading.quarter) (member (codes "run") (natural b.heading.run) (member (codes "tree") (list_of item_value b.tree) (member (codes "welfare") (natural b.welfare) (member (codes "zones") (list_of zone_value b.zones) no_members))))))), r.demands, m2))
+    let m2 = after _ _ _ _ _ _ c.in_ok-borders.ensures.1 m1 in (
+      b.demands,
+      member (codes "kind") (kind_value b.heading.direct) (member (codes "operators") (list_of operator_value b.operators)
+          (member (codes "providers") (list_of provider_value b.providers) (member (codes "quarter") (natural b.heading.quarter) (member (codes "run") (natural b.heading.run)
+          (member (codes "tree") (list_of item_value b.tree) (member (codes "welfare") (natural b.welfare) (member (codes "zones") (list_of zone_value b.zones) no_members))))))),
+      r.demands,
+      m2,
+    ))
 
 pub returns-in_err-direct : goal.returns-in_err-direct
-returns-in_err-direct c = member_unread _ _ _ _ no_members _ _ (view c.args.value.now) _ c.from_residual-in_err-direct.result (err_from_is_err_and c.from_residual-in_err-direct.result c.from_residual-in_err-direct.ensures.1) c.in_err-direct.ensures (λ b r e.
+returns-in_err-direct c = member_unread _ _ _ _ no_members _ _ (view c.args.value.now) _ c.from_residual-in_err-direct.result
+    (err_from_is_err_and c.from_residual-in_err-direct.result c.from_residual-in_err-direct.ensures.1) c.in_err-direct.ensures (λ b r e.
     let m0 = begins _ _ _ c.in_ok-members.ensures e in
     let m1 = after _ _ _ _ _ _ c.in_ok-bids.ensures.1 m0 in
     let m2 = after _ _ _ _ _ _ c.in_ok-borders.ensures.1 m1 in
-    let m3 = after _ _ _ _ _ _ c.in_ok-demands.ensures.1 m2 in
-    (b.heading.direct, member (codes "operators") (list_of operator_value b.operators) (member (codes "providers") (list_of provider_value b.providers) (member (codes "quarter") (natural b.heading.quarter) (member (codes "run") (natural b.heading.run) (member (codes "tree") (list_of item_value b.tree) (member (codes "welfare") (natural b.welfare) (member (codes "zones") (list_of zone_value b.zones) no_members)))))), tt, m3))
+    let m3 = after _ _ _ _ _ _ c.in_ok-demands.ensures.1 m2 in (
+      b.heading.direct,
+      member (codes "operators") (list_of operator_value b.operators)
+          (member (codes "providers") (list_of provider_value b.providers) (member (codes "quarter") (natural b.heading.quarter) (member (codes "run") (natural b.heading.run)
+          (member (codes "tree") (list_of item_value b.tree) (member (codes "welfare") (natural b.welfare) (member (codes "zones") (list_of zone_value b.zones) no_members)))))),
+      tt,
+      m3,
+    ))
 
 pub returns-in_err-operators : goal.returns-in_err-operators
-returns-in_err-operators c = member_unread _ _ _ _ no_members _ _ (view c.args.value.now) _ c.from_residual-in_err-operators.result (err_from_is_err_and c.from_residual-in_err-operators.result c.from_residual-in_err-operators.ensures.1) c.in_err-operators.ensures (λ b r e.
+returns-in_err-operators c = member_unread _ _ _ _ no_members _ _ (view c.args.value.now) _ c.from_residual-in_err-operators.result
+    (err_from_is_err_and c.from_residual-in_err-operators.result c.from_residual-in_err-operators.ensures.1) c.in_err-operators.ensures (λ b r e.
     let m0 = begins _ _ _ c.in_ok-members.ensures e in
     let m1 = after _ _ _ _ _ _ c.in_ok-bids.ensures.1 m0 in
     let m2 = after _ _ _ _ _ _ c.in_ok-borders.ensures.1 m1 in
     let m3 = after _ _ _ _ _ _ c.in_ok-demands.ensures.1 m2 in
-    let m4 = after _ _ _ _ _ _ c.in_ok-direct.ensures.1 m3 in
-    (b.operators, member (codes "providers") (list_of provider_value b.providers) (member (codes "quarter") (natural b.heading.quarter) (member (codes "run") (natural b.heading.run) (member (codes "tree") (list_of item_value b.tree) (member (codes "welfare") (natural b.welfare) (member (codes "zones") (list_of zone_value b.zones) no_members))))), r.operators, m4))
+    let m4 = after _ _ _ _ _ _ c.in_ok-direct.ensures.1 m3 in (
+      b.operators,
+      member (codes "providers") (list_of provider_value b.providers) (member (codes "quarter") (natural b.heading.quarter) (member (codes "run") (natural b.heading.run)
+          (member (codes "tree") (list_of item_value b.tree) (member (codes "welfare") (natural b.welfare) (member (codes "zones") (list_of zone_value b.zones) no_members))))),
+      r.operators,
+      m4,
+    ))
 
 pub returns-in_err-providers : goal.returns-in_err-providers
-returns-in_err-providers c = member_unread _ _ _ _ no_members _ _ (view c.args.value.now) _ c.from_residual-in_err-providers.result (err_from_is_err_and c.from_residual-in_err-providers.result c.from_residual-in_err-providers.ensures.1) c.in_err-providers.ensures (λ b r e.
+returns-in_err-providers c = member_unread _ _ _ _ no_members _ _ (view c.args.value.now) _ c.from_residual-in_err-providers.result
+    (err_from_is_err_and c.from_residual-in_err-providers.result c.from_residual-in_err-providers.ensures.1) c.in_err-providers.ensures (λ b r e.
     let m0 = begins _ _ _ c.in_ok-members.ensures e in
     let m1 = after _ _ _ _ _ _ c.in_ok-bids.ensures.1 m0 in
     let m2 = after _ _ _ _ _ _ c.in_ok-borders.ensures.1 m1 in
     let m3 = after _ _ _ _ _ _ c.in_ok-demands.ensures.1 m2 in
     let m4 = after _ _ _ _ _ _ c.in_ok-direct.ensures.1 m3 in
-    let m5 = after _ _ _ _ _ _ c.in_ok-operators.ensures.1 m4 in
-    (b.providers, member (codes "quarter") (natural b.heading.quarter) (member (codes "run") (natural b.heading.run) (member (codes "tree") (list_of item_value b.tree) (member (codes "welfare") (natural b.welfare) (member (codes "zones") (list_of zone_value b.zones) no_members)))), r.providers, m5))
+    let m5 = after _ _ _ _ _ _ c.in_ok-operators.ensures.1 m4 in (
+      b.providers,
+      member (codes "quarter") (natural b.heading.quarter) (member (codes "run") (natural b.heading.run)
+          (member (codes "tree") (list_of item_value b.tree) (member (codes "welfare") (natural b.welfare) (member (codes "zones") (list_of zone_value b.zones) no_members)))),
+      r.providers,
+      m5,
+    ))
 
 pub returns-in_err-quarter : goal.returns-in_err-quarter
-returns-in_err-quarter c = member_unread _ _ _ _ no_members _ _ (view c.args.value.now) _ c.from_residual-in_err-quarter.result (err_from_is_err_and c.from_residual-in_err-quarter.result c.from_residual-in_err-quarter.ensures.1) c.in_err-quarter.ensures (λ b r e.
+returns-in_err-quarter c = member_unread _ _ _ _ no_members _ _ (view c.args.value.now) _ c.from_residual-in_err-quarter.result
+    (err_from_is_err_and c.from_residual-in_err-quarter.result c.from_residual-in_err-quarter.ensures.1) c.in_err-quarter.ensures (λ b r e.
     let m0 = begins _ _ _ c.in_ok-members.ensures e in
     let m1 = after _ _ _ _ _ _ c.in_ok-bids.ensures.1 m0 in
     let m2 = after _ _ _ _ _ _ c.in_ok-borders.ensures.1 m1 in
     let m3 = after _ _ _ _ _ _ c.in_ok-demands.ensures.1 m2 in
     let m4 = after _ _ _ _ _ _ c.in_ok-direct.ensures.1 m3 in
     let m5 = after _ _ _ _ _ _ c.in_ok-operators.ensures.1 m4 in
-    let m6 = after _ _ _ _ _ _ c.in_ok-providers.ensures.1 m5 in
-    (b.heading.quarter, member (codes "run") (natural b.heading.run) (member (codes "tree") (list_of item_value b.tree) (member (codes "welfare") (natural b.welfare) (member (codes "zones") (list_of zone_value b.zones) no_members))), r.heading.1, m6))
+    let m6 = after _ _ _ _ _ _ c.in_ok-providers.ensures.1 m5 in (
+      b.heading.quarter,
+      member (codes "run") (natural b.heading.run)
+          (member (codes "tree") (list_of item_value b.tree) (member (codes "welfare") (natural b.welfare) (member (codes "zones") (list_of zone_value b.zones) no_members))),
+      r.heading.1,
+      m6,
+    ))
 
 pub returns-in_err-run : goal.returns-in_err-run
-returns-in_err-run c = member_unread _ _ _ _ no_members _ _ (view c.args.value.now) _ c.from_residual-in_err-run.result (err_from_is_err_and c.from_residual-in_err-run.result c.from_residual-in_err-run.ensures.1) c.in_err-run.ensures (λ b r e.
+returns-in_err-run c = member_unread _ _ _ _ no_members _ _ (view c.args.value.now) _ c.from_residual-in_err-run.result
+    (err_from_is_err_and c.from_residual-in_err-run.result c.from_residual-in_err-run.ensures.1) c.in_err-run.ensures (λ b r e.
     let m0 = begins _ _ _ c.in_ok-members.ensures e in
     let m1 = after _ _ _ _ _ _ c.in_ok-bids.ensures.1 m0 in
     let m2 = after _ _ _ _ _ _ c.in_ok-borders.ensures.1 m1 in
@@ -75,7 +122,8 @@ returns-in_err-run c = member_unread _ _ _ _ no_members _ _ (view c.args.value.n
     (b.heading.run, member (codes "tree") (list_of item_value b.tree) (member (codes "welfare") (natural b.welfare) (member (codes "zones") (list_of zone_value b.zones) no_members)), r.heading.0, m7))
 
 pub returns-in_err-tree : goal.returns-in_err-tree
-returns-in_err-tree c = member_unread _ _ _ _ no_members _ _ (view c.args.value.now) _ c.from_residual-in_err-tree.result (err_from_is_err_and c.from_residual-in_err-tree.result c.from_residual-in_err-tree.ensures.1) c.in_err-tree.ensures (λ b r e.
+returns-in_err-tree c = member_unread _ _ _ _ no_members _ _ (view c.args.value.now) _ c.from_residual-in_err-tree.result
+    (err_from_is_err_and c.from_residual-in_err-tree.result c.from_residual-in_err-tree.ensures.1) c.in_err-tree.ensures (λ b r e.
     let m0 = begins _ _ _ c.in_ok-members.ensures e in
     let m1 = after _ _ _ _ _ _ c.in_ok-bids.ensures.1 m0 in
     let m2 = after _ _ _ _ _ _ c.in_ok-borders.ensures.1 m1 in
@@ -88,7 +136,8 @@ returns-in_err-tree c = member_unread _ _ _ _ no_members _ _ (view c.args.value.
     (b.tree, member (codes "welfare") (natural b.welfare) (member (codes "zones") (list_of zone_value b.zones) no_members), r.tree, m8))
 
 pub returns-in_err-welfare : goal.returns-in_err-welfare
-returns-in_err-welfare c = member_unread _ _ _ _ no_members _ _ (view c.args.value.now) _ c.from_residual-in_err-welfare.result (err_from_is_err_and c.from_residual-in_err-welfare.result c.from_residual-in_err-welfare.ensures.1) c.in_err-welfare.ensures (λ b r e.
+returns-in_err-welfare c = member_unread _ _ _ _ no_members _ _ (view c.args.value.now) _ c.from_residual-in_err-welfare.result
+    (err_from_is_err_and c.from_residual-in_err-welfare.result c.from_residual-in_err-welfare.ensures.1) c.in_err-welfare.ensures (λ b r e.
     let m0 = begins _ _ _ c.in_ok-members.ensures e in
     let m1 = after _ _ _ _ _ _ c.in_ok-bids.ensures.1 m0 in
     let m2 = after _ _ _ _ _ _ c.in_ok-borders.ensures.1 m1 in
@@ -102,7 +151,8 @@ returns-in_err-welfare c = member_unread _ _ _ _ no_members _ _ (view c.args.val
     (b.welfare, member (codes "zones") (list_of zone_value b.zones) no_members, r.welfare, m9))
 
 pub returns-in_err-zones : goal.returns-in_err-zones
-returns-in_err-zones c = member_unread _ _ _ _ no_members _ _ (view c.args.value.now) _ c.from_residual-in_err-zones.result (err_from_is_err_and c.from_residual-in_err-zones.result c.from_residual-in_err-zones.ensures.1) c.in_err-zones.ensures (λ b r e.
+returns-in_err-zones c = member_unread _ _ _ _ no_members _ _ (view c.args.value.now) _ c.from_residual-in_err-zones.result
+    (err_from_is_err_and c.from_residual-in_err-zones.result c.from_residual-in_err-zones.ensures.1) c.in_err-zones.ensures (λ b r e.
     let m0 = begins _ _ _ c.in_ok-members.ensures e in
     let m1 = after _ _ _ _ _ _ c.in_ok-bids.ensures.1 m0 in
     let m2 = after _ _ _ _ _ _ c.in_ok-borders.ensures.1 m1 in
@@ -117,10 +167,12 @@ returns-in_err-zones c = member_unread _ _ _ _ no_members _ _ (view c.args.value
     (b.zones, no_members, r.zones, m10))
 
 pub returns-in_err-members : goal.returns-in_err-members
-returns-in_err-members c = no_object _ _ (view c.args.value.now) _ c.from_residual.result (err_from_is_err_and c.from_residual.result c.from_residual.ensures.1) c.in_err-members.ensures (λ b. (_, refl))
+returns-in_err-members c =
+    no_object _ _ (view c.args.value.now) _ c.from_residual.result (err_from_is_err_and c.from_residual.result c.from_residual.ensures.1) c.in_err-members.ensures (λ b. (_, refl))
 
 pub returns-in_err-end : goal.returns-in_err-end
-returns-in_err-end c = not_the_end _ _ _ (view c.args.value.now) _ c.from_residual-in_err-end.result (err_from_is_err_and c.from_residual-in_err-end.result c.from_residual-in_err-end.ensures.1) c.in_err-end.ensures (λ b r e.
+returns-in_err-end c = not_the_end _ _ _ (view c.args.value.now) _ c.from_residual-in_err-end.result
+    (err_from_is_err_and c.from_residual-in_err-end.result c.from_residual-in_err-end.ensures.1) c.in_err-end.ensures (λ b r e.
     let m0 = begins _ _ _ c.in_ok-members.ensures e in
     let m1 = after _ _ _ _ _ _ c.in_ok-bids.ensures.1 m0 in
     let m2 = after _ _ _ _ _ _ c.in_ok-borders.ensures.1 m1 in

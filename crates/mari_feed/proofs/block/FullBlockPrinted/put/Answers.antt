@@ -12,6 +12,7 @@ returns c =
     let b = c.args.block.now in
     in_pieces c.put_rest.result c.args.text.now.items c.put_lines.new.text.items c.put_ledger.new.text.items c.put_rest.new.text.items (codes "bids") (list_of bid_value b.bids)
     ((codes "borders", list_of border_value b.borders) ∷ (codes "demands", list_of natural b.demands) ∷ (codes "kind", kind_value b.heading.direct) ∷ [])
-    ((codes "operators", list_of operator_value b.operators) ∷ (codes "providers", list_of provider_value b.providers) ∷ (codes "quarter", natural b.heading.quarter) ∷ (codes "run", natural b.heading.run) ∷ [])
+    ((codes "operators", list_of operator_value b.operators) ∷ (codes "providers", list_of provider_value b.providers) ∷ (codes "quarter", natural b.heading.quarter)
+    ∷ (codes "run", natural b.heading.run) ∷ [])
     ((codes "tree", list_of item_value b.tree) ∷ (codes "welfare", natural b.welfare) ∷ (codes "zones", list_of zone_value b.zones) ∷ [])
     c.in_ok-put_lines.ensures c.in_ok-put_ledger.ensures c.put_rest.ensures

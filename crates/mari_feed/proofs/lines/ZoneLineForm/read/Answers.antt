@@ -7,25 +7,34 @@ use Rattle.mari_feed.proofs.NotRead.{begins, after, going_on, member_unread}
 use Rattle.mari_feed.proofs.lines.ZoneLineForm.read.Goals as goal
 
 pub returns-in_err-area : goal.returns-in_err-area
-returns-in_err-area c = member_unread _ _ _ _ no_members _ _ (view c.args.value.now) _ c.from_residual-in_err-area.result (err_from_is_err_and c.from_residual-in_err-area.result c.from_residual-in_err-area.ensures.1) c.in_err-area.ensures (λ z r e.
-    let m0 = begins _ _ _ c.in_ok-members.ensures e in
-    (z.area, member (codes "greatest") (price_value z.greatest) (member (codes "least") (price_value z.least) (member (codes "name") (string z.name) (member (codes "price") (price_value z.price) no_members))), r.4, m0))
+returns-in_err-area c = member_unread _ _ _ _ no_members _ _ (view c.args.value.now) _ c.from_residual-in_err-area.result
+    (err_from_is_err_and c.from_residual-in_err-area.result c.from_residual-in_err-area.ensures.1) c.in_err-area.ensures (λ z r e.
+    let m0 = begins _ _ _ c.in_ok-members.ensures e in (
+      z.area,
+      member (codes "greatest") (price_value z.greatest)
+          (member (codes "least") (price_value z.least) (member (codes "name") (string z.name) (member (codes "price") (price_value z.price) no_members))),
+      r.4,
+      m0,
+    ))
 
 pub returns-in_err-greatest : goal.returns-in_err-greatest
-returns-in_err-greatest c = member_unread _ _ _ _ no_members _ _ (view c.args.value.now) _ c.from_residual-in_err-greatest.result (err_from_is_err_and c.from_residual-in_err-greatest.result c.from_residual-in_err-greatest.ensures.1) c.in_err-greatest.ensures (λ z r e.
+returns-in_err-greatest c = member_unread _ _ _ _ no_members _ _ (view c.args.value.now) _ c.from_residual-in_err-greatest.result
+    (err_from_is_err_and c.from_residual-in_err-greatest.result c.from_residual-in_err-greatest.ensures.1) c.in_err-greatest.ensures (λ z r e.
     let m0 = begins _ _ _ c.in_ok-members.ensures e in
     let m1 = after _ _ _ _ _ _ c.in_ok-area.ensures.1 m0 in
     (z.greatest, member (codes "least") (price_value z.least) (member (codes "name") (string z.name) (member (codes "price") (price_value z.price) no_members)), r.3, m1))
 
 pub returns-in_err-least : goal.returns-in_err-least
-returns-in_err-least c = member_unread _ _ _ _ no_members _ _ (view c.args.value.now) _ c.from_residual-in_err-least.result (err_from_is_err_and c.from_residual-in_err-least.result c.from_residual-in_err-least.ensures.1) c.in_err-least.ensures (λ z r e.
+returns-in_err-least c = member_unread _ _ _ _ no_members _ _ (view c.args.value.now) _ c.from_residual-in_err-least.result
+    (err_from_is_err_and c.from_residual-in_err-least.result c.from_residual-in_err-least.ensures.1) c.in_err-least.ensures (λ z r e.
     let m0 = begins _ _ _ c.in_ok-members.ensures e in
     let m1 = after _ _ _ _ _ _ c.in_ok-area.ensures.1 m0 in
     let m2 = after _ _ _ _ _ _ c.in_ok-greatest.ensures.1 m1 in
     (z.least, member (codes "name") (string z.name) (member (codes "price") (price_value z.price) no_members), r.2, m2))
 
 pub returns-in_err-name : goal.returns-in_err-name
-returns-in_err-name c = member_unread _ _ _ _ no_members _ _ (view c.args.value.now) _ c.from_residual-in_err-name.result (err_from_is_err_and c.from_residual-in_err-name.result c.from_residual-in_err-name.ensures.1) c.in_err-name.ensures (λ z r e.
+returns-in_err-name c = member_unread _ _ _ _ no_members _ _ (view c.args.value.now) _ c.from_residual-in_err-name.result
+    (err_from_is_err_and c.from_residual-in_err-name.result c.from_residual-in_err-name.ensures.1) c.in_err-name.ensures (λ z r e.
     let m0 = begins _ _ _ c.in_ok-members.ensures e in
     let m1 = after _ _ _ _ _ _ c.in_ok-area.ensures.1 m0 in
     let m2 = after _ _ _ _ _ _ c.in_ok-greatest.ensures.1 m1 in
@@ -33,7 +42,8 @@ returns-in_err-name c = member_unread _ _ _ _ no_members _ _ (view c.args.value.
     (z.name, member (codes "price") (price_value z.price) no_members, r.0, m3))
 
 pub returns-in_err-price : goal.returns-in_err-price
-returns-in_err-price c = member_unread _ _ _ _ no_members _ _ (view c.args.value.now) _ c.from_residual-in_err-price.result (err_from_is_err_and c.from_residual-in_err-price.result c.from_residual-in_err-price.ensures.1) c.in_err-price.ensures (λ z r e.
+returns-in_err-price c = member_unread _ _ _ _ no_members _ _ (view c.args.value.now) _ c.from_residual-in_err-price.result
+    (err_from_is_err_and c.from_residual-in_err-price.result c.from_residual-in_err-price.ensures.1) c.in_err-price.ensures (λ z r e.
     let m0 = begins _ _ _ c.in_ok-members.ensures e in
     let m1 = after _ _ _ _ _ _ c.in_ok-area.ensures.1 m0 in
     let m2 = after _ _ _ _ _ _ c.in_ok-greatest.ensures.1 m1 in

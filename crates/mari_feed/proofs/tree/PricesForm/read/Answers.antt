@@ -6,7 +6,8 @@ use Rattle.mari_feed.proofs.NotRead.{begins, going_on, member_unread}
 use Rattle.mari_feed.proofs.tree.PricesForm.read.Goals as goal
 
 pub returns-in_err-cents : goal.returns-in_err-cents
-returns-in_err-cents c = member_unread _ _ _ _ no_members _ _ (view c.args.value.now) _ c.from_residual-in_err-cents.result (err_from_is_err_and c.from_residual-in_err-cents.result c.from_residual-in_err-cents.ensures.1) c.in_err-cents.ensures (λ p r e. (p.cents, no_members, r, begins _ _ _ c.in_ok-members.ensures e))
+returns-in_err-cents c = member_unread _ _ _ _ no_members _ _ (view c.args.value.now) _ c.from_residual-in_err-cents.result
+    (err_from_is_err_and c.from_residual-in_err-cents.result c.from_residual-in_err-cents.ensures.1) c.in_err-cents.ensures (λ p r e. (p.cents, no_members, r, begins _ _ _ c.in_ok-members.ensures e))
 
 pub returns : goal.returns
 returns c =

@@ -30,5 +30,7 @@ pub returns : goal.returns
 returns c =
     let all = take_all c.loop-byte.byte-index c.args.text.now c.loop-byte-test.false in
     let some : 0 < length c.args.text.now = grind arith in
-    let alone : get_or c.args.text.now 0 0 ≡ 48 → length c.args.text.now ≡ 1 = λ zero. ⊎_elim (λ first. omega (arith, some, first.1)) (λ other. absurd (other zero)) c.else-text-eq48.either in
-    (c.loop-byte.invariant.low, digits_are c.loop-byte.value c.args.text.now (omega arith) (c.loop-byte.invariant.value ∙ ap value_of_digits all) (subst (λ t. AreDigits t) all c.loop-byte.invariant.digits) some alone)
+    let alone : get_or c.args.text.now 0 0 ≡ 48 → length c.args.text.now ≡ 1 = λ zero. ⊎_elim (λ first. omega (arith, some, first.1)) (λ other. absurd (other zero)) c.else-text-eq48.either in (
+      c.loop-byte.invariant.low,
+      digits_are c.loop-byte.value c.args.text.now (omega arith) (c.loop-byte.invariant.value ∙ ap value_of_digits all) (subst (λ t. AreDigits t) all c.loop-byte.invariant.digits) some alone,
+    )

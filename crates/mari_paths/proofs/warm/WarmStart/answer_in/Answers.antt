@@ -36,7 +36,8 @@ solve_network-found-requires-clause-worth c =
     let slots : c.network_of-network.result.slots.now ≡ c.set_bounds.new.slots = c.network_of-network.ensures.slots in
     let amounts = with_items_is c.in_ok-amounts.amounts c.set_bounds.new.amounts (c.set_bounds.auto.amounts ∙ c.deref_mut.ensures.len) in
     let worth : c.set_bounds.new.worth ≡ sum_along slot_gain c.set_bounds.new.slots c.set_bounds.new.amounts = c.set_bounds.ensures.worth in
-    let fits : FitsSigned w128 c.set_bounds.new.worth = subst (λ (x : ℤ). FitsSigned w128 x) (sym worth) (filled_worth c.args.market.now c.set_bounds.new.slots c.set_bounds.new.amounts c.requires.market c.set_bounds.ensures.filled) in
+    let fits : FitsSigned w128 c.set_bounds.new.worth =
+    subst (λ (x : ℤ). FitsSigned w128 x) (sym worth) (filled_worth c.args.market.now c.set_bounds.new.slots c.set_bounds.new.amounts c.requires.market c.set_bounds.ensures.filled) in
     rw (to_z-of_z fits, slots, amounts) worth
 
 pub solve_network-found-requires-clause-margins : goal.solve_network-found-requires-clause-margins

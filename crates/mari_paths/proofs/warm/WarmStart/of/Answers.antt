@@ -15,15 +15,18 @@ use Rattle.mari_paths.proofs.warm.WarmStart.of.Goals as goal
 
 pub worth_of-worth-requires-clause-lengths : goal.worth_of-worth-requires-clause-lengths
 worth_of-worth-requires-clause-lengths c =
-    rw (c.as_slice-slots.ensures.value, c.as_slice-amounts.ensures.value) (sym (zip_long IsWithinSlot c.in_ok-begun.begun.slots.items c.in_ok-begun.begun.amounts.items c.in_ok-begun.ensures.filled.within))
+    rw (c.as_slice-slots.ensures.value, c.as_slice-amounts.ensures.value)
+    (sym (zip_long IsWithinSlot c.in_ok-begun.begun.slots.items c.in_ok-begun.begun.amounts.items c.in_ok-begun.ensures.filled.within))
 
 pub returns : goal.returns
 returns c =
     let m = c.args.market.now in
     let fits : FitsSigned w128 c.worth_of-worth.result = search rules in
     let slots = c.in_ok-begun.begun.slots.items in
-    let made : take (length c.args.market.now.orders) c.in_ok-begun.begun.slots.items ≡ slots_of (bounds_at c.args.market.now c.empty_prefix.result) c.args.market.now.orders = c.in_ok-begun.ensures.reals ∙ c.in_ok-reals.ensures.slots in
-    let is : (k : ℕ) → k < length c.args.market.now.orders → slot_at c.in_ok-begun.begun.slots.items k ≡ slot_of (bounds_at c.args.market.now c.empty_prefix.result (order_at c.args.market.now k)) (order_at c.args.market.now k) =
+    let made : take (length c.args.market.now.orders) c.in_ok-begun.begun.slots.items ≡ slots_of (bounds_at c.args.market.now c.empty_prefix.result) c.args.market.now.orders =
+    c.in_ok-begun.ensures.reals ∙ c.in_ok-reals.ensures.slots in
+    let is : (k : ℕ) → k < length c.args.market.now.orders
+    → slot_at c.in_ok-begun.begun.slots.items k ≡ slot_of (bounds_at c.args.market.now c.empty_prefix.result (order_at c.args.market.now k)) (order_at c.args.market.now k) =
     λ k l. slot_is (bounds_at m c.empty_prefix.result) m slots k l made in
     record {
       filled = c.in_ok-begun.ensures.filled;

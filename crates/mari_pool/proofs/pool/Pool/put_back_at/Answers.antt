@@ -26,7 +26,13 @@ returns-in-Some-clause-room g c =
     let p = c.args.self.now in
     let e = GiveBack c.in-Some.worker c.args.node in
     rw c.put_back.ensures
-    (omega (arith, c.requires.room, taken_after p.tree e c.in-Some.ensures.taker, back_owed p.tree c.in-Some.worker c.args.node p.returned c.taker.ensures.facts c.in-Some.ensures.taker, length-append p.journal (in_journal e ∷ [])))
+    (omega (
+      arith,
+      c.requires.room,
+      taken_after p.tree e c.in-Some.ensures.taker,
+      back_owed p.tree c.in-Some.worker c.args.node p.returned c.taker.ensures.facts c.in-Some.ensures.taker,
+      length-append p.journal (in_journal e ∷ []),
+    ))
 
 pub returns-in_default-clause-left : goal.returns-in_default-clause-left
 returns-in_default-clause-left g c = left_other c.args.self.now c.args.node c.requires.there c.in_default.ensures.taker

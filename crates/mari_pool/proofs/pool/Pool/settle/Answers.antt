@@ -18,8 +18,10 @@ use Rattle.mari_pool.proofs.pool.Pool.settle.Goals.{in-Close, in-Branch, in-Full
 
 pub settle-requires-clause-cutoff : goal.settle-requires-clause-cutoff
 settle-requires-clause-cutoff g c =
-    let p = pool_of c.self.inside.tree c.self.inside.queue.keys c.self.inside.journal.items (vec_capacity c.self.inside.journal) c.self.inside.turns.items c.self.inside.returned.items c.self.inside.seat in
-    let above : g.N.SearchName.incumbent.first ≤ c.args.seat.now.seen = omega (arith, ap (λ (w : IncumbentId). w.first) c.requires.incumbent.1, c.offered-offered.ensures.at_least_first, c.offered-offered.ensures.at_most_seen) in
+    let p = pool_of c.self.inside.tree c.self.inside.queue.keys c.self.inside.journal.items
+    (vec_capacity c.self.inside.journal) c.self.inside.turns.items c.self.inside.returned.items c.self.inside.seat in
+    let above : g.N.SearchName.incumbent.first ≤ c.args.seat.now.seen =
+    omega (arith, ap (λ (w : IncumbentId). w.first) c.requires.incumbent.1, c.offered-offered.ensures.at_least_first, c.offered-offered.ensures.at_most_seen) in
     subst (IsCutoff c.self.inside.tree.market) (sym c.seen-cutoff.ensures.seen)
     (seat_cutoff g.N.SearchName.market g.N.SearchName.budget g.N.SearchName.workers g.N.SearchName.incumbent p c.args.seat.now.seen c.self.invariant.0 above)
 
@@ -34,49 +36,71 @@ settle-requires-clause-finding g c =
 
 pub follow-requires : goal.follow-requires
 follow-requires g c =
-    let p = pool_of c.self.inside.tree c.self.inside.queue.keys c.self.inside.journal.items (vec_capacity c.self.inside.journal) c.self.inside.turns.items c.self.inside.returned.items c.self.inside.seat in
+    let p = pool_of c.self.inside.tree c.self.inside.queue.keys c.self.inside.journal.items
+    (vec_capacity c.self.inside.journal) c.self.inside.turns.items c.self.inside.returned.items c.self.inside.seat in
     let seen = c.args.seat.now.seen in
     let e = settling c.self.inside.tree c.args.ticket.worker c.args.ticket.node seen c.args.finding in
-    let fresh = subst (λ (q : Pooled). IsTakenAt q c.args.ticket.node c.args.ticket.turn c.args.ticket.worker (word_of c.args.ticket.prefix)) (sym c.self.view_is) (c.is_fresh.ensures.0 c.if-not-is_fresh.false) in
-    let above : g.N.SearchName.incumbent.first ≤ seen = omega (arith, ap (λ (w : IncumbentId). w.first) c.requires.incumbent.1, c.offered-offered.ensures.at_least_first, c.offered-offered.ensures.at_most_seen) in
-    let may : IsAllowed c.self.inside.tree e = may_settle g.N.SearchName.market g.N.SearchName.budget g.N.SearchName.workers g.N.SearchName.incumbent p c.args.ticket.worker c.args.ticket.node seen c.args.finding (word_of c.args.ticket.prefix) c.self.invariant.0 above fresh.taken fresh.word_is c.requires.finding in
-    let change : c.settle.new.self ≡ grown c.self.inside.tree e = c.in-Ok.ensures.change ∙ ap (λ (n : ℕ). grown c.self.inside.tree (settling c.self.inside.tree c.args.ticket.worker c.args.ticket.node n c.args.finding)) c.seen-cutoff.ensures.seen in
-    let entry : c.in-Ok.entry ≡ in_journal e = c.in-Ok.ensures.entry ∙ ap (λ (n : ℕ). in_journal (settling c.self.inside.tree c.args.ticket.worker c.args.ticket.node n c.args.finding)) c.seen-cutoff.ensures.seen in
+    let fresh = subst (λ (q : Pooled). IsTakenAt q c.args.ticket.node c.args.ticket.turn c.args.ticket.worker (word_of c.args.ticket.prefix)) (sym c.self.view_is)
+    (c.is_fresh.ensures.0 c.if-not-is_fresh.false) in
+    let above : g.N.SearchName.incumbent.first ≤ seen =
+    omega (arith, ap (λ (w : IncumbentId). w.first) c.requires.incumbent.1, c.offered-offered.ensures.at_least_first, c.offered-offered.ensures.at_most_seen) in
+    let may : IsAllowed c.self.inside.tree e = may_settle g.N.SearchName.market g.N.SearchName.budget g.N.SearchName.workers g.N.SearchName.incumbent p c.args.ticket.worker c.args.ticket.node seen
+    c.args.finding (word_of c.args.ticket.prefix) c.self.invariant.0 above fresh.taken fresh.word_is c.requires.finding in
+    let change : c.settle.new.self ≡ grown c.self.inside.tree e =
+    c.in-Ok.ensures.change ∙ ap (λ (n : ℕ). grown c.self.inside.tree (settling c.self.inside.tree c.args.ticket.worker c.args.ticket.node n c.args.finding)) c.seen-cutoff.ensures.seen in
+    let entry : c.in-Ok.entry ≡ in_journal e =
+    c.in-Ok.ensures.entry ∙ ap (λ (n : ℕ). in_journal (settling c.self.inside.tree c.args.ticket.worker c.args.ticket.node n c.args.finding)) c.seen-cutoff.ensures.seen in
     let count : c.len-nodes.result ≡ length (grown c.self.inside.tree e).nodes = c.len-nodes.ensures.len ∙ ap (λ (t : Grown). length t.nodes) change in
     subst (λ (n : ℕ). CanFollow c.self.inside.queue n c.in-Ok.entry) (sym count)
-    (subst (CanFollow c.self.inside.queue (length (grown c.self.inside.tree e).nodes)) (sym entry) (can_follow c.self.inside.tree e c.self.inside.queue c.self.invariant.2 c.self.invariant.3 c.self.invariant.0.grows.within_budget may))
+    (subst (CanFollow c.self.inside.queue (length (grown c.self.inside.tree e).nodes)) (sym entry)
+    (can_follow c.self.inside.tree e c.self.inside.queue c.self.invariant.2 c.self.invariant.3 c.self.invariant.0.grows.within_budget may))
 
 pub push_reserved-requires : goal.push_reserved-requires
 push_reserved-requires g c =
-    let p = pool_of c.self.inside.tree c.self.inside.queue.keys c.self.inside.journal.items (vec_capacity c.self.inside.journal) c.self.inside.turns.items c.self.inside.returned.items c.self.inside.seat in
+    let p = pool_of c.self.inside.tree c.self.inside.queue.keys c.self.inside.journal.items
+    (vec_capacity c.self.inside.journal) c.self.inside.turns.items c.self.inside.returned.items c.self.inside.seat in
     let seen = c.args.seat.now.seen in
     let e = settling c.self.inside.tree c.args.ticket.worker c.args.ticket.node seen c.args.finding in
-    let fresh = subst (λ (q : Pooled). IsTakenAt q c.args.ticket.node c.args.ticket.turn c.args.ticket.worker (word_of c.args.ticket.prefix)) (sym c.self.view_is) (c.is_fresh.ensures.0 c.if-not-is_fresh.false) in
-    let above : g.N.SearchName.incumbent.first ≤ seen = omega (arith, ap (λ (w : IncumbentId). w.first) c.requires.incumbent.1, c.offered-offered.ensures.at_least_first, c.offered-offered.ensures.at_most_seen) in
-    let may : IsAllowed c.self.inside.tree e = may_settle g.N.SearchName.market g.N.SearchName.budget g.N.SearchName.workers g.N.SearchName.incumbent p c.args.ticket.worker c.args.ticket.node seen c.args.finding (word_of c.args.ticket.prefix) c.self.invariant.0 above fresh.taken fresh.word_is c.requires.finding in
-    let room = has_room g.N.SearchName.market g.N.SearchName.budget g.N.SearchName.workers g.N.SearchName.incumbent p e (unreturned c.self.inside.returned.items) c.self.invariant.0 may (settling_paid c.self.inside.tree c.args.ticket.worker c.args.ticket.node seen (unreturned c.self.inside.returned.items) (closing_leaf seen c.args.finding)) in
+    let fresh = subst (λ (q : Pooled). IsTakenAt q c.args.ticket.node c.args.ticket.turn c.args.ticket.worker (word_of c.args.ticket.prefix)) (sym c.self.view_is)
+    (c.is_fresh.ensures.0 c.if-not-is_fresh.false) in
+    let above : g.N.SearchName.incumbent.first ≤ seen =
+    omega (arith, ap (λ (w : IncumbentId). w.first) c.requires.incumbent.1, c.offered-offered.ensures.at_least_first, c.offered-offered.ensures.at_most_seen) in
+    let may : IsAllowed c.self.inside.tree e = may_settle g.N.SearchName.market g.N.SearchName.budget g.N.SearchName.workers g.N.SearchName.incumbent p c.args.ticket.worker c.args.ticket.node seen
+    c.args.finding (word_of c.args.ticket.prefix) c.self.invariant.0 above fresh.taken fresh.word_is c.requires.finding in
+    let room = has_room g.N.SearchName.market g.N.SearchName.budget g.N.SearchName.workers g.N.SearchName.incumbent p e (unreturned c.self.inside.returned.items) c.self.invariant.0 may
+    (settling_paid c.self.inside.tree c.args.ticket.worker c.args.ticket.node seen (unreturned c.self.inside.returned.items) (closing_leaf seen c.args.finding)) in
     omega (arith, room, c.self.inside.journal.ok.0)
 
 pub overflow_sub-self : goal.overflow_sub-self
 overflow_sub-self g c =
-    let p = pool_of c.self.inside.tree c.self.inside.queue.keys c.self.inside.journal.items (vec_capacity c.self.inside.journal) c.self.inside.turns.items c.self.inside.returned.items c.self.inside.seat in
+    let p = pool_of c.self.inside.tree c.self.inside.queue.keys c.self.inside.journal.items
+    (vec_capacity c.self.inside.journal) c.self.inside.turns.items c.self.inside.returned.items c.self.inside.seat in
     let seen = c.args.seat.now.seen in
     let e = settling c.self.inside.tree c.args.ticket.worker c.args.ticket.node seen c.args.finding in
-    let fresh = subst (λ (q : Pooled). IsTakenAt q c.args.ticket.node c.args.ticket.turn c.args.ticket.worker (word_of c.args.ticket.prefix)) (sym c.self.view_is) (c.is_fresh.ensures.0 c.if-not-is_fresh.false) in
-    let above : g.N.SearchName.incumbent.first ≤ seen = omega (arith, ap (λ (w : IncumbentId). w.first) c.requires.incumbent.1, c.offered-offered.ensures.at_least_first, c.offered-offered.ensures.at_most_seen) in
-    let may : IsAllowed c.self.inside.tree e = may_settle g.N.SearchName.market g.N.SearchName.budget g.N.SearchName.workers g.N.SearchName.incumbent p c.args.ticket.worker c.args.ticket.node seen c.args.finding (word_of c.args.ticket.prefix) c.self.invariant.0 above fresh.taken fresh.word_is c.requires.finding in
+    let fresh = subst (λ (q : Pooled). IsTakenAt q c.args.ticket.node c.args.ticket.turn c.args.ticket.worker (word_of c.args.ticket.prefix)) (sym c.self.view_is)
+    (c.is_fresh.ensures.0 c.if-not-is_fresh.false) in
+    let above : g.N.SearchName.incumbent.first ≤ seen =
+    omega (arith, ap (λ (w : IncumbentId). w.first) c.requires.incumbent.1, c.offered-offered.ensures.at_least_first, c.offered-offered.ensures.at_most_seen) in
+    let may : IsAllowed c.self.inside.tree e = may_settle g.N.SearchName.market g.N.SearchName.budget g.N.SearchName.workers g.N.SearchName.incumbent p c.args.ticket.worker c.args.ticket.node seen
+    c.args.finding (word_of c.args.ticket.prefix) c.self.invariant.0 above fresh.taken fresh.word_is c.requires.finding in
     omega (arith, taken_after c.self.inside.tree e may, settling_comes c.self.inside.tree c.args.ticket.worker c.args.ticket.node seen (closing_leaf seen c.args.finding), c.self.invariant.1)
 
 pub invariant_of-self : goal.invariant_of-self
 invariant_of-self g c =
-    let p = pool_of c.self.inside.tree c.self.inside.queue.keys c.self.inside.journal.items (vec_capacity c.self.inside.journal) c.self.inside.turns.items c.self.inside.returned.items c.self.inside.seat in
+    let p = pool_of c.self.inside.tree c.self.inside.queue.keys c.self.inside.journal.items
+    (vec_capacity c.self.inside.journal) c.self.inside.turns.items c.self.inside.returned.items c.self.inside.seat in
     let seen = c.args.seat.now.seen in
     let e = settling c.self.inside.tree c.args.ticket.worker c.args.ticket.node seen c.args.finding in
-    let fresh = subst (λ (q : Pooled). IsTakenAt q c.args.ticket.node c.args.ticket.turn c.args.ticket.worker (word_of c.args.ticket.prefix)) (sym c.self.view_is) (c.is_fresh.ensures.0 c.if-not-is_fresh.false) in
-    let above : g.N.SearchName.incumbent.first ≤ seen = omega (arith, ap (λ (w : IncumbentId). w.first) c.requires.incumbent.1, c.offered-offered.ensures.at_least_first, c.offered-offered.ensures.at_most_seen) in
-    let may : IsAllowed c.self.inside.tree e = may_settle g.N.SearchName.market g.N.SearchName.budget g.N.SearchName.workers g.N.SearchName.incumbent p c.args.ticket.worker c.args.ticket.node seen c.args.finding (word_of c.args.ticket.prefix) c.self.invariant.0 above fresh.taken fresh.word_is c.requires.finding in
-    let change : c.settle.new.self ≡ grown c.self.inside.tree e = c.in-Ok.ensures.change ∙ ap (λ (n : ℕ). grown c.self.inside.tree (settling c.self.inside.tree c.args.ticket.worker c.args.ticket.node n c.args.finding)) c.seen-cutoff.ensures.seen in
-    let entry : c.in-Ok.entry ≡ in_journal e = c.in-Ok.ensures.entry ∙ ap (λ (n : ℕ). in_journal (settling c.self.inside.tree c.args.ticket.worker c.args.ticket.node n c.args.finding)) c.seen-cutoff.ensures.seen in
+    let fresh = subst (λ (q : Pooled). IsTakenAt q c.args.ticket.node c.args.ticket.turn c.args.ticket.worker (word_of c.args.ticket.prefix)) (sym c.self.view_is)
+    (c.is_fresh.ensures.0 c.if-not-is_fresh.false) in
+    let above : g.N.SearchName.incumbent.first ≤ seen =
+    omega (arith, ap (λ (w : IncumbentId). w.first) c.requires.incumbent.1, c.offered-offered.ensures.at_least_first, c.offered-offered.ensures.at_most_seen) in
+    let may : IsAllowed c.self.inside.tree e = may_settle g.N.SearchName.market g.N.SearchName.budget g.N.SearchName.workers g.N.SearchName.incumbent p c.args.ticket.worker c.args.ticket.node seen
+    c.args.finding (word_of c.args.ticket.prefix) c.self.invariant.0 above fresh.taken fresh.word_is c.requires.finding in
+    let change : c.settle.new.self ≡ grown c.self.inside.tree e =
+    c.in-Ok.ensures.change ∙ ap (λ (n : ℕ). grown c.self.inside.tree (settling c.self.inside.tree c.args.ticket.worker c.args.ticket.node n c.args.finding)) c.seen-cutoff.ensures.seen in
+    let entry : c.in-Ok.entry ≡ in_journal e =
+    c.in-Ok.ensures.entry ∙ ap (λ (n : ℕ). in_journal (settling c.self.inside.tree c.args.ticket.worker c.args.ticket.node n c.args.finding)) c.seen-cutoff.ensures.seen in
     let count : c.len-nodes.result ≡ length (grown c.self.inside.tree e).nodes = c.len-nodes.ensures.len ∙ ap (λ (t : Grown). length t.nodes) change in
     let q = c.self.inside.queue in
     let r = c.follow.new.self in
@@ -84,7 +108,8 @@ invariant_of-self g c =
     subst (Follows (child_key c.args.finding) (length (grown c.self.inside.tree e).nodes) q r) entry
     (subst (λ (n : ℕ). Follows (child_key c.args.finding) n q r c.in-Ok.entry) count
     (subst (λ (k : ℕ). Follows k c.len-nodes.result q r c.in-Ok.entry) c.child_key-key.ensures c.follow.ensures)) in
-    let followed : IsFollowed c.self.inside.tree e (child_key c.args.finding) q r = follows_kept c.self.inside.tree e (child_key c.args.finding) q r (settling_comes c.self.inside.tree c.args.ticket.worker c.args.ticket.node seen (closing_leaf seen c.args.finding)) c.self.invariant.2 may follows in
+    let followed : IsFollowed c.self.inside.tree e (child_key c.args.finding) q r = follows_kept c.self.inside.tree e (child_key c.args.finding) q r
+    (settling_comes c.self.inside.tree c.args.ticket.worker c.args.ticket.node seen (closing_leaf seen c.args.finding)) c.self.invariant.2 may follows in
     let seat : c.meet.new.into ≡ seat_view c.self.inside.seat.incumbent (max c.self.inside.seat.seen seen) c.self.inside.seat.offered c.self.inside.seat.parts =
     c.meet.ensures.into ∙ ap (λ (n : ℕ). seat_view c.args.incumbent.now n c.self.inside.seat.offered c.self.inside.seat.parts) c.meet.ensures.greater
     ∙ ap (λ (w : IncumbentId). seat_view w (max c.self.inside.seat.seen seen) c.self.inside.seat.offered c.self.inside.seat.parts) (c.requires.incumbent.0 ∙ sym c.self.invariant.0.fresh.0) in (
@@ -93,22 +118,35 @@ invariant_of-self g c =
           c.push_reserved.new.self.items (vec_capacity c.self.inside.journal) (vec_capacity c.push_reserved.new.self) c.self.inside.turns.items
           c.self.inside.returned.items _ c.meet.new.into
           change followed.keys (c.push_reserved.ensures.items ∙ ap (λ (j : JournalEntry). c.self.inside.journal.items ++ j ∷ []) entry) c.push_reserved.ensures.capacity seat
-          (settle_keeps g.N.SearchName.market g.N.SearchName.budget g.N.SearchName.workers g.N.SearchName.incumbent p c.args.ticket.worker c.args.ticket.node seen c.args.finding c.self.invariant.0 may),
-      omega (arith, ap (λ (t : Grown). taken_among t.nodes) change, taken_after c.self.inside.tree e may, settling_comes c.self.inside.tree c.args.ticket.worker c.args.ticket.node seen (closing_leaf seen c.args.finding), c.self.invariant.1),
+          (settle_keeps g.N.SearchName.market g.N.SearchName.budget g.N.SearchName.workers g.N.SearchName.incumbent p c.args.ticket.worker c.args.ticket.node seen
+          c.args.finding c.self.invariant.0 may),
+      omega (
+        arith,
+        ap (λ (t : Grown). taken_among t.nodes) change,
+        taken_after c.self.inside.tree e may,
+        settling_comes c.self.inside.tree c.args.ticket.worker c.args.ticket.node seen (closing_leaf seen c.args.finding),
+        c.self.invariant.1,
+      ),
       subst (λ (t : Grown). IsQueueOf t.nodes r) (sym change) followed.queue,
       followed.room ∙ c.self.invariant.3 ∙ sym (ap (λ (t : Grown). t.budget) change ∙ grown_budget c.self.inside.tree e),
     )
 
 pub returns-clause-settled : goal.returns-clause-settled
 returns-clause-settled g c = λ _.
-    let p = pool_of c.self.inside.tree c.self.inside.queue.keys c.self.inside.journal.items (vec_capacity c.self.inside.journal) c.self.inside.turns.items c.self.inside.returned.items c.self.inside.seat in
+    let p = pool_of c.self.inside.tree c.self.inside.queue.keys c.self.inside.journal.items
+    (vec_capacity c.self.inside.journal) c.self.inside.turns.items c.self.inside.returned.items c.self.inside.seat in
     let seen = c.args.seat.now.seen in
     let e = settling c.self.inside.tree c.args.ticket.worker c.args.ticket.node seen c.args.finding in
-    let fresh = subst (λ (q : Pooled). IsTakenAt q c.args.ticket.node c.args.ticket.turn c.args.ticket.worker (word_of c.args.ticket.prefix)) (sym c.self.view_is) (c.is_fresh.ensures.0 c.if-not-is_fresh.false) in
-    let above : g.N.SearchName.incumbent.first ≤ seen = omega (arith, ap (λ (w : IncumbentId). w.first) c.requires.incumbent.1, c.offered-offered.ensures.at_least_first, c.offered-offered.ensures.at_most_seen) in
-    let may : IsAllowed c.self.inside.tree e = may_settle g.N.SearchName.market g.N.SearchName.budget g.N.SearchName.workers g.N.SearchName.incumbent p c.args.ticket.worker c.args.ticket.node seen c.args.finding (word_of c.args.ticket.prefix) c.self.invariant.0 above fresh.taken fresh.word_is c.requires.finding in
-    let change : c.settle.new.self ≡ grown c.self.inside.tree e = c.in-Ok.ensures.change ∙ ap (λ (n : ℕ). grown c.self.inside.tree (settling c.self.inside.tree c.args.ticket.worker c.args.ticket.node n c.args.finding)) c.seen-cutoff.ensures.seen in
-    let entry : c.in-Ok.entry ≡ in_journal e = c.in-Ok.ensures.entry ∙ ap (λ (n : ℕ). in_journal (settling c.self.inside.tree c.args.ticket.worker c.args.ticket.node n c.args.finding)) c.seen-cutoff.ensures.seen in
+    let fresh = subst (λ (q : Pooled). IsTakenAt q c.args.ticket.node c.args.ticket.turn c.args.ticket.worker (word_of c.args.ticket.prefix)) (sym c.self.view_is)
+    (c.is_fresh.ensures.0 c.if-not-is_fresh.false) in
+    let above : g.N.SearchName.incumbent.first ≤ seen =
+    omega (arith, ap (λ (w : IncumbentId). w.first) c.requires.incumbent.1, c.offered-offered.ensures.at_least_first, c.offered-offered.ensures.at_most_seen) in
+    let may : IsAllowed c.self.inside.tree e = may_settle g.N.SearchName.market g.N.SearchName.budget g.N.SearchName.workers g.N.SearchName.incumbent p c.args.ticket.worker c.args.ticket.node seen
+    c.args.finding (word_of c.args.ticket.prefix) c.self.invariant.0 above fresh.taken fresh.word_is c.requires.finding in
+    let change : c.settle.new.self ≡ grown c.self.inside.tree e =
+    c.in-Ok.ensures.change ∙ ap (λ (n : ℕ). grown c.self.inside.tree (settling c.self.inside.tree c.args.ticket.worker c.args.ticket.node n c.args.finding)) c.seen-cutoff.ensures.seen in
+    let entry : c.in-Ok.entry ≡ in_journal e =
+    c.in-Ok.ensures.entry ∙ ap (λ (n : ℕ). in_journal (settling c.self.inside.tree c.args.ticket.worker c.args.ticket.node n c.args.finding)) c.seen-cutoff.ensures.seen in
     let count : c.len-nodes.result ≡ length (grown c.self.inside.tree e).nodes = c.len-nodes.ensures.len ∙ ap (λ (t : Grown). length t.nodes) change in
     let q = c.self.inside.queue in
     let r = c.follow.new.self in
@@ -116,7 +154,8 @@ returns-clause-settled g c = λ _.
     subst (Follows (child_key c.args.finding) (length (grown c.self.inside.tree e).nodes) q r) entry
     (subst (λ (n : ℕ). Follows (child_key c.args.finding) n q r c.in-Ok.entry) count
     (subst (λ (k : ℕ). Follows k c.len-nodes.result q r c.in-Ok.entry) c.child_key-key.ensures c.follow.ensures)) in
-    let followed : IsFollowed c.self.inside.tree e (child_key c.args.finding) q r = follows_kept c.self.inside.tree e (child_key c.args.finding) q r (settling_comes c.self.inside.tree c.args.ticket.worker c.args.ticket.node seen (closing_leaf seen c.args.finding)) c.self.invariant.2 may follows in
+    let followed : IsFollowed c.self.inside.tree e (child_key c.args.finding) q r = follows_kept c.self.inside.tree e (child_key c.args.finding) q r
+    (settling_comes c.self.inside.tree c.args.ticket.worker c.args.ticket.node seen (closing_leaf seen c.args.finding)) c.self.invariant.2 may follows in
     let seat : c.meet.new.into ≡ seat_view c.self.inside.seat.incumbent (max c.self.inside.seat.seen seen) c.self.inside.seat.offered c.self.inside.seat.parts =
     c.meet.ensures.into ∙ ap (λ (n : ℕ). seat_view c.args.incumbent.now n c.self.inside.seat.offered c.self.inside.seat.parts) c.meet.ensures.greater
     ∙ ap (λ (w : IncumbentId). seat_view w (max c.self.inside.seat.seen seen) c.self.inside.seat.offered c.self.inside.seat.parts) (c.requires.incumbent.0 ∙ sym c.self.invariant.0.fresh.0) in

@@ -19,17 +19,25 @@ use Rattle.mari_pool.proofs.pool.Pool.take.Goals as goal
 
 pub push_reserved-requires : goal.push_reserved-requires
 push_reserved-requires g c =
-    let p = pool_of c.self.inside.tree c.self.inside.queue.keys c.self.inside.journal.items (vec_capacity c.self.inside.journal) c.self.inside.turns.items c.self.inside.returned.items c.self.inside.seat in
+    let p = pool_of c.self.inside.tree c.self.inside.queue.keys c.self.inside.journal.items
+    (vec_capacity c.self.inside.journal) c.self.inside.turns.items c.self.inside.returned.items c.self.inside.seat in
     let e = Take c.args.worker c.in-Some.node in
     let may : IsAllowed c.self.inside.tree e = first_waits c.self.inside.tree.nodes c.self.inside.queue c.take_first.new.self c.in-Some.node c.self.invariant.2 c.in-Some.ensures in
     let not_full : c.self.inside.tree.full ≡ false = sym c.is_full.ensures.full ∙ c.if-is_full.false in
-    let room = has_room g.N.SearchName.market g.N.SearchName.budget g.N.SearchName.workers g.N.SearchName.incumbent p e (unreturned c.self.inside.returned.items) c.self.invariant.0 may (not_full, refl) in
+    let room =
+    has_room g.N.SearchName.market g.N.SearchName.budget g.N.SearchName.workers g.N.SearchName.incumbent p e (unreturned c.self.inside.returned.items) c.self.invariant.0 may (not_full, refl) in
     omega (arith, room, c.self.inside.journal.ok.0)
 
 pub index_mut-requires : goal.index_mut-requires
 index_mut-requires g c =
-    omega
-    (arith, within_nodes c.self.inside.tree.nodes c.in-Some.node Untaken (first_waits c.self.inside.tree.nodes c.self.inside.queue c.take_first.new.self c.in-Some.node c.self.invariant.2 c.in-Some.ensures), c.self.invariant.0.grows.within_budget, c.self.invariant.0.budget_is, c.self.invariant.0.turns_are, c.self.inside.turns.ok.0)
+    omega (
+      arith,
+      within_nodes c.self.inside.tree.nodes c.in-Some.node Untaken (first_waits c.self.inside.tree.nodes c.self.inside.queue c.take_first.new.self c.in-Some.node c.self.invariant.2 c.in-Some.ensures),
+      c.self.invariant.0.grows.within_budget,
+      c.self.invariant.0.budget_is,
+      c.self.invariant.0.turns_are,
+      c.self.inside.turns.ok.0,
+    )
 
 pub overflow_add-self : goal.overflow_add-self
 overflow_add-self g c =
@@ -37,11 +45,13 @@ overflow_add-self g c =
 
 pub invariant_of-self-2 : goal.invariant_of-self-2
 invariant_of-self-2 g c =
-    let p = pool_of c.self.inside.tree c.self.inside.queue.keys c.self.inside.journal.items (vec_capacity c.self.inside.journal) c.self.inside.turns.items c.self.inside.returned.items c.self.inside.seat in
+    let p = pool_of c.self.inside.tree c.self.inside.queue.keys c.self.inside.journal.items
+    (vec_capacity c.self.inside.journal) c.self.inside.turns.items c.self.inside.returned.items c.self.inside.seat in
     let e = Take c.args.worker c.in-Some.node in
     let may : IsAllowed c.self.inside.tree e = first_waits c.self.inside.tree.nodes c.self.inside.queue c.take_first.new.self c.in-Some.node c.self.invariant.2 c.in-Some.ensures in
     let not_full : c.self.inside.tree.full ≡ false = sym c.is_full.ensures.full ∙ c.if-is_full.false in
-    let within : c.in-Some.node < length c.self.inside.turns.items = omega (arith, within_nodes c.self.inside.tree.nodes c.in-Some.node Untaken may, c.self.invariant.0.grows.within_budget, c.self.invariant.0.budget_is, c.self.invariant.0.turns_are) in
+    let within : c.in-Some.node < length c.self.inside.turns.items =
+    omega (arith, within_nodes c.self.inside.tree.nodes c.in-Some.node Untaken may, c.self.invariant.0.grows.within_budget, c.self.invariant.0.budget_is, c.self.invariant.0.turns_are) in
     let turn : c.len-turn.result ≡ length c.self.inside.journal.items = omega (arith, c.len-turn.ensures, c.self.inside.journal.ok.0) in
     let change : c.take.new.self ≡ grown c.self.inside.tree e = c.in-Ok.ensures.change in (
       pool_same g.N.SearchName.market g.N.SearchName.budget g.N.SearchName.workers g.N.SearchName.incumbent (grown c.self.inside.tree e)
@@ -49,16 +59,21 @@ invariant_of-self-2 g c =
           c.push_reserved.new.self.items (vec_capacity c.self.inside.journal) (vec_capacity c.push_reserved.new.self)
           (set c.self.inside.turns.items c.in-Some.node c.len-turn.result) c.self.inside.returned.items c.self.inside.seat c.self.inside.seat
           change c.in-Some.ensures.keys c.push_reserved.ensures.items c.push_reserved.ensures.capacity refl
-          (entry_keeps g.N.SearchName.market g.N.SearchName.budget g.N.SearchName.workers g.N.SearchName.incumbent p e c.self.inside.queue.keys (set c.self.inside.turns.items c.in-Some.node c.len-turn.result) c.self.inside.returned.items c.self.invariant.0 may (not_full, refl) tt (c.self.invariant.0.keys_are ∙ sym (length-with_state (Taken c.args.worker) c.self.inside.tree.nodes c.in-Some.node)) (length-set c.self.inside.turns.items c.in-Some.node c.len-turn.result) refl
+          (entry_keeps g.N.SearchName.market g.N.SearchName.budget g.N.SearchName.workers g.N.SearchName.incumbent p e c.self.inside.queue.keys
+          (set c.self.inside.turns.items c.in-Some.node c.len-turn.result) c.self.inside.returned.items c.self.invariant.0 may (not_full, refl) tt (c.self.invariant.0.keys_are
+          ∙ sym (length-with_state (Taken c.args.worker) c.self.inside.tree.nodes c.in-Some.node)) (length-set c.self.inside.turns.items c.in-Some.node c.len-turn.result) refl
           (turns_take c.self.inside.tree c.args.worker c.in-Some.node c.len-turn.result c.self.inside.turns.items c.self.inside.journal.items within turn c.self.invariant.0.turns_report)),
       omega (arith, ap (λ (t : Grown). taken_among t.nodes) change, taken_after c.self.inside.tree e may, c.self.invariant.1),
-      subst (λ (t : Grown). IsQueueOf t.nodes c.take_first.new.self) (sym change) (queue_taken c.self.inside.tree.nodes c.self.inside.queue c.take_first.new.self c.in-Some.node c.args.worker c.self.invariant.2 c.in-Some.ensures),
+      subst (λ (t : Grown). IsQueueOf t.nodes c.take_first.new.self) (sym change)
+          (queue_taken c.self.inside.tree.nodes c.self.inside.queue c.take_first.new.self c.in-Some.node c.args.worker c.self.invariant.2 c.in-Some.ensures),
       c.in-Some.ensures.room ∙ c.self.invariant.3 ∙ sym (ap (λ (t : Grown). t.budget) change),
     )
 
 pub invariant_of-self : goal.invariant_of-self
 invariant_of-self g c =
-    let idle = λ (q : Queued). IsPool g.N.SearchName.market g.N.SearchName.budget g.N.SearchName.workers g.N.SearchName.incumbent (pool_of c.self.inside.tree q.keys c.self.inside.journal.items (vec_capacity c.self.inside.journal) c.self.inside.turns.items c.self.inside.returned.items c.self.inside.seat) × (taken_among c.self.inside.tree.nodes ≡ c.self.inside.taken) × IsQueueOf c.self.inside.tree.nodes q × (q.room ≡ c.self.inside.tree.budget) in
+    let idle = λ (q : Queued). IsPool g.N.SearchName.market g.N.SearchName.budget g.N.SearchName.workers g.N.SearchName.incumbent
+    (pool_of c.self.inside.tree q.keys c.self.inside.journal.items (vec_capacity c.self.inside.journal) c.self.inside.turns.items c.self.inside.returned.items c.self.inside.seat)
+    × (taken_among c.self.inside.tree.nodes ≡ c.self.inside.taken) × IsQueueOf c.self.inside.tree.nodes q × (q.room ≡ c.self.inside.tree.budget) in
     subst idle (sym c.in_default.ensures.1) c.self.invariant
 
 pub unreachable-requires : goal.unreachable-requires
@@ -69,7 +84,8 @@ unreachable-requires g c =
 
 pub unreachable-requires-in_default-take : goal.unreachable-requires-in_default-take
 unreachable-requires-in_default-take g c =
-    let may : state_at c.self.inside.tree.nodes c.in-Some.node ≡ Some Untaken = first_waits c.self.inside.tree.nodes c.self.inside.queue c.take_first.new.self c.in-Some.node c.self.invariant.2 c.in-Some.ensures in
+    let may : state_at c.self.inside.tree.nodes c.in-Some.node ≡ Some Untaken =
+    first_waits c.self.inside.tree.nodes c.self.inside.queue c.take_first.new.self c.in-Some.node c.self.invariant.2 c.in-Some.ensures in
     let refused : take_refused (state_at c.self.inside.tree.nodes c.in-Some.node) ≡ None = ap take_refused may in
     let h = c.in_default-take.ensures.answer in
     absurd (cc)

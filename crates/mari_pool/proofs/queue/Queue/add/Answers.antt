@@ -9,7 +9,8 @@ invariant_of-self c =
     let keys = c.self.inside.keys.items in
     let room : length keys < c.self.inside.room = omega (arith, c.requires.keys, ap (λ (q : Queued). length q.keys) c.self.view_is, ap (λ (q : Queued). q.room) c.self.view_is) in (
       c.self.invariant.0,
-      subst (λ (ks : List ℕ). All (IsKeyed ks) (heap_items c.self.inside.waiting)) (sym c.push_reserved.ensures.items) (keyed_more keys c.args.key (heap_items c.self.inside.waiting) c.self.invariant.1),
+      subst (λ (ks : List ℕ). All (IsKeyed ks) (heap_items c.self.inside.waiting)) (sym c.push_reserved.ensures.items)
+          (keyed_more keys c.args.key (heap_items c.self.inside.waiting) c.self.invariant.1),
       omega (arith, room, ap length c.push_reserved.ensures.items, length-append keys (c.args.key ∷ [])),
       c.self.invariant.3,
       omega (arith, c.push_reserved.ensures.capacity, c.self.invariant.4),

@@ -4,11 +4,19 @@ use Rattle.mari_pool.proofs.queue.Queue.grow.Goals as goal
 
 pub add-requires-clause-waiting : goal.add-requires-clause-waiting
 add-requires-clause-waiting c =
-    omega
-    (arith, length_waiting c.args.key (c.loop.counter - length c.args.self.now.keys) c.args.self.now c.loop.self c.loop.invariant.more, c.loop.invariant.more.room, c.loop.invariant.from, c.requires.waiting, c.requires.count, c.loop-test.true)
+    omega (
+      arith,
+      length_waiting c.args.key (c.loop.counter - length c.args.self.now.keys) c.args.self.now c.loop.self c.loop.invariant.more,
+      c.loop.invariant.more.room,
+      c.loop.invariant.from,
+      c.requires.waiting,
+      c.requires.count,
+      c.loop-test.true,
+    )
 
 pub loop-preserved : goal.loop-preserved
 loop-preserved c = record {
-  more = more_one c.args.key (c.loop.counter - length c.args.self.now.keys) (c.loop.counter + 1 - length c.args.self.now.keys) c.args.self.now c.loop.self c.add.new.self c.loop.invariant.more c.add.ensures (omega (arith, c.loop.invariant.from));
+  more = more_one c.args.key (c.loop.counter - length c.args.self.now.keys)
+      (c.loop.counter + 1 - length c.args.self.now.keys) c.args.self.now c.loop.self c.add.new.self c.loop.invariant.more c.add.ensures (omega (arith, c.loop.invariant.from));
   from = omega (arith, c.loop.invariant.from);
 }

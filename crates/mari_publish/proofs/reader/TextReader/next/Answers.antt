@@ -26,8 +26,12 @@ returns-in_err-part-clause-one c = λ text parts answer s a.
 
 pub invariant_of-self-then-is_none : goal.invariant_of-self-then-is_none
 invariant_of-self-then-is_none c =
-    let h = c.self.invariant.1 in
-    (c.forget.ensures.handled, (h.0, with_answer h.1 c.next_part.result, c.forget.ensures.stands h.0 (with_answer h.1 c.next_part.result) (c.next_part.ensures.stands h.0 h.1 h.2)), λ yes. c.forget.ensures.no_line, λ yes. c.forget.ensures.few)
+    let h = c.self.invariant.1 in (
+      c.forget.ensures.handled,
+      (h.0, with_answer h.1 c.next_part.result, c.forget.ensures.stands h.0 (with_answer h.1 c.next_part.result) (c.next_part.ensures.stands h.0 h.1 h.2)),
+      λ yes. c.forget.ensures.no_line,
+      λ yes. c.forget.ensures.few,
+    )
 
 pub invariant_of-self-else-is_none : goal.invariant_of-self-else-is_none
 invariant_of-self-else-is_none c =
@@ -41,7 +45,8 @@ pub returns-clause-stands : goal.returns-clause-stands
 returns-clause-stands c = λ text parts s.
     let old = subst (λ (r : ReaderState). ComesFrom r.come text parts) (sym c.self.view_is) s in
     elim c.if-is_none.branch [
-      | then-is_none w ↦ subst (λ (r : ReaderState). ComesFrom r.come text (with_part parts c.in_ok-part.part)) (sym w.self-is) (w.forget.ensures.stands text (with_part parts c.in_ok-part.part) (c.in_ok-part.ensures.stands text parts old))
+      | then-is_none w ↦ subst (λ (r : ReaderState). ComesFrom r.come text (with_part parts c.in_ok-part.part)) (sym w.self-is)
+          (w.forget.ensures.stands text (with_part parts c.in_ok-part.part) (c.in_ok-part.ensures.stands text parts old))
       | else-is_none w ↦ subst (λ (r : ReaderState). ComesFrom r.come text (with_part parts c.in_ok-part.part)) (sym w.self-is) (c.in_ok-part.ensures.stands text parts old)
     ]
 

@@ -27,7 +27,8 @@ pub returns-then-provider-lt0 : goal.returns-then-provider-lt0
 returns-then-provider-lt0 c = λ gap r e.
     let read = c.in_ok-provider.ensures in
     let p = c.in-Provider.provider in
-    let same : p.amount ≡ gap = amount_is p gap (sym c.in-Provider.is ∙ the_line c.in_ok-provider.field-0 (line.Provider (paid gap)) (codes "provider x " ++ c.args.text.now) read.0 read.1 (provider_of gap c.args.text.now r e)) in
+    let same : p.amount ≡ gap = amount_is p gap
+    (sym c.in-Provider.is ∙ the_line c.in_ok-provider.field-0 (line.Provider (paid gap)) (codes "provider x " ++ c.args.text.now) read.0 read.1 (provider_of gap c.args.text.now r e)) in
     let value : p.amount.0 ≡ gap.0 = ap (λ (q : Quarters). q.0) same in
     omega (arith, ints, value, r.0, r.1)
 

@@ -18,7 +18,8 @@ run_market-requires-clause-mws c = kept-mws c.args.books.now c.requires.accepted
 
 pub returns-clause-market : goal.returns-clause-market
 returns-clause-market c = λ blocks stands next.
-    let e = ap (λ (taken : Taken). run_market_left c.args.books.now taken c.args.run) (same-taken c.args.books.now c.requires.accepted blocks c.args.self.now stands c.args.run (omega (arith, next)) c.requires.last) in
+    let e = ap (λ (taken : Taken). run_market_left c.args.books.now taken c.args.run)
+    (same-taken c.args.books.now c.requires.accepted blocks c.args.self.now stands c.args.run (omega (arith, next)) c.requires.last) in
     subst (λ (m : RunMarket). IfOk c.run_market.result (λ made. made ≡ m)) e c.run_market.ensures
 
 pub returns-clause-valid : goal.returns-clause-valid

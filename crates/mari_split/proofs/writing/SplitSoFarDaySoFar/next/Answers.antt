@@ -53,7 +53,8 @@ returns-clause-next g c = λ blocks keeps is.
     elim c.match-settled-2.branch [
       | in-Some w ↦ (
           let settled = own books day.budget blocks run done (Some w.in-Some.settled) w.in-Some.is in
-          let kept = some_more books day.budget blocks day.progress keeps.kept last run.block done.block w.in-Some.settled settled _ (λ b adds. w.add.ensures (blocks_of blocks) b keeps.kept after adds) in
+          let kept =
+          some_more books day.budget blocks day.progress keeps.kept last run.block done.block w.in-Some.settled settled _ (λ b adds. w.add.ensures (blocks_of blocks) b keeps.kept after adds) in
           subst Next (sym w.self-is) (next _ kept))
       | in_default w ↦ (
           let settled = own books day.budget blocks run done None w.in_default.is in

@@ -20,7 +20,11 @@ returns c =
     let new = c.drop_below.new.self in
     let done = ap (λ (v : Vec TreeItem Global). v.items) c.drop_below.ensures.done ∙ c.in_ok-push.ensures.items in
     record {
-      goes_on = leaf_done c.args.market.now c.args.welfare c.args.prefix.now Branch c.args.leaf c.args.self.now.done.items c.args.self.now.left.items new.done.items new.left.items new.next c.requires.walk (record { holds = c.requires.leaf; node = node_here c.args.market.now c.args.welfare c.args.prefix.now c.args.self.now.done.items c.args.self.now.left.items c.requires.market c.requires.walk }) done c.drop_below.ensures.next c.drop_below.ensures.below.after c.drop_below.ensures.below.feasible;
+      goes_on = leaf_done c.args.market.now c.args.welfare c.args.prefix.now Branch c.args.leaf c.args.self.now.done.items c.args.self.now.left.items new.done.items new.left.items new.next
+          c.requires.walk (record {
+            holds = c.requires.leaf;
+            node = node_here c.args.market.now c.args.welfare c.args.prefix.now c.args.self.now.done.items c.args.self.now.left.items c.requires.market c.requires.walk;
+          }) done c.drop_below.ensures.next c.drop_below.ensures.below.after c.drop_below.ensures.below.feasible;
       count = omega (arith, ap length done, length-append c.args.self.now.done.items (Leaf c.args.leaf ∷ []));
       no_more = c.drop_below.ensures.fewer;
     }

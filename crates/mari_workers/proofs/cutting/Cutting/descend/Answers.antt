@@ -10,7 +10,8 @@ child_of-requires-clause-room c = room_of c.args.market.now c.args.prefix.now c.
 
 pub returns : goal.returns
 returns c = record {
-  goes_on = branch_kept c.args.market.now c.args.welfare c.args.prefix.now c.child_of.result c.args.self.now.done.items c.args.self.now.left.items c.push.new.self.items c.requires.walk c.in_ok-push.ensures.items c.child_of.ensures.word c.child_of.ensures.cleared;
+  goes_on = branch_kept c.args.market.now c.args.welfare c.args.prefix.now c.child_of.result c.args.self.now.done.items c.args.self.now.left.items c.push.new.self.items c.requires.walk
+      c.in_ok-push.ensures.items c.child_of.ensures.word c.child_of.ensures.cleared;
   count = omega (arith, ap length c.in_ok-push.ensures.items, length-append c.args.self.now.done.items (Branch ∷ []));
   no_more = omega arith;
 }

@@ -7,7 +7,8 @@ use Rattle.mari_workers.proofs.cutting.Cutting.drop_item.Goals as goal
 
 pub child_of-requires-clause-room : goal.child_of-requires-clause-room
 child_of-requires-clause-room c =
-    room_of c.args.market.now c.args.at.now c.requires.market (below_room c.args.market.now c.args.welfare (word_of c.args.above.now) c.args.at.now c.pop.new.self.items c.args.self.now.left.items c.requires.below
+    room_of c.args.market.now c.args.at.now c.requires.market
+    (below_room c.args.market.now c.args.welfare (word_of c.args.above.now) c.args.at.now c.pop.new.self.items c.args.self.now.left.items c.requires.below
     (c.in-Some-Branch.ensures.items ∙ ap (λ (item : TreeItem). c.pop.new.self.items ++ item ∷ []) c.in-Some-Branch.field-0-is))
 
 pub returns-in-Some-Leaf-clause-below : goal.returns-in-Some-Leaf-clause-below

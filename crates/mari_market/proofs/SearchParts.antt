@@ -18,19 +18,16 @@ visited m (word ∷ words) (Closed ∷ items) = word ∷ visited m words items
 visited m (word ∷ words) (Pending ∷ items) = word ∷ visited m words items
 
 visited_count : (m : Market) (words : List (List Bool)) (items : List PartItem) → ArePartsOfSearch m words items → length (visited m words items) ≡ length items
-visited_count m [] [] p = refl
-visited_count m [] (item ∷ items) p = absurd p
-visited_count m (word ∷ words) [] p = absurd p
 visited_count m (word ∷ words) (Branch ∷ items) p = ap suc (visited_count m (children m.gates word ++ words) items p.2)
 visited_count m (word ∷ words) (Closed ∷ items) p = ap suc (visited_count m words items p.1)
 visited_count m (word ∷ words) (Pending ∷ items) p = ap suc (visited_count m words items p.1)
+visited_count m _ _ p = grind arith
 
 visited_nodes : (m : Market) (words : List (List Bool)) (items : List PartItem) → ArePartsOfSearch m words items → Each (IsNode m) (visited m words items)
-visited_nodes m [] items p = tt
-visited_nodes m (word ∷ words) [] p = absurd p
 visited_nodes m (word ∷ words) (Branch ∷ items) p = (p.0, visited_nodes m (children m.gates word ++ words) items p.2)
 visited_nodes m (word ∷ words) (Closed ∷ items) p = (p.0, visited_nodes m words items p.1)
 visited_nodes m (word ∷ words) (Pending ∷ items) p = (p.0, visited_nodes m words items p.1)
+visited_nodes m _ _ p = omega arith
 
 -- ---- what holds of each of them
 

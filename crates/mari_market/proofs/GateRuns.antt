@@ -15,8 +15,7 @@ runs_more g (o ∷ os) (q ∷ qs) (suc i) d h l =
     ∙ regrouped (is_run_of g o q) (runs_gate g (take i os) (take i qs)) (is_run_of g (get_or os i d) (get_or qs i 0))
   where
     regrouped : (x y z : Bool) → (x || (y || z)) ≡ ((x || y) || z)
-    regrouped true y z = refl
-    regrouped false y z = refl
+    regrouped x y z = grind arith
 runs_more g _ _ _ d h l = grind arith
 
 -- a loop's step: what is marked so far, and the order's gate where it runs

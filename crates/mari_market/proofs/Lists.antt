@@ -8,8 +8,7 @@ use Rattle.mari_market.proofs.Sums.{AllZip-at}
 
 -- what follows from either answer of a test
 pub by_test : {P : Type 0} (b : Bool) → (b ≡ true → P) → (b ≡ false → P) → P
-by_test true f g = f refl
-by_test false f g = g refl
+by_test b f g = grind arith
 
 -- one more pair, for a loop's step
 pub AllZip_more : {X Y : Type 0} (P : X → Y → Type 0) (xs : List X) (ys : List Y) (i : ℕ) (d : X) (e : Y)

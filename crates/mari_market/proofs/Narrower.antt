@@ -52,8 +52,7 @@ get_opened (c ∷ cs) (suc g) e = get_opened cs g e
 get_opened _ _ e = grind arith
 
 or_kept : (a b c : Bool) → (b ≡ true → c ≡ true) → (a || b) ≡ true → (a || c) ≡ true
-or_kept true b c h e = refl
-or_kept false b c h e = h e
+or_kept a b c h e = grind arith
 
 -- a group that is taken stays so
 group_stays : (k : ℕ) (gates : List GateInfo) (word : List Bool) (b : Bool) → group_taken k gates word ≡ true → group_taken k gates (word ++ b ∷ []) ≡ true
@@ -101,11 +100,8 @@ may_be_open gates word n g may e =
 
 kept_by : (o p : Option Bool) (s t : GateState) → (s ≡ Open → ⊥) → ((c : Bool) → o ≡ Some c → p ≡ o)
     → (s ≡ Closed → t ≡ Closed) → (o ≡ None → p ≡ Some true → s ≡ Closed → ⊥) → IsKept (decided o s) (decided p t)
-kept_by (Some true) p s t n h k x = kept_same Open (decided p t) (sym (ap (λ (q : Option Bool). decided q t) (h true refl)))
 kept_by (Some false) p s t n h k x = kept_same Closed (decided p t) (sym (ap (λ (q : Option Bool). decided q t) (h false refl)))
-kept_by None None s t n h k x = record { stays_open = λ e. absurd (n e); stays_closed = k }
-kept_by None (Some true) s t n h k x = record { stays_open = λ e. absurd (n e); stays_closed = λ e. absurd (x refl refl e) }
-kept_by None (Some false) s t n h k x = record { stays_open = λ e. absurd (n e); stays_closed = λ e. refl }
+kept_by _ _ s t n h k x = grind arith
 
 -- one decision more keeps what a word says of each gate
 states_kept : (gates : List GateInfo) (word : List Bool) (b : Bool)
@@ -133,8 +129,7 @@ gated_narrower : (s t : GateState) (o : Order) → IsKept s t → o.least ≤ o.
 gated_narrower s t o k l = grind arith
 
 span_narrower : (up low : ℕ → GateState) (gate : Option ℕ) (o : Order) → ((g : ℕ) → IsKept (up g) (low g)) → o.least ≤ o.greatest → IsNarrower (span_of up gate o) (span_of low gate o)
-span_narrower up low None o k l = record { low = omega arith; high = omega arith; some = omega arith }
-span_narrower up low (Some g) o k l = gated_narrower (up g) (low g) o (k g) l
+span_narrower up low gate o k l = grind arith
 
 -- the bounds of each order at a child lie within those at the word
 bounds_narrower : (m : Market) (word : List Bool) (b : Bool) (o : Order)
@@ -162,16 +157,13 @@ dual_narrower m up low ps v n =
     omega (arith, ints, orders)
 
 least_rises : (side : Side) (s t : Span) → IsNarrower s t → least_put side s ≤ℤ least_put side t
-least_rises Inject s t n = omega (arith, ints, n.low)
-least_rises Withdraw s t n = omega (arith, ints, n.high)
+least_rises side s t n = grind (arith, ints)
 
 most_falls : (side : Side) (s t : Span) → IsNarrower s t → most_put side t ≤ℤ most_put side s
-most_falls Inject s t n = omega (arith, ints, n.high)
-most_falls Withdraw s t n = omega (arith, ints, n.low)
+most_falls side s t n = grind (arith, ints)
 
 if_le : (b : Bool) (x y : ℤ) → x ≤ℤ y → (if b then x else pos 0) ≤ℤ (if b then y else pos 0)
-if_le true x y l = l
-if_le false x y l = omega (arith, ints)
+if_le b x y l = grind (arith, ints)
 
 cut_stays : (m : Market) (up low : Order → Span) (side : CutSide) (zones : List ℕ) → IsValid m
     → ((o : Order) → IsValidOrder m.zones (length m.gates) o → IsNarrower (up o) (low o))

@@ -28,8 +28,7 @@ pub before_cons : (b : Bool) (xs ys : List Bool) → ComesBefore xs ys → Comes
 before_cons b xs ys h = record { gate = suc h.gate; same = same; closed = h.closed; opened = h.opened }
   where
     same : (g : ℕ) → g < suc h.gate → opens_in (b ∷ xs) g ≡ opens_in (b ∷ ys) g
-    same zero l = refl
-    same (suc g) l = h.same g (omega arith)
+    same g l = grind arith
 
 pub before_here : (xs ys : List Bool) → ComesBefore (false ∷ xs) (true ∷ ys)
 before_here xs ys = record { gate = 0; same = λ g l. absurd (omega arith); closed = refl; opened = refl }
@@ -67,9 +66,8 @@ same_or_before (false ∷ bs) (false ∷ cs) e = elim (same_or_before bs cs (ome
 same_or_before _ _ e = grind arith
 
 pub closed_opens : (n g : ℕ) → opens_in (replicate n false) g ≡ false
-closed_opens zero g = refl
-closed_opens (suc n) zero = refl
 closed_opens (suc n) (suc g) = closed_opens n g
+closed_opens _ _ = refl
 
 -- nothing comes before a word that opens no gate
 pub none_before_closed : (n : ℕ) (word : List Bool) → ComesBefore word (replicate n false) → ⊥
@@ -92,8 +90,7 @@ empty_before (false ∷ bs) (suc g) e = later (empty_before bs g e)
     later h = record { gate = suc h.gate; same = same; closed = refl; opened = h.opened }
       where
         same : (i : ℕ) → i < suc h.gate → opens_in [] i ≡ opens_in (false ∷ bs) i
-        same zero l = refl
-        same (suc i) l = h.same i (omega arith)
+        same i l = grind arith
 empty_before _ _ e = grind arith
 
 -- what open gates begin with comes before each word that they come before

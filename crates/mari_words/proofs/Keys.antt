@@ -159,30 +159,11 @@ empty_use Workers rows n = filled_not n refl
 
 same_key : (a b : Key) → bytes_eq (id a) (id b) ≡ true → a ≡ b
 same_key First First h = refl
-same_key First Second h = absurd (true≢false (sym h))
-same_key First Third h = absurd (true≢false (sym h))
-same_key First Nodes h = absurd (true≢false (sym h))
-same_key First Workers h = absurd (true≢false (sym h))
-same_key Second First h = absurd (true≢false (sym h))
 same_key Second Second h = refl
-same_key Second Third h = absurd (true≢false (sym h))
-same_key Second Nodes h = absurd (true≢false (sym h))
-same_key Second Workers h = absurd (true≢false (sym h))
-same_key Third First h = absurd (true≢false (sym h))
-same_key Third Second h = absurd (true≢false (sym h))
 same_key Third Third h = refl
-same_key Third Nodes h = absurd (true≢false (sym h))
-same_key Third Workers h = absurd (true≢false (sym h))
-same_key Nodes First h = absurd (true≢false (sym h))
-same_key Nodes Second h = absurd (true≢false (sym h))
-same_key Nodes Third h = absurd (true≢false (sym h))
 same_key Nodes Nodes h = refl
-same_key Nodes Workers h = absurd (true≢false (sym h))
-same_key Workers First h = absurd (true≢false (sym h))
-same_key Workers Second h = absurd (true≢false (sym h))
-same_key Workers Third h = absurd (true≢false (sym h))
-same_key Workers Nodes h = absurd (true≢false (sym h))
 same_key Workers Workers h = refl
+same_key _ _ h = search
 
 pub used_finds : (k : Key) (text : Text) (rows : List Row) (o : Key → Option Text) → Finds rows o → o k ≡ None
     → Finds (used (rule k) (text ∷ []) rows) (upd k text o)

@@ -158,15 +158,11 @@ by_long Values name = refl
 pub known_choice : (verb : Verb) (name : Text) (ch : Choice) → choice_of (form_of verb) name ≡ Some ch → Known verb (key_of ch)
 known_choice Clears name choice.Nodes e = refl
 known_choice Clears name choice.Workers e = refl
-known_choice Checks name ch e = absurd (true≢false (sym (ap is_some e)))
-known_choice Generates name ch e = absurd (true≢false (sym (ap is_some e)))
-known_choice Migrates name ch e = absurd (true≢false (sym (ap is_some e)))
-known_choice Feeds name ch e = absurd (true≢false (sym (ap is_some e)))
 known_choice Splits name choice.Nodes e = refl
 known_choice Splits name choice.Workers e = refl
 known_choice Joins name choice.Nodes e = refl
 known_choice Joins name choice.Workers e = refl
-known_choice Values name ch e = absurd (true≢false (sym (ap is_some e)))
+known_choice _ name ch e = search
 
 pub not_both : {X : Type 0} (b : Bool) (x y : X) → cond (b && false) x y ≡ y
 not_both true x y = refl

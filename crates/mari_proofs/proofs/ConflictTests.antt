@@ -55,8 +55,7 @@ same_span : (m : Market) (x : Prefix) (a : Activation) (o : Order) → IsValid m
 same_span m x a o v e fits = by_gate o.gate o.least fits
   where
     closed_or_open : (b : Bool) → decided (Some b) Free ≡ (if b then Open else Closed)
-    closed_or_open true = refl
-    closed_or_open false = refl
+    closed_or_open b = grind arith
 
     at : (g : ℕ) → g < length m.gates → state_of m.gates (word_of x) g ≡ (if is_open m a g then Open else Closed)
     at g h =

@@ -1,5 +1,5 @@
 -- The end of a command's words: `clap` finds what the definition gives, or refuses where it gives nothing.
-use Rattle.std.proofs.Common.{◌≡◌, ◌∙◌, ◌≤◌, Bool, true, false, List, [], ◌∷◌, map, fold, length, Option, Some, None, is_some, option_map, option_and_then, slice_get, refl, sym, ap, subst, arith}
+use Rattle.std.proofs.Common.{◌≡◌, ◌∙◌, ◌≤◌, Bool, false, List, [], ◌∷◌, map, fold, length, Option, Some, None, is_some, option_map, option_and_then, slice_get, refl, sym, ap, subst, arith}
 use Rattle.clap.specs.Walk.{Row, Walk, finished, first_of, has_row, nothing_held, rows_after, settled_rows, walked, with_default}
 use Rattle.clap.specs.Faults.{check_fault, default_fault, defaults_fault, level_fault, settle_fault, walk_fault}
 use Rattle.clap.specs.Takes.{is_given}

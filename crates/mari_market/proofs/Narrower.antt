@@ -7,7 +7,6 @@ use Rattle.std.proofs.lemmas.Option.{slice_get_within}
 use Rattle.std.proofs.lemmas.List.Elements.{All-head, All-tail}
 use Rattle.mari_units.specs.declared.Cents.{Cents}
 use Rattle.mari_market.specs.declared.market.Side.{Side}
-use Rattle.mari_market.specs.declared.market.Side.TheVariants.{Inject, Withdraw}
 use Rattle.mari_market.specs.declared.market.Order.{Order}
 use Rattle.mari_market.specs.declared.market.GateInfo.{GateInfo}
 use Rattle.mari_market.specs.declared.market.Market.{Market}
@@ -15,7 +14,7 @@ use Rattle.mari_market.specs.declared.certificate.CutSide.{CutSide}
 use Rattle.mari_market.specs.declared.certificate.CutSide.TheVariants.{Out, In}
 use Rattle.mari_market.specs.declared.certificate.Leaf.{Leaf as LeafRecord}
 use Rattle.mari_market.specs.declared.certificate.Leaf.TheVariants.{Bound, Cut, Conflict}
-use Rattle.mari_market.specs.Bounds.{Span, GateState, gated_span, span_of}
+use Rattle.mari_market.specs.Bounds.{Span, GateState, span_of}
 use Rattle.mari_market.specs.Bounds.GateState.{Open, Closed, Free}
 use Rattle.mari_market.specs.Cut.{is_in, least_put, most_put, least_of, most_of, CannotBalance}
 use Rattle.mari_market.specs.Dual.{gain_per_mw, best_within, best_order, dual_value_of}
@@ -63,18 +62,11 @@ taken_stays : (group : Option ℕ) (gates : List GateInfo) (word : List Bool) (b
 taken_stays None gates word b e = absurd (cc)
 taken_stays (Some k) gates word b e = group_stays k gates word b e
 
-closed_if : (b : Bool) → b ≡ true → (if b then Closed else Free) ≡ Closed
-closed_if b e = grind arith
-
 if_closed : (b : Bool) → (if b then Closed else Free) ≡ Closed → b ≡ true
 if_closed b e = grind arith
 
 is_closed_of : (s : GateState) → is_closed s ≡ true → s ≡ Closed
 is_closed_of s e = grind arith
-
-parent_stays : (up low : ℕ → GateState) (parent : Option ℕ) → ((h : ℕ) → IsKept (up h) (low h)) → below_parent up parent ≡ Closed → below_parent low parent ≡ Closed
-parent_stays up low None k e = absurd (cc)
-parent_stays up low (Some h) k e = closed_if (is_closed (low h)) (ap is_closed ((k h).stays_closed (is_closed_of (up h) (if_closed (is_closed (up h)) e))))
 
 undecided_stays : (gates : List GateInfo) (word : List Bool) (b : Bool) (up low : ℕ → GateState) (g : ℕ)
     → ((h : ℕ) → IsKept (up h) (low h)) → undecided gates word up g ≡ Closed
@@ -124,9 +116,6 @@ record IsNarrower (s t : Span) : Type 0 where
   low : s.lo ≤ t.lo
   high : t.hi ≤ s.hi
   some : t.lo ≤ t.hi
-
-gated_narrower : (s t : GateState) (o : Order) → IsKept s t → o.least ≤ o.greatest → IsNarrower (gated_span s o) (gated_span t o)
-gated_narrower s t o k l = grind arith
 
 span_narrower : (up low : ℕ → GateState) (gate : Option ℕ) (o : Order) → ((g : ℕ) → IsKept (up g) (low g)) → o.least ≤ o.greatest → IsNarrower (span_of up gate o) (span_of low gate o)
 span_narrower up low gate o k l = grind arith

@@ -1,5 +1,5 @@
 -- A part of the search tree has a node for each item, and these are distinct.
-use Rattle.std.proofs.Common.{◌≡◌, ◌≢◌, ◌⊎◌, inl, inr, if◌then◌else◌, Bool, true, false, ℕ, suc, ◌<◌, List, [], ◌∷◌, ◌++◌, length, arith, refl, ap, ◌∙◌, length-append}
+use Rattle.std.proofs.Common.{◌≡◌, ◌≢◌, ◌⊎◌, inl, inr, if◌then◌else◌, Bool, true, false, ℕ, suc, ◌<◌, List, [], ◌∷◌, ◌++◌, length, arith, ap, ◌∙◌, length-append}
 use Rattle.mari_market.specs.declared.clearing.PartItem.{PartItem}
 use Rattle.mari_market.specs.declared.clearing.PartItem.TheVariants.{Branch, Closed, Pending}
 use Rattle.mari_market.specs.declared.market.Market.{Market}

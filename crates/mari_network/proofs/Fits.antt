@@ -1,5 +1,5 @@
 -- The slots of a valid market's orders make a network.
-use Rattle.std.proofs.Common.{◌≡◌, ℕ, ℤ, ◌≤◌, ◌<◌, pos, neg_ℤ, ◌≤ℤ◌, List, length, get_or, arith, refl, sym, ap, subst, zero, suc, [], ◌∷◌, map}
+use Rattle.std.proofs.Common.{◌≡◌, ℕ, ℤ, ◌≤◌, ◌<◌, pos, neg_ℤ, ◌≤ℤ◌, List, length, get_or, arith, refl, sym, ap, subst, zero, suc, ◌∷◌, map}
 use Rattle.std.proofs.lemmas.Int.{ints}
 use Rattle.std.proofs.lemmas.List.{length-map, get_or-map}
 use lib.ListN.{replicate}

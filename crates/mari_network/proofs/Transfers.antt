@@ -1,5 +1,5 @@
 -- What is tight for the slots is tight for the orders.
-use Rattle.std.proofs.Common.{◌≡◌, ◌==◌, if◌then◌else◌, ℕ, ◌<◌, ◌≤◌, ℤ, pos, negsuc, neg_ℤ, unsigned_abs, ◌*ℤ◌, ◌≤ℤ◌, ◌<ℤ◌, List, [], ◌∷◌, length, arith, refl, sym, ap, ◌∙◌, subst, get_or, zero, suc, map}
+use Rattle.std.proofs.Common.{◌≡◌, ◌==◌, if◌then◌else◌, ℕ, ◌<◌, ◌≤◌, ℤ, pos, neg_ℤ, unsigned_abs, ◌*ℤ◌, ◌≤ℤ◌, ◌<ℤ◌, List, [], ◌∷◌, length, arith, refl, sym, ap, ◌∙◌, subst, get_or, suc, map}
 use Rattle.std.proofs.lemmas.Int.{ints, clamps}
 use Rattle.std.specs.List.{All, AllZip}
 use Rattle.std.proofs.lemmas.List.Elements.{All-head, All-tail}
@@ -22,7 +22,6 @@ use Rattle.mari_market.specs.Relaxation.{IsWithinBounds, IsRelaxed}
 use Rattle.mari_market.specs.Cut.{least_put, most_put}
 use Rattle.std.proofs.lemmas.List.{length-map, get_or-map}
 use Rattle.mari_market.proofs.Duality.{weak_duality}
-use Rattle.mari_market.proofs.Ints.{mul-neg_z}
 use Rattle.mari_market.proofs.Tight.{tight_is_equal}
 use Rattle.mari_network.specs.Slots.{slot_into, IsWithinSlot, IsTightSlot}
 use Rattle.mari_network.specs.Orders.{amount_gain, slots_of, ArePuts, CanPut, capped, capped_cents}
@@ -101,9 +100,6 @@ size_put side x can = grind (arith, ints)
 pub sizes_put : (os : List Order) (xs : List ℤ) → AllZip (λ o x. CanPut o.side x) os xs → ArePuts os xs (map unsigned_abs xs)
 sizes_put (o ∷ os) (x ∷ xs) a = (size_put o.side x a.0, sizes_put os xs a.1)
 sizes_put _ _ a = grind arith
-
-size_small : (side : Side) (x : ℤ) → CanPut side x → unsigned_abs x ≤ MOST_MW
-size_small side x can = grind (arith, ints)
 
 pub sizes_small : (os : List Order) (xs : List ℤ) → AllZip (λ o x. CanPut o.side x) os xs → (k : ℕ) (d : ℤ) → k < length xs → unsigned_abs (get_or xs k d) ≤ MOST_MW
 sizes_small (o ∷ os) (x ∷ xs) a (suc k) d l = sizes_small os xs a.1 k d (omega arith)

@@ -5,7 +5,6 @@ use Rattle.std.specs.Int.{int_max, w128}
 use Rattle.std.specs.List.{All, AllZip}
 use Rattle.std.proofs.lemmas.List.Elements.{All-head, All-tail}
 use Rattle.mari_market.specs.declared.market.Side.{Side}
-use Rattle.mari_market.specs.declared.market.Side.TheVariants.{Inject, Withdraw}
 use Rattle.mari_market.specs.declared.market.Order.{Order}
 use Rattle.mari_market.specs.Bounds.{Span}
 use Rattle.mari_market.specs.Sums.{int_at, int_sum, sum_along}

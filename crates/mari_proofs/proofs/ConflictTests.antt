@@ -1,5 +1,5 @@
 -- The tests of a chain and of the two price bounds against the definition of a contradiction.
-use Rattle.std.proofs.Common.{◌≡◌, Bool, true, false, ℕ, ◌<◌, ◌≤◌, ℤ, ◌<ℤ◌, List, length, Option, Some, None, arith, subst, refl, sym, ap, ◌∙◌}
+use Rattle.std.proofs.Common.{◌≡◌, Bool, ℕ, ◌<◌, ◌≤◌, ℤ, ◌<ℤ◌, List, length, Option, Some, None, arith, subst, refl, sym, ap, ◌∙◌}
 use Rattle.std.specs.Prelude.{if◌then◌else◌, IsTrue, ◌↔◌, MatchOption}
 use Rattle.std.proofs.lemmas.Int.{ints}
 use Rattle.mari_market.specs.declared.market.Order.{Order}

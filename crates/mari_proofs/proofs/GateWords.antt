@@ -1,5 +1,5 @@
 -- An activation of a prefix's gate word, order by order.
-use Rattle.std.proofs.Common.{◌≡◌, ◌&&◌, ◌||◌, if◌then◌else◌, Bool, true, false, ℕ, ◌<◌, ◌≤◌, List, [], ◌∷◌, length, map, get_or, Option, Some, None, arith, subst, refl, sym, ap, ◌∙◌, inl, inr}
+use Rattle.std.proofs.Common.{◌≡◌, ◌&&◌, ◌||◌, if◌then◌else◌, Bool, true, false, ℕ, ◌<◌, ◌≤◌, List, ◌∷◌, length, map, get_or, Option, Some, arith, subst, refl, sym, ap, ◌∙◌, inl, inr}
 use Rattle.std.specs.Prelude.{nat_lt, MatchOption, Any, IfSome, IsTrue, ◌↔◌}
 use Rattle.std.specs.List.{All, AllZip, range_with_len}
 use Rattle.std.proofs.lemmas.Bool.{cases_lt, and_parts}
@@ -12,7 +12,7 @@ use Rattle.mari_market.specs.declared.market.Market.{Market}
 use Rattle.mari_market.specs.declared.activation.Activation.{Activation}
 use Rattle.mari_market.specs.declared.prefix.Prefix.{Prefix}
 use Rattle.mari_market.specs.Activation.{is_gate, runs_gate, is_open, gate_word_of}
-use Rattle.mari_market.specs.Bounds.{IsWithin, span_of, gated_span, own_bounds}
+use Rattle.mari_market.specs.Bounds.{IsWithin, span_of, own_bounds}
 use Rattle.mari_market.specs.Bounds.GateState.{Open, Closed}
 use Rattle.mari_market.specs.Market.{IsValid, IsValidOrder}
 use Rattle.mari_market.specs.Optimal.{IsFeasible}
@@ -87,10 +87,6 @@ opens_as_decided m x a v e = fun_ext (λ g. elim (cases_lt g (length m.gates)) [
   | inl l ↦ open_at m x a g l e
   | inr l ↦ none_past m.zones (length m.gates) g m.orders a.mw v.orders l ∙ sym (get_or_past (word_of x) g false (omega (arith, length_of_word m x a e, length-map-range_with_len (bit_of x) 0 x.length)))
 ])
-
-within_test : (b : Bool) (o : Order) (q : ℕ) → 1 ≤ o.least → IsWithin (gated_span (if b then Open else Closed) o) q → b ≡ nat_lt 0 q
-within_test true o q l w = let at : o.least ≤ q = w.least in let some : 0 < q = omega arith in grind (arith, nat_tests)
-within_test false o q l w = let at : q ≤ 0 = w.most in grind (arith, nat_tests)
 
 runs_within : (opens : ℕ → Bool) (n : ℕ) (gate : Option ℕ) (o : Order) (q : ℕ) → MatchOption gate (o.least ≡ 0) (λ h. (h < n) × (1 ≤ o.least)) → IsWithin (span_of (λ g. if opens g then Open else Closed) gate o) q → RunsAsDecided opens gate q
 runs_within opens n gate o q f w = grind arith

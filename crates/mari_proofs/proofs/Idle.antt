@@ -1,5 +1,5 @@
 -- The activation in which nothing runs, and what it shows of relaxed optima where no gate is open.
-use Rattle.std.proofs.Common.{◌≡◌, if◌then◌else◌, Bool, true, false, ℕ, zero, suc, ◌==◌, ℤ, pos, ◌-ℤ◌, ◌≤ℤ◌, List, [], ◌∷◌, length, map, Option, Some, None, slice_get, arith, refl, sym, ◌∙◌}
+use Rattle.std.proofs.Common.{◌≡◌, if◌then◌else◌, Bool, true, false, ℕ, zero, suc, ◌==◌, ℤ, pos, ◌-ℤ◌, ◌≤ℤ◌, List, [], ◌∷◌, length, map, Option, Some, slice_get, arith, refl, sym, ◌∙◌}
 use Rattle.std.proofs.lemmas.Int.{ints}
 use Rattle.std.specs.List.{AllZip}
 use Rattle.mari_market.specs.declared.activation.Activation.{Activation}
@@ -8,9 +8,8 @@ use Rattle.mari_market.specs.declared.market.GateInfo.{GateInfo}
 use Rattle.mari_market.specs.declared.market.Market.{Market}
 use Rattle.mari_market.specs.declared.market.Order.{Order}
 use Rattle.mari_market.specs.declared.market.Side.{Side}
-use Rattle.mari_market.specs.declared.market.Side.TheVariants.{Inject, Withdraw}
 use Rattle.mari_market.specs.Activation.{IsWithinLimits, carried_out, order_gain, put_into, put_in, gain}
-use Rattle.mari_market.specs.Bounds.{IsWithin, GateState, gated_span, span_in, span_of}
+use Rattle.mari_market.specs.Bounds.{IsWithin, GateState, span_in, span_of}
 use Rattle.mari_market.specs.Gates.{group_of, parent_of}
 use Rattle.mari_market.specs.Bounds.GateState.{Open, Closed, Free}
 use Rattle.mari_market.specs.Prefix.{below_parent, bounds_of_word, decided, is_closed, is_taken, opens_in, state_of, state_within, undecided}
@@ -75,9 +74,6 @@ none-open gates word closed (suc n) g e =
 none-needed : (state : ℕ → GateState) → ((g : ℕ) → state g ≡ Open → ⊥) → (o : Order) → IsWithin (span_in state o) 0
 none-needed state closed o = by o.gate
   where
-    of-gate : (s : GateState) → (s ≡ Open → ⊥) → IsWithin (gated_span s o) 0
-    of-gate s h = grind arith
-
     by : (gate : Option ℕ) → IsWithin (span_of state gate o) 0
     by gate = grind arith
 

@@ -1,5 +1,5 @@
 -- What a certificate that holds says of the activations below its prefix.
-use Rattle.std.proofs.Common.{◌≡◌, Bool, ℕ, ℤ, ◌≤ℤ◌, List, [], ◌∷◌, take, zero, suc, subst}
+use Rattle.std.proofs.Common.{◌≡◌, Bool, ℕ, ℤ, ◌≤ℤ◌, List, ◌∷◌, take, suc, subst}
 use Rattle.mari_market.specs.declared.market.Market.{Market}
 use Rattle.mari_market.specs.declared.activation.Activation.{Activation}
 use Rattle.mari_market.specs.declared.prefix.Prefix.{Prefix}

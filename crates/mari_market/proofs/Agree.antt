@@ -1,5 +1,5 @@
 -- Prices that keep all bounds and comparisons are consistent.
-use Rattle.std.proofs.Common.{◌≡◌, ℕ, ◌<◌, ℤ, pos, neg_ℤ, ◌≤ℤ◌, List, [], ◌∷◌, length, arith, refl, sym, subst, inl, inr}
+use Rattle.std.proofs.Common.{◌≡◌, ℕ, ◌<◌, ℤ, pos, neg_ℤ, ◌≤ℤ◌, List, ◌∷◌, length, arith, refl, sym, subst, inl, inr}
 use Rattle.std.specs.List.{AllZip, All}
 use Rattle.std.proofs.lemmas.List.{get_or_default}
 use Rattle.std.proofs.lemmas.List.Elements.{All-head, All-tail}
@@ -27,10 +27,8 @@ Stand x y u v = (u ≡ x) × (v ≡ y)
 -- what holds of all pairs that stand side by side
 each_pair : {X Y : Type 0} (P : X → Type 0) (Q : X → Y → Type 0) (xs : List X) (ys : List Y) → length ys ≡ length xs
     → All P xs → ((x : X) (y : Y) → P x → AnyZip (Stand x y) xs ys → Q x y) → AllZip Q xs ys
-each_pair P Q [] [] l p h = tt
-each_pair P Q [] (y ∷ ys) l p h = absurd (omega (arith, l))
-each_pair P Q (x ∷ xs) [] l p h = absurd (omega (arith, l))
 each_pair P Q (x ∷ xs) (y ∷ ys) l p h = (h x y (All-head P x xs p) (inl (refl, refl)), each_pair P Q xs ys (omega (arith, l)) (All-tail P x xs p) (λ u v k s. h u v k (inr s)))
+each_pair P Q _ _ l p h = grind arith
 
 -- a price for each zone that keeps every bound and every comparison
 pub record KeepsAll (m : Market) (a : Activation) (ps : List Cents) : Type 0 where

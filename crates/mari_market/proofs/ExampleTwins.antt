@@ -29,14 +29,10 @@ market = one_zone (gated 0 Inject 3000 30 30 0 ∷ gated 0 Inject 3000 30 30 1 �
 -- ---- the market is valid
 
 no_parent : (g h : ℕ) → parent_of (lone ∷ lone ∷ []) g ≡ Some h → ⊥
-no_parent zero h p = absurd (cc)
-no_parent (suc zero) h p = absurd (cc)
-no_parent (suc (suc g)) h p = absurd (cc)
+no_parent g h p = grind arith
 
 no_group : (g k : ℕ) → group_of (lone ∷ lone ∷ []) g ≡ Some k → ⊥
-no_group zero k e = absurd (cc)
-no_group (suc zero) k e = absurd (cc)
-no_group (suc (suc g)) k e = absurd (cc)
+no_group g k e = grind arith
 
 two_gates : (opens : ℕ → Bool) → KeepsGateRules (lone ∷ lone ∷ []) opens
 two_gates opens = record { parents = λ g h e p. absurd (no_parent g h p); groups = λ g h k e o in_g in_h. absurd (no_group g k in_g) }

@@ -1,5 +1,5 @@
 -- What orders add to the welfare at most.
-use Rattle.std.proofs.Common.{ℕ, ◌*◌, ◌≤◌, ℤ, pos, ◌≤ℤ◌, List, [], ◌∷◌, length, arith}
+use Rattle.std.proofs.Common.{ℕ, ◌*◌, ◌≤◌, ℤ, pos, ◌≤ℤ◌, List, ◌∷◌, length, arith}
 use Rattle.std.specs.List.{All}
 use Rattle.std.proofs.lemmas.Int.{ints}
 use Rattle.std.proofs.lemmas.List.Elements.{All-head, All-tail}
@@ -16,8 +16,7 @@ gain_at_most Inject c q p l = omega (arith, ints, (scaled c q 9999900 99999 p.lo
 gain_at_most Withdraw c q p l = (scaled c q 9999900 99999 p.low p.high l).1
 
 pub gains_at_most : (os : List Order) (qs : List ℕ) → All (λ (o : Order). IsPrice o.price.0) os → All (λ q. q ≤ 99999) qs → sum_along order_gain os qs ≤ℤ pos (9999900 * 99999 * length os)
-gains_at_most [] qs p s = omega (arith, ints)
-gains_at_most (o ∷ os) [] p s = omega (arith, ints)
 gains_at_most (o ∷ os) (q ∷ qs) p s =
     let here = gain_at_most o.side o.price.0 q (All-head (λ (x : Order). IsPrice x.price.0) o os p) (All-head (λ x. x ≤ 99999) q qs s) in
     omega (arith, ints, here, gains_at_most os qs (All-tail (λ (x : Order). IsPrice x.price.0) o os p) (All-tail (λ x. x ≤ 99999) q qs s))
+gains_at_most _ _ p s = omega (arith, ints)

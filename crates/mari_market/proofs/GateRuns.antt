@@ -1,6 +1,5 @@
 -- Whether some order of a gate runs, order by order.
-use Rattle.std.proofs.Common.{◌≡◌, ◌||◌, Bool, true, false, ℕ, zero, suc, ◌+◌, ◌<◌, ◌≤◌, List, [], ◌∷◌, length, take, get_or, arith, refl, sym, ap, ◌∙◌}
-use Rattle.std.proofs.Math.Bool.{or_comm}
+use Rattle.std.proofs.Common.{◌≡◌, ◌||◌, Bool, ℕ, suc, ◌+◌, ◌<◌, ◌≤◌, List, ◌∷◌, length, take, get_or, arith, sym, ap, ◌∙◌}
 use Rattle.std.proofs.lemmas.List.{take_all}
 use Rattle.mari_market.specs.declared.market.Order.{Order}
 use Rattle.mari_market.specs.Activation.{is_run_of, runs_gate}
@@ -8,9 +7,6 @@ use Rattle.mari_market.specs.Activation.{is_run_of, runs_gate}
 -- with one more order a gate is run where it was, or where the order runs it
 runs_more : (g : ℕ) (os : List Order) (qs : List ℕ) (i : ℕ) (d : Order) → i < length os → i < length qs
     → runs_gate g (take (i + 1) os) (take (i + 1) qs) ≡ (runs_gate g (take i os) (take i qs) || is_run_of g (get_or os i d) (get_or qs i 0))
-runs_more g [] qs i d h l = absurd (omega arith)
-runs_more g (o ∷ os) [] i d h l = absurd (omega arith)
-runs_more g (o ∷ os) (q ∷ qs) zero d h l = or_comm (is_run_of g o q) false
 runs_more g (o ∷ os) (q ∷ qs) (suc i) d h l =
     let k : suc i + 1 ≡ suc (i + 1) = omega arith in
     ap (λ (n : ℕ). runs_gate g (take n (o ∷ os)) (take n (q ∷ qs))) k
@@ -18,8 +14,8 @@ runs_more g (o ∷ os) (q ∷ qs) (suc i) d h l =
     ∙ regrouped (is_run_of g o q) (runs_gate g (take i os) (take i qs)) (is_run_of g (get_or os i d) (get_or qs i 0))
   where
     regrouped : (x y z : Bool) → (x || (y || z)) ≡ ((x || y) || z)
-    regrouped true y z = refl
-    regrouped false y z = refl
+    regrouped x y z = grind arith
+runs_more g _ _ _ d h l = grind arith
 
 -- a loop's step: what is marked so far, and the order's gate where it runs
 pub marks_more : (g : ℕ) (os : List Order) (qs : List ℕ) (i : ℕ) (d : Order) (old new : Bool) → i < length os

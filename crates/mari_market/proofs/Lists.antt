@@ -1,5 +1,5 @@
 -- Tests, and tests over two lists side by side.
-use Rattle.std.proofs.Common.{◌≡◌, ℕ, ◌+◌, ◌<◌, ◌≤◌, Bool, true, false, List, [], ◌∷◌, length, take, get_or, arith, subst, sym, refl, zero, suc}
+use Rattle.std.proofs.Common.{◌≡◌, ℕ, ◌+◌, ◌<◌, ◌≤◌, Bool, true, false, List, ◌∷◌, length, take, get_or, arith, subst, sym, refl, suc}
 use Rattle.std.specs.Prelude.{◌↔◌}
 use Rattle.std.proofs.lemmas.Bool.{false≢true, both_ways}
 use Rattle.std.proofs.lemmas.List.{take_all}
@@ -8,19 +8,16 @@ use Rattle.mari_market.proofs.Sums.{AllZip-at}
 
 -- what follows from either answer of a test
 pub by_test : {P : Type 0} (b : Bool) → (b ≡ true → P) → (b ≡ false → P) → P
-by_test true f g = f refl
-by_test false f g = g refl
+by_test b f g = grind arith
 
 -- one more pair, for a loop's step
 pub AllZip_more : {X Y : Type 0} (P : X → Y → Type 0) (xs : List X) (ys : List Y) (i : ℕ) (d : X) (e : Y)
     → i < length xs → i < length ys → AllZip P (take i xs) (take i ys) → P (get_or xs i d) (get_or ys i e)
     → AllZip P (take (i + 1) xs) (take (i + 1) ys)
-AllZip_more P [] ys i d e h l a p = absurd (omega arith)
-AllZip_more P (x ∷ xs) [] i d e h l a p = absurd (omega arith)
-AllZip_more P (x ∷ xs) (y ∷ ys) zero d e h l a p = (p, tt)
 AllZip_more P (x ∷ xs) (y ∷ ys) (suc i) d e h l a p =
     let k : suc (i + 1) ≡ suc i + 1 = omega arith in
     subst (λ (n : ℕ). AllZip P (take n (x ∷ xs)) (take n (y ∷ ys))) k (a.0, AllZip_more P xs ys i d e (omega arith) (omega arith) a.1 p)
+AllZip_more P _ _ _ d e h l a p = grind arith
 
 -- a loop that tests each pair: where the test of one passes, and where it fails
 pub passes_more : {X Y : Type 0} (P : X → Y → Type 0) (xs : List X) (ys : List Y) (i : ℕ) (d : X) (e y : Y) (b : Bool)

@@ -1,5 +1,5 @@
 -- Sums over lists in another order, and over lists with one item more.
-use Rattle.std.proofs.Common.{◌≡◌, ℕ, zero, suc, ◌<◌, ℤ, ◌+ℤ◌, List, [], ◌∷◌, ◌++◌, length, set, get_or, get_or-set_other, arith, refl, ap, ◌∙◌, inl, inr}
+use Rattle.std.proofs.Common.{◌≡◌, ℕ, suc, ◌<◌, ℤ, ◌+ℤ◌, List, [], ◌∷◌, ◌++◌, length, set, get_or, get_or-set_other, arith, refl, ap, ◌∙◌, inl, inr}
 use Rattle.std.proofs.lemmas.Int.{ints}
 use Rattle.std.proofs.lemmas.Bool.{cases_eq}
 use Rattle.std.proofs.lemmas.List.{get_or-set_same, length-set}
@@ -15,9 +15,8 @@ sum_push f [] x = omega (arith, ints)
 sum_push f (y ∷ ys) x = omega (arith, ints, sum_push f ys x)
 
 sum_set : {X : Type 0} (f : X → ℤ) (xs : List X) (i : ℕ) (x d : X) → i < length xs → int_sum f (set xs i x) +ℤ f (get_or xs i d) ≡ int_sum f xs +ℤ f x
-sum_set f [] i x d l = absurd (omega arith)
-sum_set f (y ∷ ys) zero x d l = omega (arith, ints)
 sum_set f (y ∷ ys) (suc i) x d l = omega (arith, ints, sum_set f ys i x d (omega arith))
+sum_set f _ _ x d l = omega (arith, ints)
 
 read_set : {X : Type 0} (xs : List X) (i j : ℕ) (d : X) → i < length xs → get_or (set xs i (get_or xs j d)) j d ≡ get_or xs j d
 read_set xs i j d l = elim (cases_eq j i) [

@@ -7,7 +7,6 @@ use Rattle.std.proofs.lemmas.Option.{slice_get_within}
 use Rattle.std.proofs.lemmas.List.Elements.{All-head, All-tail}
 use Rattle.mari_units.specs.declared.Cents.{Cents}
 use Rattle.mari_market.specs.declared.market.Side.{Side}
-use Rattle.mari_market.specs.declared.market.Side.TheVariants.{Inject, Withdraw}
 use Rattle.mari_market.specs.declared.market.Order.{Order}
 use Rattle.mari_market.specs.declared.market.GateInfo.{GateInfo}
 use Rattle.mari_market.specs.declared.market.Market.{Market}
@@ -15,7 +14,7 @@ use Rattle.mari_market.specs.declared.certificate.CutSide.{CutSide}
 use Rattle.mari_market.specs.declared.certificate.CutSide.TheVariants.{Out, In}
 use Rattle.mari_market.specs.declared.certificate.Leaf.{Leaf as LeafRecord}
 use Rattle.mari_market.specs.declared.certificate.Leaf.TheVariants.{Bound, Cut, Conflict}
-use Rattle.mari_market.specs.Bounds.{Span, GateState, gated_span, span_of}
+use Rattle.mari_market.specs.Bounds.{Span, GateState, span_of}
 use Rattle.mari_market.specs.Bounds.GateState.{Open, Closed, Free}
 use Rattle.mari_market.specs.Cut.{is_in, least_put, most_put, least_of, most_of, CannotBalance}
 use Rattle.mari_market.specs.Dual.{gain_per_mw, best_within, best_order, dual_value_of}
@@ -40,51 +39,34 @@ kept_same : (s t : GateState) → s ≡ t → IsKept s t
 kept_same s t e = record { stays_open = λ h. sym e ∙ h; stays_closed = λ h. sym e ∙ h }
 
 get_before : (word : List Bool) (b : Bool) (g : ℕ) → g < length word → slice_get (word ++ b ∷ []) g ≡ slice_get word g
-get_before [] b g l = absurd (omega arith)
-get_before (c ∷ cs) b zero l = refl
 get_before (c ∷ cs) b (suc g) l = get_before cs b g (omega arith)
+get_before _ b _ l = grind arith
 
 new_bit : (word : List Bool) (b : Bool) (g : ℕ) → slice_get word g ≡ None → slice_get (word ++ b ∷ []) g ≡ Some true → (length word ≡ g) × (b ≡ true)
-new_bit [] b zero e f = let same : b ≡ true = cc in (refl, same)
-new_bit [] b (suc g) e f = absurd (cc)
-new_bit (c ∷ cs) b zero e f = absurd (cc)
 new_bit (c ∷ cs) b (suc g) e f = let r = new_bit cs b g e f in (ap suc r.0, r.1)
+new_bit _ b _ e f = grind arith
 
 get_opened : (word : List Bool) (g : ℕ) → opens_in word g ≡ true → slice_get word g ≡ Some true
-get_opened [] g e = absurd (cc)
-get_opened (c ∷ cs) zero e = ap Some e
 get_opened (c ∷ cs) (suc g) e = get_opened cs g e
+get_opened _ _ e = grind arith
 
 or_kept : (a b c : Bool) → (b ≡ true → c ≡ true) → (a || b) ≡ true → (a || c) ≡ true
-or_kept true b c h e = refl
-or_kept false b c h e = h e
+or_kept a b c h e = grind arith
 
 -- a group that is taken stays so
 group_stays : (k : ℕ) (gates : List GateInfo) (word : List Bool) (b : Bool) → group_taken k gates word ≡ true → group_taken k gates (word ++ b ∷ []) ≡ true
-group_stays k [] word b e = absurd (cc)
-group_stays k (g ∷ gs) [] b e = absurd (cc)
 group_stays k (g ∷ gs) (c ∷ cs) b e = or_kept (c && is_group k g.group) (group_taken k gs cs) (group_taken k gs (cs ++ b ∷ [])) (group_stays k gs cs b) e
+group_stays k _ _ b e = grind arith
 
 taken_stays : (group : Option ℕ) (gates : List GateInfo) (word : List Bool) (b : Bool) → is_taken group gates word ≡ true → is_taken group gates (word ++ b ∷ []) ≡ true
 taken_stays None gates word b e = absurd (cc)
 taken_stays (Some k) gates word b e = group_stays k gates word b e
 
-closed_if : (b : Bool) → b ≡ true → (if b then Closed else Free) ≡ Closed
-closed_if true e = refl
-closed_if false e = absurd (cc)
-
 if_closed : (b : Bool) → (if b then Closed else Free) ≡ Closed → b ≡ true
-if_closed true e = refl
-if_closed false e = absurd (cc)
+if_closed b e = grind arith
 
 is_closed_of : (s : GateState) → is_closed s ≡ true → s ≡ Closed
-is_closed_of Closed e = refl
-is_closed_of Open e = absurd (cc)
-is_closed_of Free e = absurd (cc)
-
-parent_stays : (up low : ℕ → GateState) (parent : Option ℕ) → ((h : ℕ) → IsKept (up h) (low h)) → below_parent up parent ≡ Closed → below_parent low parent ≡ Closed
-parent_stays up low None k e = absurd (cc)
-parent_stays up low (Some h) k e = closed_if (is_closed (low h)) (ap is_closed ((k h).stays_closed (is_closed_of (up h) (if_closed (is_closed (up h)) e))))
+is_closed_of s e = grind arith
 
 undecided_stays : (gates : List GateInfo) (word : List Bool) (b : Bool) (up low : ℕ → GateState) (g : ℕ)
     → ((h : ℕ) → IsKept (up h) (low h)) → undecided gates word up g ≡ Closed
@@ -92,14 +74,11 @@ undecided_stays : (gates : List GateInfo) (word : List Bool) (b : Bool) (up low 
 undecided_stays gates word b up low g k e = by_group (is_taken (group_of gates g) gates word) (is_taken (group_of gates g) gates (word ++ b ∷ [])) (taken_stays (group_of gates g) gates word b) e
   where
     by_group : (s t : Bool) → (s ≡ true → t ≡ true) → (if s then Closed else below_parent up (parent_of gates g)) ≡ Closed → (if t then Closed else below_parent low (parent_of gates g)) ≡ Closed
-    by_group s true h e = refl
-    by_group true false h e = absurd (cc (h refl))
-    by_group false false h e = parent_stays up low (parent_of gates g) k e
+    by_group s t h e = grind arith
 
 -- a gate that the word opens isn't closed
 opened_state : (gates : List GateInfo) (word : List Bool) (n g : ℕ) → slice_get word g ≡ Some true → state_within n gates word g ≡ Closed → ⊥
-opened_state gates word zero g e s = absurd (cc)
-opened_state gates word (suc n) g e s = absurd (cc (ap (λ (o : Option Bool). decided o (undecided gates word (state_within n gates word) g)) e))
+opened_state gates word n g e s = grind arith
 
 -- a gate that may be opened next isn't closed
 may_be_open : (gates : List GateInfo) (word : List Bool) (n g : ℕ) → may_open gates word g ≡ true → undecided gates word (state_within n gates word) g ≡ Closed → ⊥
@@ -113,11 +92,8 @@ may_be_open gates word n g may e =
 
 kept_by : (o p : Option Bool) (s t : GateState) → (s ≡ Open → ⊥) → ((c : Bool) → o ≡ Some c → p ≡ o)
     → (s ≡ Closed → t ≡ Closed) → (o ≡ None → p ≡ Some true → s ≡ Closed → ⊥) → IsKept (decided o s) (decided p t)
-kept_by (Some true) p s t n h k x = kept_same Open (decided p t) (sym (ap (λ (q : Option Bool). decided q t) (h true refl)))
 kept_by (Some false) p s t n h k x = kept_same Closed (decided p t) (sym (ap (λ (q : Option Bool). decided q t) (h false refl)))
-kept_by None None s t n h k x = record { stays_open = λ e. absurd (n e); stays_closed = k }
-kept_by None (Some true) s t n h k x = record { stays_open = λ e. absurd (n e); stays_closed = λ e. absurd (x refl refl e) }
-kept_by None (Some false) s t n h k x = record { stays_open = λ e. absurd (n e); stays_closed = λ e. refl }
+kept_by _ _ s t n h k x = grind arith
 
 -- one decision more keeps what a word says of each gate
 states_kept : (gates : List GateInfo) (word : List Bool) (b : Bool)
@@ -141,20 +117,8 @@ record IsNarrower (s t : Span) : Type 0 where
   high : t.hi ≤ s.hi
   some : t.lo ≤ t.hi
 
-gated_narrower : (s t : GateState) (o : Order) → IsKept s t → o.least ≤ o.greatest → IsNarrower (gated_span s o) (gated_span t o)
-gated_narrower Open Open o k l = record { low = omega arith; high = omega arith; some = l }
-gated_narrower Open Closed o k l = absurd (cc (k.stays_open refl))
-gated_narrower Open Free o k l = absurd (cc (k.stays_open refl))
-gated_narrower Closed Closed o k l = record { low = omega arith; high = omega arith; some = omega arith }
-gated_narrower Closed Open o k l = absurd (cc (k.stays_closed refl))
-gated_narrower Closed Free o k l = absurd (cc (k.stays_closed refl))
-gated_narrower Free Open o k l = record { low = omega arith; high = omega arith; some = l }
-gated_narrower Free Closed o k l = record { low = omega arith; high = omega arith; some = omega arith }
-gated_narrower Free Free o k l = record { low = omega arith; high = omega arith; some = omega arith }
-
 span_narrower : (up low : ℕ → GateState) (gate : Option ℕ) (o : Order) → ((g : ℕ) → IsKept (up g) (low g)) → o.least ≤ o.greatest → IsNarrower (span_of up gate o) (span_of low gate o)
-span_narrower up low None o k l = record { low = omega arith; high = omega arith; some = omega arith }
-span_narrower up low (Some g) o k l = gated_narrower (up g) (low g) o (k g) l
+span_narrower up low gate o k l = grind arith
 
 -- the bounds of each order at a child lie within those at the word
 bounds_narrower : (m : Market) (word : List Bool) (b : Bool) (o : Order)
@@ -183,16 +147,13 @@ dual_narrower m up low ps v n =
     omega (arith, ints, orders)
 
 least_rises : (side : Side) (s t : Span) → IsNarrower s t → least_put side s ≤ℤ least_put side t
-least_rises Inject s t n = omega (arith, ints, n.low)
-least_rises Withdraw s t n = omega (arith, ints, n.high)
+least_rises side s t n = grind (arith, ints)
 
 most_falls : (side : Side) (s t : Span) → IsNarrower s t → most_put side t ≤ℤ most_put side s
-most_falls Inject s t n = omega (arith, ints, n.high)
-most_falls Withdraw s t n = omega (arith, ints, n.low)
+most_falls side s t n = grind (arith, ints)
 
 if_le : (b : Bool) (x y : ℤ) → x ≤ℤ y → (if b then x else pos 0) ≤ℤ (if b then y else pos 0)
-if_le true x y l = l
-if_le false x y l = omega (arith, ints)
+if_le b x y l = grind (arith, ints)
 
 cut_stays : (m : Market) (up low : Order → Span) (side : CutSide) (zones : List ℕ) → IsValid m
     → ((o : Order) → IsValidOrder m.zones (length m.gates) o → IsNarrower (up o) (low o))

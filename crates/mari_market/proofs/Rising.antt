@@ -69,16 +69,13 @@ last_of value zero before xs d = before
 last_of value (suc n) before xs d = value (get_or xs n d)
 
 pub last_some : {X : Type 0} (value : X → ℤ) (n : ℕ) (before : ℤ) (xs : List X) (d : X) → 1 ≤ n → last_of value n before xs d ≡ value (get_or xs (n - 1) d)
-last_some value zero before xs d l = absurd (omega arith)
-last_some value (suc n) before xs d l = let e : n ≡ suc n - 1 = omega arith in ap (λ (k : ℕ). value (get_or xs k d)) e
+last_some value n before xs d l = grind arith
 
 -- where the first n items are those that cost less, it is that of the last of these
 pub last_below_first : {X : Type 0} (price value : X → ℤ) (n : ℕ) (p before : ℤ) (xs : List X) (d : X) → n ≤ length xs
     → ((k : ℕ) (e : X) → k < n → price (get_or xs k e) <ℤ p)
     → ((k : ℕ) (e : X) → n ≤ k → k < length xs → p ≤ℤ price (get_or xs k e))
     → last_below price value p before xs ≡ last_of value n before xs d
-last_below_first price value zero p before [] d l below rest = refl
-last_below_first price value (suc n) p before [] d l below rest = absurd (omega arith)
 last_below_first price value zero p before (x ∷ xs) d l below rest =
     ap (λ (v : ℤ). last_below price value p v xs) (if_not_less (price x) p (value x) before (rest 0 d (omega arith) (omega arith)))
     ∙ last_below_first price value zero p before xs d (omega arith) (λ k e m. absurd (omega arith)) (λ k e m h. rest (suc k) e (omega arith) (omega arith))
@@ -88,3 +85,4 @@ last_below_first price value (suc zero) p before (x ∷ xs) d l below rest =
 last_below_first price value (suc (suc n)) p before (x ∷ xs) d l below rest =
     ap (λ (v : ℤ). last_below price value p v xs) (if_less (price x) p (value x) before (below 0 d (omega arith)))
     ∙ last_below_first price value (suc n) p (value x) xs d (omega arith) (λ k e m. below (suc k) e (omega arith)) (λ k e m h. rest (suc k) e (omega arith) (omega arith))
+last_below_first price value _ p before _ d l below rest = grind arith

@@ -1,5 +1,5 @@
 -- A part of the search tree has a node for each item, and these are distinct.
-use Rattle.std.proofs.Common.{◌≡◌, ◌≢◌, ◌⊎◌, inl, inr, if◌then◌else◌, Bool, true, false, ℕ, suc, ◌<◌, List, [], ◌∷◌, ◌++◌, length, arith, refl, ap, ◌∙◌, length-append}
+use Rattle.std.proofs.Common.{◌≡◌, ◌≢◌, ◌⊎◌, inl, inr, if◌then◌else◌, Bool, true, false, ℕ, suc, ◌<◌, List, [], ◌∷◌, ◌++◌, length, arith, ap, ◌∙◌, length-append}
 use Rattle.mari_market.specs.declared.clearing.PartItem.{PartItem}
 use Rattle.mari_market.specs.declared.clearing.PartItem.TheVariants.{Branch, Closed, Pending}
 use Rattle.mari_market.specs.declared.market.Market.{Market}
@@ -18,19 +18,16 @@ visited m (word ∷ words) (Closed ∷ items) = word ∷ visited m words items
 visited m (word ∷ words) (Pending ∷ items) = word ∷ visited m words items
 
 visited_count : (m : Market) (words : List (List Bool)) (items : List PartItem) → ArePartsOfSearch m words items → length (visited m words items) ≡ length items
-visited_count m [] [] p = refl
-visited_count m [] (item ∷ items) p = absurd p
-visited_count m (word ∷ words) [] p = absurd p
 visited_count m (word ∷ words) (Branch ∷ items) p = ap suc (visited_count m (children m.gates word ++ words) items p.2)
 visited_count m (word ∷ words) (Closed ∷ items) p = ap suc (visited_count m words items p.1)
 visited_count m (word ∷ words) (Pending ∷ items) p = ap suc (visited_count m words items p.1)
+visited_count m _ _ p = grind arith
 
 visited_nodes : (m : Market) (words : List (List Bool)) (items : List PartItem) → ArePartsOfSearch m words items → Each (IsNode m) (visited m words items)
-visited_nodes m [] items p = tt
-visited_nodes m (word ∷ words) [] p = absurd p
 visited_nodes m (word ∷ words) (Branch ∷ items) p = (p.0, visited_nodes m (children m.gates word ++ words) items p.2)
 visited_nodes m (word ∷ words) (Closed ∷ items) p = (p.0, visited_nodes m words items p.1)
 visited_nodes m (word ∷ words) (Pending ∷ items) p = (p.0, visited_nodes m words items p.1)
+visited_nodes m _ _ p = omega arith
 
 -- ---- what holds of each of them
 
@@ -45,8 +42,7 @@ each_map P Q h (x ∷ xs) a = (h x a.0, each_map P Q h xs a.1)
 -- what holds of a word and of each that is one gate longer holds of a word's children
 pub each_child : (Q : List Bool → Type 0) (word : List Bool) (may : Bool) → Q (word ++ false ∷ [])
     → Q (word ++ true ∷ []) → Each Q ((word ++ false ∷ []) ∷ (if may then (word ++ true ∷ []) ∷ [] else []))
-each_child Q word true f t = (f, (t, tt))
-each_child Q word false f t = (f, tt)
+each_child Q word may f t = grind arith
 
 -- what holds of words, and passes on to words one gate longer, holds of all that are visited
 each_visited : (m : Market) (Q : List Bool → Type 0) → ((word : List Bool) (b : Bool) → Q word → Q (word ++ b ∷ []))
@@ -108,12 +104,9 @@ after_longer word other b (inl l) = inl (omega (arith, l, length-append other (b
 after_longer word other b (inr h) = inr (apart_longer word other b h)
 
 after_differ : (word other : List Bool) → IsPast word other → word ≢ other
-after_differ word other (inl l) = λ e. absurd (omega (arith, l, ap length e))
-after_differ word other (inr h) = apart_differ word other h
+after_differ word other x = grind arith
 
 visited_distinct : (m : Market) (words : List (List Bool)) (items : List PartItem) → AllApart words → EachApart (visited m words items)
-visited_distinct m [] items a = tt
-visited_distinct m (word ∷ words) [] a = tt
 visited_distinct m (word ∷ words) (Branch ∷ items) a = (
   each_map (IsPast word) (λ u. word ≢ u) (after_differ word) (visited m (children m.gates word ++ words) items)
       (each_visited m (IsPast word) (λ u b. after_longer word u b) (children m.gates word ++ words) items
@@ -130,6 +123,7 @@ visited_distinct m (word ∷ words) (Pending ∷ items) a = (
   each_map (IsApart word) (λ u. word ≢ u) (apart_differ word) (visited m words items) (each_visited m (IsApart word) (λ u b. apart_longer word u b) words items a.0),
   visited_distinct m words items a.1,
 )
+visited_distinct m _ _ a = tt
 
 -- the words of a part of the search tree are distinct nodes
 pub part_is_nodes : (m : Market) (items : List PartItem) → ArePartsOfSearch m ([] ∷ []) items → AreNodes m (visited m ([] ∷ []) items) × (length (visited m ([] ∷ []) items) ≡ length items)

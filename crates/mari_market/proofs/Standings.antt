@@ -1,16 +1,14 @@
 -- In a feasible activation an order of a gate runs exactly where its gate is open.
-use Rattle.std.proofs.Common.{◌≡◌, if◌then◌else◌, Bool, true, false, ℕ, ◌<◌, ◌≤◌, Option, Some, None, length, arith, refl, ap, ℤ}
-use Rattle.std.specs.Prelude.{nat_lt, MatchOption}
+use Rattle.std.proofs.Common.{◌≡◌, if◌then◌else◌, Bool, ℕ, ◌<◌, ◌≤◌, Option, length, arith, ℤ}
+use Rattle.std.specs.Prelude.{MatchOption}
 use Rattle.std.specs.List.{AllZip}
-use Rattle.std.proofs.lemmas.Bool.Decides.{nat_tests}
 use Rattle.mari_market.specs.declared.market.Order.{Order}
 use Rattle.mari_market.specs.declared.market.Market.{Market}
 use Rattle.mari_market.specs.declared.market.Side.{Side}
-use Rattle.mari_market.specs.declared.market.Side.TheVariants.{Inject, Withdraw}
 use Rattle.mari_market.specs.declared.activation.Activation.{Activation}
-use Rattle.mari_market.specs.declared.price_rules.Standing.TheVariants.{Plain, InOpen, InClosed}
+use Rattle.mari_market.specs.declared.price_rules.Standing.TheVariants.{Plain}
 use Rattle.mari_market.specs.Activation.{is_open}
-use Rattle.mari_market.specs.Bounds.{IsWithin, own_bounds, span_of, gated_span}
+use Rattle.mari_market.specs.Bounds.{IsWithin, own_bounds, span_of}
 use Rattle.mari_market.specs.Bounds.GateState.{Open, Closed}
 use Rattle.mari_market.specs.Consistent.{IsConsistentTrade, own_standing, standing_of}
 use Rattle.mari_market.specs.Dual.{IsTightTrade}
@@ -18,14 +16,8 @@ use Rattle.mari_market.specs.Market.{IsValid, IsValidOrder}
 use Rattle.mari_market.specs.Optimal.{IsFeasible}
 use Rattle.mari_market.proofs.Sums.{AllZip-with, AllZip-both}
 
-gate_standing : (b : Bool) (o : Order) (q : ℕ) → 1 ≤ o.least → IsWithin (gated_span (if b then Open else Closed) o) q → nat_lt 0 q ≡ b
-gate_standing true o q l w = let some : 0 < q = omega (arith, w.least) in grind (arith, nat_tests)
-gate_standing false o q l w = let none : q ≤ 0 = w.most in grind (arith, nat_tests)
-
-standing_at : (opens : ℕ → Bool) (gates : ℕ) (gate : Option ℕ) (o : Order) (q : ℕ)
-    → MatchOption gate (o.least ≡ 0) (λ g. (g < gates) × (1 ≤ o.least)) → IsWithin (span_of (λ g. if opens g then Open else Closed) gate o) q → own_standing gate q ≡ standing_of opens gate
-standing_at opens gates None o q v w = refl
-standing_at opens gates (Some g) o q v w = ap (λ (b : Bool). if b then InOpen else InClosed) (gate_standing (opens g) o q v.1 w)
+standing_at : (opens : ℕ → Bool) (gates : ℕ) (gate : Option ℕ) (o : Order) (q : ℕ) → MatchOption gate (o.least ≡ 0) (λ g. (g < gates) × (1 ≤ o.least)) → IsWithin (span_of (λ g. if opens g then Open else Closed) gate o) q → own_standing gate q ≡ standing_of opens gate
+standing_at opens gates gate o q v w = grind arith
 
 abbrev pub OneStanding : Market → Activation → Order → ℕ → Type 0
 OneStanding m a o q = own_standing o.gate q ≡ standing_of (is_open m a) o.gate
@@ -38,5 +30,4 @@ one_standing m a v f =
 
 -- what is tight at a plain order is consistent
 pub plain_consistent : (side : Side) (c p : ℤ) (most q : ℕ) → IsTightTrade side c p (record { lo = 0; hi = most }) q → IsConsistentTrade Plain side c most q p
-plain_consistent Inject c p most q t = record { lower = t.0; upper = t.1 }
-plain_consistent Withdraw c p most q t = record { lower = t.1; upper = t.0 }
+plain_consistent side c p most q t = grind arith

@@ -28,8 +28,7 @@ pub before_cons : (b : Bool) (xs ys : List Bool) → ComesBefore xs ys → Comes
 before_cons b xs ys h = record { gate = suc h.gate; same = same; closed = h.closed; opened = h.opened }
   where
     same : (g : ℕ) → g < suc h.gate → opens_in (b ∷ xs) g ≡ opens_in (b ∷ ys) g
-    same zero l = refl
-    same (suc g) l = h.same g (omega arith)
+    same g l = grind arith
 
 pub before_here : (xs ys : List Bool) → ComesBefore (false ∷ xs) (true ∷ ys)
 before_here xs ys = record { gate = 0; same = λ g l. absurd (omega arith); closed = refl; opened = refl }
@@ -54,8 +53,6 @@ before_both x y z h k = elim (cases_lt h.gate k.gate) [
 -- of two words of one length that differ, one comes before the other
 pub same_or_before : (x y : List Bool) → length x ≡ length y → (x ≡ y) ⊎ (ComesBefore x y ⊎ ComesBefore y x)
 same_or_before [] [] e = inl refl
-same_or_before [] (c ∷ cs) e = absurd (omega (arith, e))
-same_or_before (b ∷ bs) [] e = absurd (omega (arith, e))
 same_or_before (false ∷ bs) (true ∷ cs) e = inr (inl (before_here bs cs))
 same_or_before (true ∷ bs) (false ∷ cs) e = inr (inr (before_here cs bs))
 same_or_before (true ∷ bs) (true ∷ cs) e = elim (same_or_before bs cs (omega (arith, e))) [
@@ -66,11 +63,11 @@ same_or_before (false ∷ bs) (false ∷ cs) e = elim (same_or_before bs cs (ome
   | inl s ↦ inl (ap (λ (w : List Bool). false ∷ w) s)
   | inr s ↦ elim s [ inl h ↦ inr (inl (before_cons false bs cs h)) | inr h ↦ inr (inr (before_cons false cs bs h)) ]
 ]
+same_or_before _ _ e = grind arith
 
 pub closed_opens : (n g : ℕ) → opens_in (replicate n false) g ≡ false
-closed_opens zero g = refl
-closed_opens (suc n) zero = refl
 closed_opens (suc n) (suc g) = closed_opens n g
+closed_opens _ _ = refl
 
 -- nothing comes before a word that opens no gate
 pub none_before_closed : (n : ℕ) (word : List Bool) → ComesBefore word (replicate n false) → ⊥
@@ -87,17 +84,14 @@ record ComeBefore (k : ℕ) (opens : ℕ → Bool) (word : List Bool) : Type 0 w
 
 -- the empty word comes before each word that opens a gate
 empty_before : (word : List Bool) (g : ℕ) → opens_in word g ≡ true → ComesBefore [] word
-empty_before [] g e = absurd (cc)
-empty_before (true ∷ bs) g e = record { gate = 0; same = λ i l. absurd (omega arith); closed = refl; opened = refl }
-empty_before (false ∷ bs) zero e = absurd (cc)
 empty_before (false ∷ bs) (suc g) e = later (empty_before bs g e)
   where
     later : ComesBefore [] bs → ComesBefore [] (false ∷ bs)
     later h = record { gate = suc h.gate; same = same; closed = refl; opened = h.opened }
       where
         same : (i : ℕ) → i < suc h.gate → opens_in [] i ≡ opens_in (false ∷ bs) i
-        same zero l = refl
-        same (suc i) l = h.same i (omega arith)
+        same i l = grind arith
+empty_before _ _ e = grind arith
 
 -- what open gates begin with comes before each word that they come before
 front_before : (k : ℕ) (opens : ℕ → Bool) (front word : List Bool) → BeginsFrom k front opens → ComeBefore k opens word → ComesBefore front word
@@ -120,9 +114,8 @@ front_before k opens (c ∷ cs) (d ∷ ds) b h = by_gate (λ (rest : ComeBefore 
         subst (λ (x : Bool). ComesBefore (c ∷ cs) (x ∷ ds)) first (before_cons c cs ds rest)
 
 opened_as : (k : ℕ) (word : List Bool) (opens : ℕ → Bool) (g : ℕ) → BeginsFrom k word opens → g < length word → opens (k + g) ≡ opens_in word g
-opened_as k [] opens g b l = absurd (omega arith)
-opened_as k (c ∷ cs) opens zero b l = ap opens (add-zero k) ∙ b.0
 opened_as k (c ∷ cs) opens (suc g) b l = ap opens (omega arith) ∙ opened_as (suc k) cs opens g b.1 (omega arith)
+opened_as k _ opens _ b l = grind arith
 
 -- where the gate word of an activation comes before another gate word, whatever the activation begins with is early for
 -- that

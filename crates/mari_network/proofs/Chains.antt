@@ -1,5 +1,5 @@
 -- Pushing along chains.
-use Rattle.std.proofs.Common.{◌≡◌, ◌==◌, ◌≢◌, if◌then◌else◌, Bool, true, false, ℕ, zero, suc, ◌<◌, ◌≤◌, ℤ, pos, negsuc, ◌+ℤ◌, ◌-ℤ◌, ◌*ℤ◌, neg_ℤ, ◌≤ℤ◌, ◌<ℤ◌, List, length, get_or, set, arith, refl, sym, ap, subst, get_or-set_other}
+use Rattle.std.proofs.Common.{◌≡◌, ◌==◌, ◌≢◌, if◌then◌else◌, Bool, true, false, ℕ, suc, ◌<◌, ◌≤◌, ℤ, pos, ◌+ℤ◌, ◌-ℤ◌, ◌*ℤ◌, neg_ℤ, ◌≤ℤ◌, ◌<ℤ◌, List, length, get_or, set, arith, sym, ap, subst, get_or-set_other}
 use Rattle.std.proofs.lemmas.Int.{ints}
 use Rattle.std.specs.List.{AllZip}
 use Rattle.mari_market.specs.declared.market.Border.{Border}
@@ -16,12 +16,10 @@ use Rattle.mari_network.specs.Chain.{hop_at, tail_of, head_of, room_of, more_flo
 use Rattle.mari_network.specs.Chain.HasRoom.{begins, goes_on}
 
 pub if_neg : (b : Bool) (d : ℤ) → (if b then neg_ℤ d else pos 0) ≡ neg_ℤ (if b then d else pos 0)
-if_neg true d = refl
-if_neg false d = refl
+if_neg b d = grind arith
 
 pub if_none : (b : Bool) (f : ℤ) → f ≡ pos 0 → (if b then f else pos 0) ≡ pos 0
-if_none true f e = e
-if_none false f e = refl
+if_none b f e = grind arith
 
 -- ---- an amount
 
@@ -45,8 +43,7 @@ flow_within true b f d w n r = record { back = omega (arith, ints, w.back, w.lim
 flow_within false b f d w n r = record { back = omega (arith, ints, w.back, w.limit); limit = omega (arith, ints, w.back, w.limit) }
 
 pub hop_carries : (z : ℕ) (forth : Bool) (b : Border) (d : ℤ) → carried_out z b (more_flow forth d) ≡ at_zone z (tail_of forth b) d -ℤ at_zone z (head_of forth b) d
-hop_carries z true b d = refl
-hop_carries z false b d = omega (arith, ints, if_neg (b.from == z) d, if_neg (b.to == z) d)
+hop_carries z forth b d = grind (arith, ints)
 
 pub hop_carried : (z : ℕ) (bs : List Border) (fs : List ℤ) (h : Hop) (d : ℤ) → h.border < length bs
     → h.border < length fs
@@ -73,8 +70,7 @@ pub record HopHas (bs : List Border) (fs : List ℤ) (hops : List Hop) (d : ℤ)
   pub rest : HasRoom bs fs hops d (hop_at hops k).before
 
 pub hop_has : (bs : List Border) (fs : List ℤ) (hops : List Hop) (d : ℤ) (k : ℕ) → 0 < k → HasRoom bs fs hops d k → HopHas bs fs hops d k
-hop_has bs fs hops d _ h (begins) = absurd (omega arith)
-hop_has bs fs hops d _ h (goes_on k p r rest) = record { here = r; rest = rest }
+hop_has bs fs hops d k h x = grind arith
 
 -- a flow over a border that no hop up to a place uses changes no room there
 pub room_stays : (bs : List Border) (fs : List ℤ) (hops : List Hop) (d : ℤ) (e : ℕ) (v : ℤ) (m k : ℕ) → k < m
@@ -98,9 +94,8 @@ one_hop z bs hops k at d new now old hop e f =
     omega (arith, ints, e, f, t, h)
 
 pub dearer_rises : (a b d : ℤ) → a <ℤ b → pos 1 ≤ℤ d → (a *ℤ d) <ℤ (b *ℤ d)
-dearer_rises a b (pos zero) h l = absurd (omega (arith, ints))
 dearer_rises a b (pos (suc n)) h l = omega (arith, ints, pos_mul_lt n a b h)
-dearer_rises a b (negsuc n) h l = absurd (omega (arith, ints))
+dearer_rises a b _ h l = grind arith
 
 -- what a move from one slot to another does to the worth
 pub move_worth : (a b d old mid new : ℤ) → mid ≡ old -ℤ (b *ℤ neg_ℤ d) → new ≡ mid -ℤ (a *ℤ d) → new ≡ old +ℤ ((b -ℤ a) *ℤ d)

@@ -1,5 +1,5 @@
 -- The slots of a valid market's orders make a network.
-use Rattle.std.proofs.Common.{◌≡◌, ℕ, ℤ, ◌≤◌, ◌<◌, pos, neg_ℤ, ◌≤ℤ◌, List, length, get_or, arith, refl, sym, ap, subst, zero, suc, [], ◌∷◌, map}
+use Rattle.std.proofs.Common.{◌≡◌, ℕ, ℤ, ◌≤◌, ◌<◌, pos, neg_ℤ, ◌≤ℤ◌, List, length, get_or, arith, refl, sym, ap, subst, zero, suc, ◌∷◌, map}
 use Rattle.std.proofs.lemmas.Int.{ints}
 use Rattle.std.proofs.lemmas.List.{length-map, get_or-map}
 use lib.ListN.{replicate}
@@ -74,9 +74,8 @@ pub network_slots : (n : ℕ) (slots : List Slot) → All (IsOrderSlot n) slots 
 network_slots n slots a = λ k d l. record { zone = (a k d l).zone; small = slot_small (get_or slots k d) n (a k d l) }
 
 pub zeros_at : (n k : ℕ) → get_or (replicate n (pos 0)) k (pos 0) ≡ pos 0
-zeros_at zero k = refl
-zeros_at (suc n) zero = refl
 zeros_at (suc n) (suc k) = zeros_at n k
+zeros_at _ _ = refl
 
 pub zeros_long : (n : ℕ) → length (replicate n (pos 0)) ≡ n
 zeros_long zero = refl
@@ -84,7 +83,5 @@ zeros_long (suc n) = ap suc (zeros_long n)
 
 -- flows of none
 pub flows_fit : (bs : List Border) (fs : List ℤ) → length bs ≡ length fs → ((k : ℕ) → get_or fs k (pos 0) ≡ pos 0) → AllZip IsWithinLimits bs fs
-flows_fit [] [] e n = tt
 flows_fit (b ∷ bs) (f ∷ fs) e n = (record { back = omega (arith, ints, n 0); limit = omega (arith, ints, n 0) }, flows_fit bs fs (omega arith) (λ k. n (suc k)))
-flows_fit [] (f ∷ fs) e n = absurd (omega arith)
-flows_fit (b ∷ bs) [] e n = absurd (omega arith)
+flows_fit _ _ e n = grind arith

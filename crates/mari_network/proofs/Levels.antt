@@ -65,7 +65,6 @@ ordered_more : (bs : List Border) (fs : List ℤ) (old marked : List Bool) (p q 
     → ((z : ℕ) → is_marked old z ≡ true → v ≤ℤ p z) → AreClosed bs fs old
     → AreClosed bs fs marked → AllZip (OrderedOver (is_marked old) p) bs fs
     → AllZip (OrderedOver (is_marked marked) q) bs fs
-ordered_more [] [] old marked p q v l top a b o = tt
 ordered_more (b ∷ bs) (f ∷ fs) old marked p q v l top was now o = (
   λ forth r m. elim (marked_or (is_marked old (head_of forth b))) [
     | inl h ↦ omega (arith, ints, l.keep (head_of forth b) h, l.keep (tail_of forth b) (was.0 forth r h), o.0 forth r h)
@@ -79,8 +78,7 @@ ordered_more (b ∷ bs) (f ∷ fs) old marked p q v l top was now o = (
   ],
   ordered_more bs fs old marked p q v l top was.1 now.1 o.1,
 )
-ordered_more [] (f ∷ fs) old marked p q v l top a b o = absurd a
-ordered_more (b ∷ bs) [] old marked p q v l top a c o = absurd a
+ordered_more _ _ old marked p q v l top a b o = grind arith
 
 -- a stage that finds no cheaper slot
 pub levels_more : (slots : List Slot) (bs : List Border) (xs fs : List ℤ) (old marked : List Bool) (p q : ℕ → ℤ) (i : ℕ)
@@ -156,16 +154,12 @@ levels_tight slots bs xs fs old p q a l none zones prices ends = record {
 }
 
 closed_none : (bs : List Border) (fs : List ℤ) (marked : List Bool) → length bs ≡ length fs → ((z : ℕ) → is_marked marked z ≡ false) → AreClosed bs fs marked
-closed_none [] [] marked e n = tt
 closed_none (b ∷ bs) (f ∷ fs) marked e n = (λ forth r m. absurd (not_both (is_marked marked (head_of forth b)) m (n (head_of forth b))), closed_none bs fs marked (omega arith) n)
-closed_none [] (f ∷ fs) marked e n = absurd (omega arith)
-closed_none (b ∷ bs) [] marked e n = absurd (omega arith)
+closed_none _ _ marked e n = grind arith
 
 ordered_none : (bs : List Border) (fs : List ℤ) (marked : List Bool) (p : ℕ → ℤ) → length bs ≡ length fs → ((z : ℕ) → is_marked marked z ≡ false) → AllZip (OrderedOver (is_marked marked) p) bs fs
-ordered_none [] [] marked p e n = tt
 ordered_none (b ∷ bs) (f ∷ fs) marked p e n = (λ forth r m. absurd (not_both (is_marked marked (head_of forth b)) m (n (head_of forth b))), ordered_none bs fs marked p (omega arith) n)
-ordered_none [] (f ∷ fs) marked p e n = absurd (omega arith)
-ordered_none (b ∷ bs) [] marked p e n = absurd (omega arith)
+ordered_none _ _ marked p e n = grind arith
 
 -- nothing is marked at first
 pub levels_none : (slots : List Slot) (bs : List Border) (xs fs : List ℤ) (marked : List Bool) (p : ℕ → ℤ)

@@ -126,12 +126,10 @@ module _ (slots : List Slot) (old new : List ℤ) (sink source : ℕ) (moved : I
   }
 
 pub above_stays : (before after : List Slot) (v : ℤ) (best : Option ℕ) → ((i : ℕ) → best ≡ Some i → slot_at after i ≡ slot_at before i) → IsAbove before v best → IsAbove after v best
-above_stays before after v None same a = a
-above_stays before after v (Some i) same a = subst (λ (s : Slot). v ≤ℤ s.price) (sym (same i refl)) a
+above_stays before after v best same a = grind arith
 
 pub below_stays : (before after : List Slot) (v : ℤ) (best : Option ℕ) → ((i : ℕ) → best ≡ Some i → slot_at after i ≡ slot_at before i) → IsBelow before v best → IsBelow after v best
-below_stays before after v None same a = a
-below_stays before after v (Some i) same a = subst (λ (s : Slot). s.price ≤ℤ v) (sym (same i refl)) a
+below_stays before after v best same a = grind arith
 
 pub less_stays : (before after : List Slot) (old new : List ℤ) (k : ℕ)
     → length before ≡ length after → slot_at before k ≡ slot_at after k → int_at old k ≡ int_at new k → CanLess before old k → CanLess after new k
@@ -231,12 +229,10 @@ cheapest_in_all slots xs z n best next one keeps beside c = record {
 }
 
 above_some : (slots : List Slot) (v : ℤ) (best : Option ℕ) → IsAbove slots v best → (j : ℕ) × (best ≡ Some j) × (v ≤ℤ price_of slots j)
-above_some slots v None a = absurd a
-above_some slots v (Some j) a = (j, refl, a)
+above_some slots v best a = grind arith
 
 pub below_some : (slots : List Slot) (v : ℤ) (best : Option ℕ) → IsBelow slots v best → (j : ℕ) × (best ≡ Some j) × (price_of slots j ≤ℤ v)
-below_some slots v None a = absurd a
-below_some slots v (Some j) a = (j, refl, a)
+below_some slots v best a = grind arith
 
 -- the dearest of the zones' dearest is the dearest of all
 pub dearest_is : (slots : List Slot) (xs : List ℤ) (zones : ℕ) (margins : List Margin) (marked : List Bool) (i : ℕ)
@@ -262,5 +258,4 @@ dearest_none slots xs zones margins marked zoned a d = λ k can free.
 
 -- where there is a slot, and its price is at least this
 pub above_from : (slots : List Slot) (v : ℤ) (best : Option ℕ) → (best ≡ None → ⊥) → ((j : ℕ) → best ≡ Some j → v ≤ℤ price_of slots j) → IsAbove slots v best
-above_from slots v None some least = absurd (some refl)
-above_from slots v (Some j) some least = least j refl
+above_from slots v best some least = grind arith

@@ -5,23 +5,16 @@ use Rattle.std.proofs.lemmas.List.Sums.{sum_by-set, sum_by-cons}
 use Rattle.mari_network.specs.Spread.{is_marked}
 
 pub marked_set : (marked : List Bool) (i z : ℕ) → is_marked (set marked i true) z ≡ true → (z ≡ i) ⊎ (is_marked marked z ≡ true)
-marked_set [] i z e = inr e
-marked_set (b ∷ bs) zero zero e = inl refl
-marked_set (b ∷ bs) zero (suc z) e = inr e
-marked_set (b ∷ bs) (suc i) zero e = inr e
 marked_set (b ∷ bs) (suc i) (suc z) e = elim (marked_set bs i z e) [ inl h ↦ inl (ap suc h) | inr h ↦ inr h ]
+marked_set _ _ _ e = grind arith
 
 pub keep_mark : (marked : List Bool) (i z : ℕ) → is_marked marked z ≡ true → is_marked (set marked i true) z ≡ true
-keep_mark [] i z e = e
-keep_mark (b ∷ bs) zero zero e = refl
-keep_mark (b ∷ bs) zero (suc z) e = e
-keep_mark (b ∷ bs) (suc i) zero e = e
 keep_mark (b ∷ bs) (suc i) (suc z) e = keep_mark bs i z e
+keep_mark _ _ _ e = grind arith
 
 pub set_mark : (marked : List Bool) (i : ℕ) → i < length marked → is_marked (set marked i true) i ≡ true
-set_mark [] i h = absurd (omega arith)
-set_mark (b ∷ bs) zero h = refl
 set_mark (b ∷ bs) (suc i) h = set_mark bs i (omega arith)
+set_mark _ _ h = grind arith
 
 pub count_mark : (marked : List Bool) (i : ℕ) → i < length marked → is_marked marked i ≡ false → count_by not (set marked i true) + 1 ≡ count_by not marked
 count_mark marked i h e =
@@ -29,21 +22,17 @@ count_mark marked i h e =
     omega (arith, sum_by-set (λ (x : Bool). cond (not x) 1 0) marked i true false h, one)
 
 pub not_both : (b : Bool) → b ≡ true → b ≡ false → ⊥
-not_both true e f = absurd (cc)
-not_both false e f = absurd (cc)
+not_both b e f = grind arith
 
 pub is_false : (a b : Bool) → (a ≡ true → b ≡ true) → b ≡ false → a ≡ false
-is_false true b h e = absurd (not_both b (h refl) e)
-is_false false b h e = refl
+is_false a b h e = grind arith
 
 pub marked_or : (b : Bool) → (b ≡ true) ⊎ (b ≡ false)
-marked_or true = inl refl
-marked_or false = inr refl
+marked_or b = grind arith
 
 pub marked_below : (marked : List Bool) (z : ℕ) → is_marked marked z ≡ true → z < length marked
-marked_below [] z e = absurd (cc)
-marked_below (b ∷ bs) zero e = omega arith
 marked_below (b ∷ bs) (suc z) e = omega (arith, marked_below bs z e)
+marked_below _ _ e = grind arith
 
 pub none_count : (marked : List Bool) → ((z : ℕ) → is_marked marked z ≡ false) → count_by not marked ≡ length marked
 none_count [] n = refl
@@ -68,6 +57,5 @@ all_marked (true ∷ bs) (suc z) e h = all_marked bs z (omega (arith, sum_by-con
 all_marked (false ∷ bs) z e h = absurd (omega (arith, sum_by-cons (λ (x : Bool). cond (not x) 1 0) false bs, e))
 
 pub all_unmarked : (marked : List Bool) → ((k : ℕ) → k < length marked → is_marked marked k ≡ false) → (z : ℕ) → is_marked marked z ≡ false
-all_unmarked [] h z = refl
-all_unmarked (b ∷ bs) h zero = h 0 (omega arith)
 all_unmarked (b ∷ bs) h (suc z) = all_unmarked bs (λ k l. h (suc k) (omega arith)) z
+all_unmarked _ h _ = search arith

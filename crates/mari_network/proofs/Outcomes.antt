@@ -1,5 +1,5 @@
 -- What the end of a run says of the orders: the relaxed optimum, or a cut.
-use Rattle.std.proofs.Common.{◌≡◌, ◌==◌, ℕ, suc, ◌+◌, ◌<◌, ℤ, pos, ◌+ℤ◌, neg_ℤ, ◌<ℤ◌, List, [], ◌∷◌, ◌++◌, length, get_or, take, drop, arith, refl, sym, ◌∙◌, subst}
+use Rattle.std.proofs.Common.{◌≡◌, ◌==◌, ℕ, suc, ◌+◌, ◌<◌, ℤ, pos, ◌+ℤ◌, neg_ℤ, ◌<ℤ◌, List, ◌∷◌, ◌++◌, length, get_or, take, drop, arith, refl, sym, ◌∙◌, subst}
 use Rattle.std.proofs.lemmas.List.{length-map, get_or-drop, get_or-map}
 use Rattle.std.proofs.lemmas.Int.{ints}
 use Rattle.std.specs.List.{All, AllZip}
@@ -31,14 +31,12 @@ use Rattle.mari_market.proofs.Sums.{AllZip-at, int_sum-map}
 sum_split : {X Y : Type 0} (f : X → Y → ℤ) (P : X → Y → Type 0) (ss rs : List X) (ys : List Y)
     → AllZip P (ss ++ rs) ys
     → sum_along f (ss ++ rs) ys ≡ sum_along f ss (take (length ss) ys) +ℤ sum_along f rs (drop (length ss) ys)
-sum_split f P [] rs ys a = omega (arith, ints)
 sum_split f P (s ∷ ss) rs (y ∷ ys) a = omega (arith, ints, sum_split f P ss rs ys a.1)
-sum_split f P (s ∷ ss) rs [] a = absurd a
+sum_split f P _ rs _ a = omega (arith, ints)
 
 into_none : (z : ℕ) (slots : List Slot) (ws : List ℤ) → ((k : ℕ) → k < length ws → get_or ws k (pos 0) ≡ pos 0) → sum_along (slot_into z) slots ws ≡ pos 0
-into_none z [] ws h = refl
-into_none z (s ∷ ss) [] h = refl
 into_none z (s ∷ ss) (w ∷ ws) h = omega (arith, ints, into_none z ss ws (λ k l. h (suc k) (omega arith)), if_none (s.zone == z) w (h 0 (omega arith)))
+into_none z _ _ h = refl
 
 reals_real : (bounds : Order → Span) (n gates : ℕ) (os : List Order) → All (IsValidOrder n gates) os → All (IsReal BEYOND) (slots_of bounds os)
 reals_real bounds n gates os v = λ k d l.

@@ -68,10 +68,7 @@ taken_back bs fs old marked new hops start s long here others =
 
 -- one end of a border is where energy leaves, and the other where it comes in
 either_end : (P : ℕ → Type 0) (way forth : Bool) (b : Border) → P (tail_of way b) → P (head_of way b) → P (head_of forth b)
-either_end P true true b t h = h
-either_end P true false b t h = t
-either_end P false true b t h = t
-either_end P false false b t h = h
+either_end P way forth b t h = grind arith
 
 -- energy moved along a chain
 pub along_chain : (n : Network) (xs fs ys gs : List ℤ) (c : Chain) → IsImproving n xs fs c → IsMoved n.slots.now xs ys c.sink c.source

@@ -1,5 +1,5 @@
 -- The answer, from where a run ends.
-use Rattle.std.proofs.Common.{◌≡◌, ◌≢◌, ℕ, ◌+◌, ◌-◌, ◌<◌, ◌≤◌, ℤ, pos, neg_ℤ, ◌≤ℤ◌, ◌<ℤ◌, List, [], ◌∷◌, ◌++◌, length, take, arith, sym, ap, ◌∙◌, subst, map, length-append, length-drop}
+use Rattle.std.proofs.Common.{◌≡◌, ◌≢◌, ℕ, ◌+◌, ◌-◌, ◌<◌, ◌≤◌, ℤ, pos, neg_ℤ, ◌≤ℤ◌, ◌<ℤ◌, List, ◌∷◌, ◌++◌, length, take, arith, sym, ap, ◌∙◌, subst, map, length-append, length-drop}
 use Rattle.std.proofs.lemmas.Int.{ints, by_lt_z}
 use Rattle.std.proofs.lemmas.List.{length-map, get_or-map}
 use Rattle.std.proofs.lemmas.Bool.{not-true, not-false}
@@ -7,7 +7,6 @@ use Rattle.std.specs.List.{All, AllZip}
 use lib.Signed.{lt_z}
 use Rattle.mari_units.specs.declared.Cents.{Cents}
 use Rattle.mari_market.specs.declared.market.Side.{Side}
-use Rattle.mari_market.specs.declared.market.Side.TheVariants.{Inject, Withdraw}
 use Rattle.mari_market.specs.declared.market.Order.{Order}
 use Rattle.mari_market.specs.declared.market.Market.{Market}
 use Rattle.mari_market.specs.declared.certificate.CutSide.{CutSide}
@@ -39,16 +38,11 @@ use Rattle.mari_network.proofs.Transfers.{IsBest, capped_prices, puts_gain}
 use Rattle.mari_network.proofs.Outcomes.{Ends, ends_solved, ends_cut_out, ends_cut_in}
 
 can_between : (side : Side) (low high x : ℤ) → CanPut side low → CanPut side high → low ≤ℤ x → x ≤ℤ high → CanPut side x
-can_between Inject low high x a b l h = (omega (arith, ints, a.0, b.1), omega (arith, ints, a.0, b.1))
-can_between Withdraw low high x a b l h = (omega (arith, ints, a.0, b.1), omega (arith, ints, a.0, b.1))
+can_between side low high x a b l h = grind (arith, ints)
 
 pub zip_can : (os : List Order) (ss : List Slot) (xs : List ℤ) → AllZip (λ o s. CanPut o.side s.low × CanPut o.side s.high) os ss → AllZip IsWithinSlot ss xs → AllZip (λ o x. CanPut o.side x) os xs
-zip_can [] [] [] a b = tt
 zip_can (o ∷ os) (s ∷ ss) (x ∷ xs) a b = (can_between o.side s.low s.high x a.0.0 a.0.1 b.0.least b.0.most, zip_can os ss xs a.1 b.1)
-zip_can [] [] (x ∷ xs) a b = absurd b
-zip_can [] (s ∷ ss) xs a b = absurd a
-zip_can (o ∷ os) [] xs a b = absurd a
-zip_can (o ∷ os) (s ∷ ss) [] a b = absurd b
+zip_can _ _ _ a b = grind arith
 
 -- what is known where a run ends, of the market's borders and of the slots within the spans
 ends : (spans : Order → Span) (m : Market) (more : List Slot) (n : NetworkRecord) (xs fs prices : List ℤ)

@@ -28,8 +28,7 @@ paid_is_cost p n slots xs bs fs zones ends balance =
 pub sum_along-append : {X Y : Type 0} (f : X → Y → ℤ) (ss rs : List X) (xs ys : List Y) → length ss ≡ length xs → sum_along f (ss ++ rs) (xs ++ ys) ≡ sum_along f ss xs +ℤ sum_along f rs ys
 sum_along-append f [] rs [] ys e = omega (arith, ints)
 sum_along-append f (s ∷ ss) rs (x ∷ xs) ys e = omega (arith, ints, sum_along-append f ss rs xs ys (omega arith))
-sum_along-append f [] rs (x ∷ xs) ys e = absurd (omega arith)
-sum_along-append f (s ∷ ss) rs [] ys e = absurd (omega arith)
+sum_along-append f _ rs _ ys e = grind arith
 
 -- 1 in the set, 0 elsewhere
 abbrev pub counts : Bool → ℤ
@@ -37,38 +36,30 @@ counts b = if b then pos 1 else pos 0
 
 -- where each term is at most 0, and one is less, so is the sum
 sum_at_most : {X Y : Type 0} (f : X → Y → ℤ) (xs : List X) (ys : List Y) → AllZip (λ x y. f x y ≤ℤ pos 0) xs ys → sum_along f xs ys ≤ℤ pos 0
-sum_at_most f [] [] a = omega (arith, ints)
 sum_at_most f (x ∷ xs) (y ∷ ys) a = omega (arith, ints, a.0, sum_at_most f xs ys a.1)
-sum_at_most f [] (y ∷ ys) a = absurd a
-sum_at_most f (x ∷ xs) [] a = absurd a
+sum_at_most f _ _ a = omega (arith, ints)
 
 sum_below_none : {X Y : Type 0} (f : X → Y → ℤ) (xs : List X) (ys : List Y) (k : ℕ) (d : X) (e : Y)
     → AllZip (λ x y. f x y ≤ℤ pos 0) xs ys → k < length xs → f (get_or xs k d) (get_or ys k e) <ℤ pos 0
     → sum_along f xs ys <ℤ pos 0
-sum_below_none f [] ys k d e a h l = absurd (omega arith)
-sum_below_none f (x ∷ xs) [] k d e a h l = absurd a
 sum_below_none f (x ∷ xs) (y ∷ ys) zero d e a h l = omega (arith, ints, l, sum_at_most f xs ys a.1)
 sum_below_none f (x ∷ xs) (y ∷ ys) (suc k) d e a h l = omega (arith, ints, a.0, sum_below_none f xs ys k d e a.1 (omega arith) l)
+sum_below_none f _ _ k d e a h l = omega arith
 
 sum_at_least : {X Y : Type 0} (f : X → Y → ℤ) (xs : List X) (ys : List Y) → AllZip (λ x y. pos 0 ≤ℤ f x y) xs ys → pos 0 ≤ℤ sum_along f xs ys
-sum_at_least f [] [] a = omega (arith, ints)
 sum_at_least f (x ∷ xs) (y ∷ ys) a = omega (arith, ints, a.0, sum_at_least f xs ys a.1)
-sum_at_least f [] (y ∷ ys) a = absurd a
-sum_at_least f (x ∷ xs) [] a = absurd a
+sum_at_least f _ _ a = omega (arith, ints)
 
 sum_above_none : {X Y : Type 0} (f : X → Y → ℤ) (xs : List X) (ys : List Y) (k : ℕ) (d : X) (e : Y)
     → AllZip (λ x y. pos 0 ≤ℤ f x y) xs ys → k < length xs → pos 0 <ℤ f (get_or xs k d) (get_or ys k e)
     → pos 0 <ℤ sum_along f xs ys
-sum_above_none f [] ys k d e a h l = absurd (omega arith)
-sum_above_none f (x ∷ xs) [] k d e a h l = absurd a
 sum_above_none f (x ∷ xs) (y ∷ ys) zero d e a h l = omega (arith, ints, l, sum_at_least f xs ys a.1)
 sum_above_none f (x ∷ xs) (y ∷ ys) (suc k) d e a h l = omega (arith, ints, a.0, sum_above_none f xs ys k d e a.1 (omega arith) l)
+sum_above_none f _ _ k d e a h l = omega arith
 
 pub zip_map : {X Y : Type 0} (P Q : X → Y → Type 0) → ((x : X) (y : Y) → P x y → Q x y) → (xs : List X) (ys : List Y) → AllZip P xs ys → AllZip Q xs ys
-zip_map P Q h [] [] a = tt
 zip_map P Q h (x ∷ xs) (y ∷ ys) a = (h x y a.0, zip_map P Q h xs ys a.1)
-zip_map P Q h [] (y ∷ ys) a = absurd a
-zip_map P Q h (x ∷ xs) [] a = absurd a
+zip_map P Q h _ _ a = grind arith
 
 -- what is known of a slot with its amount, and of a border with its flow
 pub record RunsSlot (n : ℕ) (p : ℕ → ℤ) (s : Slot) (x : ℤ) : Type 0 where
@@ -101,8 +92,7 @@ abbrev pub out_of : (ℕ → Bool) → Border → ℤ
 out_of inside b = (if inside b.from && not (inside b.to) then pos b.limit else pos 0) +ℤ (if not (inside b.from) && inside b.to then pos b.back else pos 0)
 
 low_slot : (b : Bool) (m p low x price : ℤ) → (b ≡ true → p ≤ℤ neg_ℤ m) → neg_ℤ m <ℤ price → low ≤ℤ x → (low <ℤ x → price ≤ℤ p) → (counts b *ℤ x) ≡ (if b then low else pos 0)
-low_slot true m p low x price i c w t = by_lt_z low x (λ l. absurd (omega (arith, ints, t l, i refl))) (λ l. omega (arith, ints))
-low_slot false m p low x price i c w t = omega (arith, ints)
+low_slot b m p low x price i c w t = grind (arith, ints)
 
 low_stand_in : (b : Bool) (m p x : ℤ) (s : Slot) → pos 0 <ℤ m → IsStandIn m s → (b ≡ true → p ≤ℤ neg_ℤ m) → IsWithinSlot s x → (s.low <ℤ x → s.price ≤ℤ p) → (counts b *ℤ x) ≤ℤ pos 0
 low_stand_in true m p x s h e i w t = elim e [
@@ -122,10 +112,9 @@ low_flow : (a b : Bool) (m pa pb f : ℤ) (limit back : ℕ) → (a ≡ true →
     → (b ≡ true → pb ≤ℤ neg_ℤ m) → (b ≡ false → neg_ℤ m <ℤ pb) → neg_ℤ (pos back) ≤ℤ f → f ≤ℤ pos limit
     → (f <ℤ pos limit → pb ≤ℤ pa) → (neg_ℤ (pos back) <ℤ f → pa ≤ℤ pb)
     → ((counts a *ℤ f) -ℤ (counts b *ℤ f)) ≡ ((if a && not b then pos limit else pos 0) +ℤ (if not a && b then pos back else pos 0))
-low_flow true true m pa pb f limit back ai ao bi bo l h more less = omega (arith, ints)
-low_flow false false m pa pb f limit back ai ao bi bo l h more less = omega (arith, ints)
 low_flow true false m pa pb f limit back ai ao bi bo l h more less = by_lt_z f (pos limit) (λ r. absurd (omega (arith, ints, more r, ai refl, bo refl))) (λ r. omega (arith, ints))
 low_flow false true m pa pb f limit back ai ao bi bo l h more less = by_lt_z (neg_ℤ (pos back)) f (λ r. absurd (omega (arith, ints, less r, ao refl, bi refl))) (λ r. omega (arith, ints))
+low_flow _ _ m pa pb f limit back ai ao bi bo l h more less = omega (arith, ints)
 
 -- too much energy in these zones
 pub shortfall_out : (n : ℕ) (m : ℤ) (p : ℕ → ℤ) (inside : ℕ → Bool) (reals stand_ins : List Slot) (xs ws : List ℤ) (bs : List Border) (fs : List ℤ) (k : ℕ) (d : Slot)
@@ -161,8 +150,7 @@ abbrev pub into_of : (ℕ → Bool) → Border → ℤ
 into_of inside b = (if inside b.from && not (inside b.to) then pos b.back else pos 0) +ℤ (if not (inside b.from) && inside b.to then pos b.limit else pos 0)
 
 high_slot : (b : Bool) (m p high x price : ℤ) → (b ≡ true → m ≤ℤ p) → price <ℤ m → x ≤ℤ high → (x <ℤ high → p ≤ℤ price) → (counts b *ℤ x) ≡ (if b then high else pos 0)
-high_slot true m p high x price i c w t = by_lt_z x high (λ l. absurd (omega (arith, ints, t l, i refl))) (λ l. omega (arith, ints))
-high_slot false m p high x price i c w t = omega (arith, ints)
+high_slot b m p high x price i c w t = grind (arith, ints)
 
 high_stand_in : (b : Bool) (m p x : ℤ) (s : Slot) → pos 0 <ℤ m → IsStandIn m s → (b ≡ true → m ≤ℤ p) → IsWithinSlot s x → (x <ℤ s.high → p ≤ℤ s.price) → pos 0 ≤ℤ (counts b *ℤ x)
 high_stand_in true m p x s h e i w t = elim e [
@@ -182,10 +170,9 @@ high_flow : (a b : Bool) (m pa pb f : ℤ) (limit back : ℕ) → (a ≡ true �
     → (b ≡ true → m ≤ℤ pb) → (b ≡ false → pb <ℤ m) → neg_ℤ (pos back) ≤ℤ f → f ≤ℤ pos limit
     → (f <ℤ pos limit → pb ≤ℤ pa) → (neg_ℤ (pos back) <ℤ f → pa ≤ℤ pb)
     → ((counts a *ℤ f) -ℤ (counts b *ℤ f)) ≡ neg_ℤ ((if a && not b then pos back else pos 0) +ℤ (if not a && b then pos limit else pos 0))
-high_flow true true m pa pb f limit back ai ao bi bo l h more less = omega (arith, ints)
-high_flow false false m pa pb f limit back ai ao bi bo l h more less = omega (arith, ints)
 high_flow true false m pa pb f limit back ai ao bi bo l h more less = by_lt_z (neg_ℤ (pos back)) f (λ r. absurd (omega (arith, ints, less r, ai refl, bo refl))) (λ r. omega (arith, ints))
 high_flow false true m pa pb f limit back ai ao bi bo l h more less = by_lt_z f (pos limit) (λ r. absurd (omega (arith, ints, more r, ao refl, bi refl))) (λ r. omega (arith, ints))
+high_flow _ _ m pa pb f limit back ai ao bi bo l h more less = omega (arith, ints)
 
 -- too little energy in these zones
 pub shortfall_in : (n : ℕ) (m : ℤ) (p : ℕ → ℤ) (inside : ℕ → Bool) (reals stand_ins : List Slot) (xs ws : List ℤ) (bs : List Border) (fs : List ℤ) (k : ℕ) (d : Slot)

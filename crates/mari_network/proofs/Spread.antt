@@ -48,12 +48,10 @@ room_push bs fs hops h d _ l each (goes_on k p r rest) =
 
 -- both ends of a border, from the one where energy leaves and the one where it comes in
 both_ends : (P : ℕ → Type 0) (forth : Bool) (b : Border) → P (tail_of forth b) → P (head_of forth b) → P b.from × P b.to
-both_ends P true b t h = (t, h)
-both_ends P false b t h = (h, t)
+both_ends P forth b t h = grind arith
 
 tail_end : (P : ℕ → Type 0) (forth : Bool) (b : Border) → P b.from → P b.to → P (tail_of forth b)
-tail_end P true b f t = f
-tail_end P false b f t = t
+tail_end P forth b f t = grind arith
 
 -- what a new hop must meet
 pub record IsNext (bs : List Border) (fs : List ℤ) (marked : List Bool) (hops : List Hop) (h : Hop) : Type 0 where
@@ -178,17 +176,14 @@ spread_first bs fs old h l e = record {
 
 -- marks that only grow
 pub into_keeps : (marked new : List Bool) (y : ℕ) (bs : List Border) (fs : List ℤ) → Keeps marked new → AllZip (MarkedInto marked y) bs fs → AllZip (MarkedInto new y) bs fs
-into_keeps marked new y [] [] k a = tt
 into_keeps marked new y (b ∷ bs) (f ∷ fs) k a = (λ forth r e. k _ (a.0 forth r e), into_keeps marked new y bs fs k a.1)
-into_keeps marked new y [] (f ∷ fs) k a = absurd a
-into_keeps marked new y (b ∷ bs) [] k a = absurd a
+into_keeps marked new y _ _ k a = grind arith
 
 -- what each new zone is led to from is marked, and so is all that old ones are
 pub closed_more : (old marked : List Bool) (hops : List Hop) (bs : List Border) (fs : List ℤ)
     → ((z : ℕ) → is_marked marked z ≡ true → (is_marked old z ≡ true) ⊎ ((k : ℕ) × (k < length hops) × ((hop_at hops k).zone ≡ z)))
     → Keeps old marked → ((k : ℕ) → k < length hops → AllZip (MarkedInto marked (hop_at hops k).zone) bs fs)
     → AreClosed bs fs old → AreClosed bs fs marked
-closed_more old marked hops [] [] news k into a = tt
 closed_more old marked hops (b ∷ bs) (f ∷ fs) news k into a = (
   λ forth r m. elim (news (head_of forth b) m) [
     | inl o ↦ k _ (a.0 forth r o)
@@ -196,19 +191,16 @@ closed_more old marked hops (b ∷ bs) (f ∷ fs) news k into a = (
   ],
   closed_more old marked hops bs fs news k (λ i l. (into i l).1) a.1,
 )
-closed_more old marked hops [] (f ∷ fs) news k into a = absurd a
-closed_more old marked hops (b ∷ bs) [] news k into a = absurd a
+closed_more old marked hops _ _ news k into a = grind arith
 
 -- where all zones are marked, all that is led to is
 pub closed_all : (marked : List Bool) (bs : List Border) (fs : List ℤ) → AllZip (λ b f. (b.from < length marked) × (b.to < length marked)) bs fs
     → ((z : ℕ) → z < length marked → is_marked marked z ≡ true) → AreClosed bs fs marked
-closed_all marked [] [] ends all = tt
 closed_all marked (b ∷ bs) (f ∷ fs) ends all = (
   λ forth r m. all (tail_of forth b) (tail_end (λ z. z < length marked) forth b ends.0.0 ends.0.1),
   closed_all marked bs fs ends.1 all,
 )
-closed_all marked [] (f ∷ fs) ends all = absurd ends
-closed_all marked (b ∷ bs) [] ends all = absurd ends
+closed_all marked _ _ ends all = grind arith
 
 -- where energy can come along the way, the zone that it comes from is marked
 abbrev pub Leads : List Border → List ℤ → List Bool → Way → Type 0

@@ -1,5 +1,5 @@
 -- What is tight for the slots is tight for the orders.
-use Rattle.std.proofs.Common.{◌≡◌, ◌==◌, if◌then◌else◌, ℕ, ◌<◌, ◌≤◌, ℤ, pos, negsuc, neg_ℤ, unsigned_abs, ◌*ℤ◌, ◌≤ℤ◌, ◌<ℤ◌, List, [], ◌∷◌, length, arith, refl, sym, ap, ◌∙◌, subst, get_or, zero, suc, map}
+use Rattle.std.proofs.Common.{◌≡◌, ◌==◌, if◌then◌else◌, ℕ, ◌<◌, ◌≤◌, ℤ, pos, neg_ℤ, unsigned_abs, ◌*ℤ◌, ◌≤ℤ◌, ◌<ℤ◌, List, [], ◌∷◌, length, arith, refl, sym, ap, ◌∙◌, subst, get_or, suc, map}
 use Rattle.std.proofs.lemmas.Int.{ints, clamps}
 use Rattle.std.specs.List.{All, AllZip}
 use Rattle.std.proofs.lemmas.List.Elements.{All-head, All-tail}
@@ -22,14 +22,12 @@ use Rattle.mari_market.specs.Relaxation.{IsWithinBounds, IsRelaxed}
 use Rattle.mari_market.specs.Cut.{least_put, most_put}
 use Rattle.std.proofs.lemmas.List.{length-map, get_or-map}
 use Rattle.mari_market.proofs.Duality.{weak_duality}
-use Rattle.mari_market.proofs.Ints.{mul-neg_z}
 use Rattle.mari_market.proofs.Tight.{tight_is_equal}
 use Rattle.mari_network.specs.Slots.{slot_into, IsWithinSlot, IsTightSlot}
 use Rattle.mari_network.specs.Orders.{amount_gain, slots_of, ArePuts, CanPut, capped, capped_cents}
 
 trade_within : (side : Side) (s : Span) (q : ℕ) → least_put side s ≤ℤ put_in side q → put_in side q ≤ℤ most_put side s → IsWithin s q
-trade_within Inject s q l h = record { least = omega (arith, ints, l, h); most = omega (arith, ints, l, h) }
-trade_within Withdraw s q l h = record { least = omega (arith, ints, l, h); most = omega (arith, ints, l, h) }
+trade_within side s q l h = grind arith
 
 trade_tight : (side : Side) (c p : ℤ) (s : Span) (q : ℕ) → IsPrice c → (least_put side s <ℤ put_in side q → c ≤ℤ p) → (put_in side q <ℤ most_put side s → p ≤ℤ c) → IsTightTrade side c (capped p) s q
 trade_tight Inject c p s q i l h = (λ r. omega (arith, ints, clamps, i.low, i.high, l (omega (arith, ints, r))), λ r. omega (arith, ints, clamps, i.low, i.high, h (omega (arith, ints, r))))
@@ -57,9 +55,8 @@ orders_tight bounds n gates p ps (o ∷ os) (x ∷ xs) (q ∷ qs) e v r t =
 orders_tight bounds n gates p ps _ _ _ e v r t = absurd r
 
 pub orders_into : (z : ℕ) (bounds : Order → Span) (os : List Order) (xs : List ℤ) (qs : List ℕ) → ArePuts os xs qs → sum_along (put_into z) os qs ≡ sum_along (slot_into z) (slots_of bounds os) xs
-orders_into z bounds [] [] [] r = refl
 orders_into z bounds (o ∷ os) (x ∷ xs) (q ∷ qs) r = omega (arith, ints, orders_into z bounds os xs qs r.1, ap (λ (v : ℤ). if o.zone == z then v else pos 0) r.0)
-orders_into z bounds _ _ _ r = absurd r
+orders_into z bounds _ _ _ r = grind arith
 
 flow_tight : (pa pb ca cb f : ℤ) (limit back : ℕ) → ca ≡ capped pa → cb ≡ capped pb → (f <ℤ pos limit → pb ≤ℤ pa)
     → (neg_ℤ (pos back) <ℤ f → pa ≤ℤ pb) → (f <ℤ pos limit → cb ≤ℤ ca) × (neg_ℤ (pos back) <ℤ f → ca ≤ℤ cb)
@@ -68,13 +65,11 @@ flow_tight pa pb ca cb f limit back a b more less = (λ r. omega (arith, ints, c
 pub flows_tight : (n : ℕ) (p : ℕ → ℤ) (ps : List Cents) (bs : List Border) (fs : List ℤ)
     → ((z : ℕ) → z < n → price_at ps z ≡ capped (p z)) → All (IsValidBorder n) bs → AllZip (IsConsistentFlow p) bs fs
     → AllZip (IsConsistentBorder ps) bs fs
-flows_tight n p ps [] [] e v t = tt
 flows_tight n p ps (b ∷ bs) (f ∷ fs) e v t =
     let b_valid = All-head (IsValidBorder n) b bs v in
     let both = flow_tight (p b.from) (p b.to) (price_at ps b.from) (price_at ps b.to) f b.limit b.back (e b.from b_valid.from) (e b.to b_valid.to) t.0.more t.0.less in
     (record { more = both.0; less = both.1 }, flows_tight n p ps bs fs e (All-tail (IsValidBorder n) b bs v) t.1)
-flows_tight n p ps [] (f ∷ fs) e v t = absurd t
-flows_tight n p ps (b ∷ bs) [] e v t = absurd t
+flows_tight n p ps _ _ e v t = grind arith
 
 -- an activation that is the relaxed optimum, with potentials that are tight for it
 pub record IsBest (bounds : Order → Span) (m : Market) (a : Activation) (ps : List Cents) : Type 0 where
@@ -110,41 +105,23 @@ best_from bounds m a ps p xs v puts prices within limits balance slots flows =
 
 -- an amount is what its size puts in
 size_put : (side : Side) (x : ℤ) → CanPut side x → x ≡ put_in side (unsigned_abs x)
-size_put Inject (pos n) can = refl
-size_put Inject (negsuc n) can = absurd (omega (arith, ints, can.0))
-size_put Withdraw (pos zero) can = refl
-size_put Withdraw (pos (suc n)) can = absurd (omega (arith, ints, can.1))
-size_put Withdraw (negsuc n) can = refl
+size_put side x can = grind (arith, ints)
 
 pub sizes_put : (os : List Order) (xs : List ℤ) → AllZip (λ o x. CanPut o.side x) os xs → ArePuts os xs (map unsigned_abs xs)
-sizes_put [] [] a = tt
 sizes_put (o ∷ os) (x ∷ xs) a = (size_put o.side x a.0, sizes_put os xs a.1)
-sizes_put [] (x ∷ xs) a = absurd a
-sizes_put (o ∷ os) [] a = absurd a
-
-size_small : (side : Side) (x : ℤ) → CanPut side x → unsigned_abs x ≤ MOST_MW
-size_small Inject (pos n) can = omega (arith, ints, can.1)
-size_small Inject (negsuc n) can = absurd (omega (arith, ints, can.0))
-size_small Withdraw (pos zero) can = omega arith
-size_small Withdraw (pos (suc n)) can = absurd (omega (arith, ints, can.1))
-size_small Withdraw (negsuc n) can = omega (arith, ints, can.0)
+sizes_put _ _ a = grind arith
 
 pub sizes_small : (os : List Order) (xs : List ℤ) → AllZip (λ o x. CanPut o.side x) os xs → (k : ℕ) (d : ℤ) → k < length xs → unsigned_abs (get_or xs k d) ≤ MOST_MW
-sizes_small [] [] a k d l = absurd (omega arith)
-sizes_small (o ∷ os) (x ∷ xs) a zero d l = size_small o.side x a.0
 sizes_small (o ∷ os) (x ∷ xs) a (suc k) d l = sizes_small os xs a.1 k d (omega arith)
-sizes_small [] (x ∷ xs) a k d l = absurd a
-sizes_small (o ∷ os) [] a k d l = absurd a
+sizes_small _ _ a _ d l = grind arith
 
 -- the amounts are worth what the quantities are
 trade_gain : (side : Side) (c x : ℤ) (q : ℕ) → x ≡ put_in side q → neg_ℤ (c *ℤ x) ≡ gain side c q
-trade_gain Inject c x q e = ap (λ (v : ℤ). neg_ℤ (c *ℤ v)) e
-trade_gain Withdraw c x q e = omega (arith, ints, ap (λ (v : ℤ). c *ℤ v) e, mul-neg_z c (pos q))
+trade_gain side c x q e = grind (arith, ints)
 
 pub puts_gain : (os : List Order) (xs : List ℤ) (qs : List ℕ) → ArePuts os xs qs → sum_along amount_gain os xs ≡ sum_along order_gain os qs
-puts_gain [] [] [] r = refl
 puts_gain (o ∷ os) (x ∷ xs) (q ∷ qs) r = omega (arith, ints, puts_gain os xs qs r.1, trade_gain o.side o.price.0 x q r.0)
-puts_gain _ _ _ r = absurd r
+puts_gain _ _ _ r = grind arith
 
 -- prices within the cap
 pub capped_prices : (prices : List ℤ) → All (λ (c : Cents). IsPrice c.0) (map capped_cents prices)

@@ -5,7 +5,6 @@ use Rattle.std.specs.Int.{int_max, w128}
 use Rattle.std.specs.List.{All, AllZip}
 use Rattle.std.proofs.lemmas.List.Elements.{All-head, All-tail}
 use Rattle.mari_market.specs.declared.market.Side.{Side}
-use Rattle.mari_market.specs.declared.market.Side.TheVariants.{Inject, Withdraw}
 use Rattle.mari_market.specs.declared.market.Order.{Order}
 use Rattle.mari_market.specs.Bounds.{Span}
 use Rattle.mari_market.specs.Sums.{int_at, int_sum, sum_along}
@@ -29,9 +28,7 @@ nat_of (pos n) = n
 nat_of (negsuc n) = 0
 
 nat_rises : (a b : ℤ) → pos 0 ≤ℤ a → a <ℤ b → nat_of a < nat_of b
-nat_rises (pos m) (pos n) l h = omega (arith, ints)
-nat_rises (pos m) (negsuc n) l h = absurd (omega (arith, ints))
-nat_rises (negsuc m) b l h = absurd (omega (arith, ints))
+nat_rises a b l h = grind (arith, ints)
 
 nearer : (bound old new : ℤ) → old <ℤ new → new ≤ℤ bound → nat_of (bound -ℤ new) < nat_of (bound -ℤ old)
 nearer bound old new h l = nat_rises (bound -ℤ new) (bound -ℤ old) (omega (arith, ints)) (omega (arith, ints))
@@ -64,13 +61,11 @@ small_gain s x small w = near_gain s x 1099511627776 small (omega (arith, ints, 
 
 small_worth : (slots : List Slot) (xs : List ℤ) → All IsSmallSlot slots → AllZip IsWithinSlot slots xs
     → (neg_ℤ (pos (20000000 * 1099511627776 * length slots)) ≤ℤ sum_along slot_gain slots xs) × (sum_along slot_gain slots xs ≤ℤ pos (20000000 * 1099511627776 * length slots))
-small_worth [] [] small a = (omega (arith, ints), omega (arith, ints))
 small_worth (s ∷ ss) (x ∷ xs) small a =
     let one = small_gain s x (All-head IsSmallSlot s ss small) a.0 in
     let rest = small_worth ss xs (All-tail IsSmallSlot s ss small) a.1 in
     (omega (arith, ints, one.0, rest.0), omega (arith, ints, one.1, rest.1))
-small_worth [] (x ∷ xs) small a = absurd a
-small_worth (s ∷ ss) [] small a = absurd a
+small_worth _ _ small a = grind arith
 
 -- the worth of what runs fits 128 bits
 pub worth_fits : (slots : List Slot) (xs : List ℤ) → All IsSmallSlot slots → AllZip IsWithinSlot slots xs → length slots < 2 ^ 60 → FitsSigned w128 (sum_along slot_gain slots xs)
@@ -79,13 +74,11 @@ worth_fits slots xs small a few = let both = small_worth slots xs small a in ome
 -- ---- where nothing stands in
 
 none_gains : (slots : List Slot) (xs : List ℤ) → ((k : ℕ) → k < length xs → int_at xs k ≡ pos 0) → sum_along slot_gain slots xs ≡ pos 0
-none_gains [] xs none = refl
-none_gains (s ∷ ss) [] none = refl
 none_gains (s ∷ ss) (x ∷ xs) none = omega (arith, ints, ap (λ (y : ℤ). s.price *ℤ y) (none 0 (omega arith)), none_gains ss xs (λ k l. none (suc k) (omega arith)))
+none_gains _ _ none = refl
 
 can_near : (side : Side) (x : ℤ) → CanPut side x → (neg_ℤ (pos 99999) ≤ℤ x) × (x ≤ℤ pos 99999)
-can_near Inject x can = (omega (arith, ints, can.0), can.1)
-can_near Withdraw x can = (can.0, omega (arith, ints, can.1))
+can_near side x can = grind (arith, ints)
 
 -- the worth is at most that of the orders at the greatest quantity and price
 pub worth_small : (os : List Order) (slots : List Slot) (xs : List ℤ) → All IsSmallSlot slots → AllZip (λ (o : Order) (x : ℤ). CanPut o.side x) os (take (length os) xs)

@@ -1,5 +1,5 @@
 -- The tests of a chain and of the two price bounds against the definition of a contradiction.
-use Rattle.std.proofs.Common.{◌≡◌, Bool, true, false, ℕ, ◌<◌, ◌≤◌, ℤ, ◌<ℤ◌, List, length, Option, Some, None, arith, subst, refl, sym, ap, ◌∙◌}
+use Rattle.std.proofs.Common.{◌≡◌, Bool, ℕ, ◌<◌, ◌≤◌, ℤ, ◌<ℤ◌, List, length, Option, Some, None, arith, subst, refl, sym, ap, ◌∙◌}
 use Rattle.std.specs.Prelude.{if◌then◌else◌, IsTrue, ◌↔◌, MatchOption}
 use Rattle.std.proofs.lemmas.Int.{ints}
 use Rattle.mari_market.specs.declared.market.Order.{Order}
@@ -57,8 +57,7 @@ same_span : (m : Market) (x : Prefix) (a : Activation) (o : Order) → IsValid m
 same_span m x a o v e fits = by_gate o.gate o.least fits
   where
     closed_or_open : (b : Bool) → decided (Some b) Free ≡ (if b then Open else Closed)
-    closed_or_open true = refl
-    closed_or_open false = refl
+    closed_or_open b = grind arith
 
     at : (g : ℕ) → g < length m.gates → state_of m.gates (word_of x) g ≡ (if is_open m a g then Open else Closed)
     at g h =

@@ -26,8 +26,7 @@ same_gap : (p c : ℤ) → neg_ℤ p -ℤ neg_ℤ c ≡ c -ℤ p
 same_gap p c = omega (arith, ints)
 
 at_order : (f : Order → ℤ) (gate : Option ℕ) (o : Order) → of_gated (λ (q : Order). f o) gate o ≡ of_gated f gate o
-at_order f None o = refl
-at_order f (Some g) o = refl
+at_order f gate o = grind arith
 
 parts_by : (state : ℕ → GateState) (ps : List Cents) (o : Order) (gate : Option ℕ) (side : Side)
     → best_trade side o.price.0 (price_at ps o.zone) (span_of state gate o)

@@ -1,5 +1,5 @@
 -- An activation of a prefix's gate word, order by order.
-use Rattle.std.proofs.Common.{◌≡◌, ◌&&◌, ◌||◌, if◌then◌else◌, Bool, true, false, ℕ, ◌<◌, ◌≤◌, List, [], ◌∷◌, length, map, get_or, Option, Some, None, arith, subst, refl, sym, ap, ◌∙◌, inl, inr}
+use Rattle.std.proofs.Common.{◌≡◌, ◌&&◌, ◌||◌, if◌then◌else◌, Bool, true, false, ℕ, ◌<◌, ◌≤◌, List, ◌∷◌, length, map, get_or, Option, Some, arith, subst, refl, sym, ap, ◌∙◌, inl, inr}
 use Rattle.std.specs.Prelude.{nat_lt, MatchOption, Any, IfSome, IsTrue, ◌↔◌}
 use Rattle.std.specs.List.{All, AllZip, range_with_len}
 use Rattle.std.proofs.lemmas.Bool.{cases_lt, and_parts}
@@ -12,7 +12,7 @@ use Rattle.mari_market.specs.declared.market.Market.{Market}
 use Rattle.mari_market.specs.declared.activation.Activation.{Activation}
 use Rattle.mari_market.specs.declared.prefix.Prefix.{Prefix}
 use Rattle.mari_market.specs.Activation.{is_gate, runs_gate, is_open, gate_word_of}
-use Rattle.mari_market.specs.Bounds.{IsWithin, span_of, gated_span, own_bounds}
+use Rattle.mari_market.specs.Bounds.{IsWithin, span_of, own_bounds}
 use Rattle.mari_market.specs.Bounds.GateState.{Open, Closed}
 use Rattle.mari_market.specs.Market.{IsValid, IsValidOrder}
 use Rattle.mari_market.specs.Optimal.{IsFeasible}
@@ -27,12 +27,10 @@ use Rattle.std.specs.Cmp.Derive.{both_true}
 use Rattle.std.proofs.lemmas.Slice.Zip.{AllZip-long}
 
 of_gate : (g : ℕ) (gate : Option ℕ) → is_gate g gate ≡ true → gate ≡ Some g
-of_gate g None e = absurd (cc)
-of_gate g (Some h) e = ap Some (grind (arith, nat_tests))
+of_gate g gate e = grind arith
 
 gate_is : (g : ℕ) (gate : Option ℕ) → gate ≡ Some g → is_gate g gate ≡ true
-gate_is g None e = absurd (cc)
-gate_is g (Some h) e = let same : h ≡ g = cc in grind (arith, nat_tests)
+gate_is g gate e = grind (arith, nat_tests)
 
 runs_test : (opens : ℕ → Bool) (g : ℕ) (gate : Option ℕ) (q : ℕ) → gate ≡ Some g → RunsAsDecided opens gate q → opens g ≡ nat_lt 0 q
 runs_test opens g gate q e r = let at : RunsAsDecided opens (Some g) q = subst (λ (o : Option ℕ). RunsAsDecided opens o q) e r in at
@@ -47,9 +45,8 @@ runs_at opens g gate q rest r later e = by_test (is_gate g gate && nat_lt 0 q) r
 
 -- a gate that an order runs for is decided open
 runs_open : (opens : ℕ → Bool) (g : ℕ) (os : List Order) (qs : List ℕ) → AllZip (λ (o : Order) q. RunsAsDecided opens o.gate q) os qs → runs_gate g os qs ≡ true → opens g ≡ true
-runs_open opens g [] qs a e = absurd (cc)
-runs_open opens g (o ∷ os) [] a e = absurd a
 runs_open opens g (o ∷ os) (q ∷ qs) a e = runs_at opens g o.gate q (runs_gate g os qs) a.0 (runs_open opens g os qs a.1) e
+runs_open opens g _ _ a e = grind arith
 
 -- and a gate of some order that is decided open runs
 open_runs : (opens : ℕ → Bool) (g : ℕ) (os : List Order) (qs : List ℕ) → length qs ≡ length os
@@ -64,9 +61,7 @@ open_runs opens g os qs l some a e =
     runs_here g os qs i o within (omega arith) (both_true (gate_is g (get_or os i o).gate gate) (sym (runs_test opens g (get_or os i o).gate (get_or qs i 0) gate at) ∙ e))
 
 same_tests : (a b : Bool) → (a ≡ true → b ≡ true) → (b ≡ true → a ≡ true) → a ≡ b
-same_tests true b f g = sym (f refl)
-same_tests false true f g = g refl
-same_tests false false f g = refl
+same_tests a b f g = grind arith
 
 -- where each order runs exactly where its gate is decided open, the gate word is the prefix's
 pub word_where_run : (m : Market) (x : Prefix) (a : Activation) → IsValid m → x.length ≡ length m.gates
@@ -95,14 +90,8 @@ opens_as_decided m x a v e = fun_ext (λ g. elim (cases_lt g (length m.gates)) [
       ∙ sym (get_or_past (word_of x) g false (omega (arith, length_of_word m x a e, length-map-range_with_len (bit_of x) 0 x.length)))
 ])
 
-within_test : (b : Bool) (o : Order) (q : ℕ) → 1 ≤ o.least → IsWithin (gated_span (if b then Open else Closed) o) q → b ≡ nat_lt 0 q
-within_test true o q l w = let at : o.least ≤ q = w.least in let some : 0 < q = omega arith in grind (arith, nat_tests)
-within_test false o q l w = let at : q ≤ 0 = w.most in grind (arith, nat_tests)
-
-runs_within : (opens : ℕ → Bool) (n : ℕ) (gate : Option ℕ) (o : Order) (q : ℕ)
-    → MatchOption gate (o.least ≡ 0) (λ h. (h < n) × (1 ≤ o.least)) → IsWithin (span_of (λ g. if opens g then Open else Closed) gate o) q → RunsAsDecided opens gate q
-runs_within opens n None o q f w = tt
-runs_within opens n (Some g) o q f w = within_test (opens g) o q f.1 w
+runs_within : (opens : ℕ → Bool) (n : ℕ) (gate : Option ℕ) (o : Order) (q : ℕ) → MatchOption gate (o.least ≡ 0) (λ h. (h < n) × (1 ≤ o.least)) → IsWithin (span_of (λ g. if opens g then Open else Closed) gate o) q → RunsAsDecided opens gate q
+runs_within opens n gate o q f w = grind arith
 
 -- a feasible activation of the prefix's word runs as the prefix decides
 pub run_where_word : (m : Market) (x : Prefix) (a : Activation) → IsValid m → IsFeasible m a
@@ -116,8 +105,7 @@ pub all_decided : (m : Market) (n : ℕ) (os : List Order) → IsValid m → os 
 all_decided m n os v same full = subst (λ (xs : List Order). All (HasDecidedGate n) xs) (sym same) (λ k d h. of_option (get_or m.orders k d).gate (get_or m.orders k d).least (v.orders k d h).gate)
   where
     of_option : (gate : Option ℕ) (least : ℕ) → MatchOption gate (least ≡ 0) (λ g. (g < length m.gates) × (1 ≤ least)) → IfSome gate (λ g. g < n)
-    of_option None least f = tt
-    of_option (Some g) least f = let l : g < length m.gates = f.0 in omega (arith, full)
+    of_option gate least f = grind (arith, full)
 
 pub lengths_read : {X Y : Type 0} (P : X → Y → Type 0) (xs os : List X) (ys qs : List Y) → AllZip P xs ys → os ≡ xs → qs ≡ ys → length qs ≡ length os
 lengths_read P xs os ys qs a e f = ap length f ∙ AllZip-long P xs ys a ∙ sym (ap length e)

@@ -1,5 +1,5 @@
 -- The activation in which nothing runs, and what it shows of relaxed optima where no gate is open.
-use Rattle.std.proofs.Common.{◌≡◌, if◌then◌else◌, Bool, true, false, ℕ, zero, suc, ◌==◌, ℤ, pos, ◌-ℤ◌, ◌≤ℤ◌, List, [], ◌∷◌, length, map, Option, Some, None, slice_get, arith, refl, sym, ◌∙◌}
+use Rattle.std.proofs.Common.{◌≡◌, if◌then◌else◌, Bool, true, false, ℕ, zero, suc, ◌==◌, ℤ, pos, ◌-ℤ◌, ◌≤ℤ◌, List, [], ◌∷◌, length, map, Option, Some, slice_get, arith, refl, sym, ◌∙◌}
 use Rattle.std.proofs.lemmas.Int.{ints}
 use Rattle.std.specs.List.{AllZip}
 use Rattle.mari_market.specs.declared.activation.Activation.{Activation}
@@ -8,9 +8,8 @@ use Rattle.mari_market.specs.declared.market.GateInfo.{GateInfo}
 use Rattle.mari_market.specs.declared.market.Market.{Market}
 use Rattle.mari_market.specs.declared.market.Order.{Order}
 use Rattle.mari_market.specs.declared.market.Side.{Side}
-use Rattle.mari_market.specs.declared.market.Side.TheVariants.{Inject, Withdraw}
 use Rattle.mari_market.specs.Activation.{IsWithinLimits, carried_out, order_gain, put_into, put_in, gain}
-use Rattle.mari_market.specs.Bounds.{IsWithin, GateState, gated_span, span_in, span_of}
+use Rattle.mari_market.specs.Bounds.{IsWithin, GateState, span_in, span_of}
 use Rattle.mari_market.specs.Gates.{group_of, parent_of}
 use Rattle.mari_market.specs.Bounds.GateState.{Open, Closed, Free}
 use Rattle.mari_market.specs.Prefix.{below_parent, bounds_of_word, decided, is_closed, is_taken, opens_in, state_of, state_within, undecided}
@@ -36,25 +35,19 @@ none-put : (z : ℕ) (o : Order) → put_into z o 0 ≡ pos 0
 none-put z o = by (o.zone == z) o.side
   where
     by : (t : Bool) (side : Side) → (if t then put_in side 0 else pos 0) ≡ pos 0
-    by true Inject = refl
-    by true Withdraw = refl
-    by false side = refl
+    by t side = grind arith
 
 none-gained : (o : Order) → order_gain o 0 ≡ pos 0
 none-gained o = by o.side o.price.0
   where
     by : (side : Side) (c : ℤ) → gain side c 0 ≡ pos 0
-    by Inject c = omega (arith, ints)
-    by Withdraw c = omega (arith, ints)
+    by side c = grind (arith, ints)
 
 none-carried : (z : ℕ) (b : Border) → carried_out z b (pos 0) ≡ pos 0
 none-carried z b = by (b.from == z) (b.to == z)
   where
     by : (s t : Bool) → (if s then pos 0 else pos 0) -ℤ (if t then pos 0 else pos 0) ≡ pos 0
-    by true true = refl
-    by true false = refl
-    by false true = refl
-    by false false = refl
+    by s t = grind arith
 
 -- no limit forbids that nothing flows
 none-flows : (b : Border) → IsWithinLimits b (pos 0)
@@ -62,18 +55,14 @@ none-flows b = record { back = omega (arith, ints); limit = omega (arith, ints) 
 
 -- where no gate is open, every order may run nothing
 never-implied-open : (parent : Option ℕ) (state : ℕ → GateState) (taken : Bool) → (if taken then Closed else below_parent state parent) ≡ Open → ⊥
-never-implied-open parent state true e = absurd (cc e)
-never-implied-open None state false e = absurd (cc e)
 never-implied-open (Some h) state false e = by (is_closed (state h)) e
   where
     by : (t : Bool) → (if t then Closed else Free) ≡ Open → ⊥
-    by true e = absurd (cc e)
-    by false e = absurd (cc e)
+    by t e = grind arith
+never-implied-open _ state _ e = grind arith
 
 decided-open : (o : Option Bool) (implied : GateState) → (implied ≡ Open → ⊥) → (o ≡ Some true → ⊥) → decided o implied ≡ Open → ⊥
-decided-open None implied never closed e = never e
-decided-open (Some true) implied never closed e = closed refl
-decided-open (Some false) implied never closed e = absurd (cc e)
+decided-open o implied never closed e = grind arith
 
 -- no gate is open at a word that opens none
 none-open : (gates : List GateInfo) (word : List Bool) → ((g : ℕ) → opens_in word g ≡ false) → (n g : ℕ) → state_within n gates word g ≡ Open → ⊥
@@ -85,14 +74,8 @@ none-open gates word closed (suc n) g e =
 none-needed : (state : ℕ → GateState) → ((g : ℕ) → state g ≡ Open → ⊥) → (o : Order) → IsWithin (span_in state o) 0
 none-needed state closed o = by o.gate
   where
-    of-gate : (s : GateState) → (s ≡ Open → ⊥) → IsWithin (gated_span s o) 0
-    of-gate Open h = absurd (h refl)
-    of-gate Closed h = record { least = omega arith; most = omega arith }
-    of-gate Free h = record { least = omega arith; most = omega arith }
-
     by : (gate : Option ℕ) → IsWithin (span_of state gate o) 0
-    by None = record { least = omega arith; most = omega arith }
-    by (Some g) = of-gate (state g) (closed g)
+    by gate = grind arith
 
 idle-within : (m : Market) (word : List Bool) → ((g : ℕ) → opens_in word g ≡ false) → IsWithinBounds (bounds_of_word m word) m (idle m)
 idle-within m word closed = record {

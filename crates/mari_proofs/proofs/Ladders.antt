@@ -1,5 +1,5 @@
 -- What ladders gain is what their orders gain.
-use Rattle.std.proofs.Common.{◌≡◌, if◌then◌else◌, Bool, true, false, ℕ, zero, suc, ◌+◌, ◌-◌, ◌==◌, ◌<◌, ◌≤◌, ℤ, pos, neg_ℤ, ◌+ℤ◌, ◌-ℤ◌, ◌*ℤ◌, ◌≤ℤ◌, ◌<ℤ◌, List, [], ◌∷◌, ◌++◌, Vec, Global, length, take, get_or, arith, ap, refl, sym, ◌∙◌, subst, inl, inr, nat_lt, Option, Some, None, Result, Ok, Err}
+use Rattle.std.proofs.Common.{◌≡◌, if◌then◌else◌, Bool, true, false, ℕ, zero, suc, ◌+◌, ◌-◌, ◌==◌, ◌<◌, ◌≤◌, ℤ, pos, neg_ℤ, ◌+ℤ◌, ◌-ℤ◌, ◌*ℤ◌, ◌≤ℤ◌, ◌<ℤ◌, List, [], ◌∷◌, ◌++◌, Vec, Global, length, take, get_or, arith, ap, refl, sym, ◌∙◌, subst, inl, inr, nat_lt, Option, Some, None, Result}
 use Rattle.std.specs.Int.{int_max}
 use Rattle.std.proofs.lemmas.Int.{ints, clamps}
 use Rattle.std.proofs.lemmas.Bool.{cases_lt}
@@ -168,9 +168,8 @@ all_ladders levels n xs ladders a each =
 
 -- the ladder of a zone, as it is read
 pub ladder_read : (ladders : List (Vec Rung Global)) (z : ℕ) (d : Vec Rung Global) → z < length ladders → (get_or ladders z d).items ≡ ladder_at ladders z
-ladder_read [] z d l = absurd (omega (arith, l))
-ladder_read (v ∷ vs) zero d l = refl
 ladder_read (v ∷ vs) (suc z) d l = ladder_read vs z d (omega (arith, l))
+ladder_read _ _ d l = grind arith
 
 -- a rung by its fields
 pub rung_is : (x : Offer) (before last : Rung) (price worth : ℤ) → price ≡ x.price → before ≡ last → worth ≡ before.worth +ℤ x.price *ℤ pos x.mw
@@ -184,14 +183,12 @@ some_is : {X : Type 0} (P : X → Type 0) (x y : X) → Some x ≡ Some y → P 
 some_is P x y e p = let same : x ≡ y = cc in subst P same p
 
 offer_by_is : (zones gates : ℕ) (gate : Option ℕ) (side own : Side) (o : Order) (x : Offer) → IsValidOrder zones gates o → offer_by gate side own o ≡ Some x → IsOffer zones x
-offer_by_is zones gates (Some g) side own o x v e = absurd (cc e)
-offer_by_is zones gates None Inject Withdraw o x v e = absurd (cc e)
-offer_by_is zones gates None Withdraw Inject o x v e = absurd (cc e)
 offer_by_is zones gates None Inject Inject o x v e =
     some_is (IsOffer zones) (record { zone = o.zone; price = o.price.0; mw = o.greatest }) x e (record { zone = v.zone; price = v.price; small = v.small })
 offer_by_is zones gates None Withdraw Withdraw o x v e =
     some_is (IsOffer zones) (record { zone = o.zone; price = neg_ℤ o.price.0; mw = o.greatest }) x e
     (record { zone = v.zone; price = record { low = omega (arith, ints, v.price.high); high = omega (arith, ints, v.price.low) }; small = v.small })
+offer_by_is zones gates _ _ _ o x v e = grind arith
 
 -- the offer of a valid order is one
 pub is_offer : (zones gates : ℕ) (side : Side) (o : Order) (x : Offer) → IsValidOrder zones gates o → offer_of side o ≡ Some x → IsOffer zones x
@@ -211,12 +208,10 @@ offers_skip side os i d xs l e a = λ f.
     omega (arith, ints, a f, ap (of_offer f) e, int_sum_more (λ (o : Order). of_offer f (offer_of side o)) os i d l)
 
 some_gate : (f : Order → ℤ) (gate : Option ℕ) (o : Order) → is_some gate ≡ true → of_gated f gate o ≡ f o
-some_gate f None o e = absurd (cc e)
-some_gate f (Some g) o e = refl
+some_gate f gate o e = grind arith
 
 no_gate : (f : Order → ℤ) (gate : Option ℕ) (o : Order) → is_some gate ≡ false → of_gated f gate o ≡ pos 0
-no_gate f None o e = refl
-no_gate f (Some g) o e = absurd (cc e)
+no_gate f gate o e = grind arith
 
 -- one order more, of a gate or plain
 pub gated_take : (os : List Order) (i : ℕ) (d : Order) (xs new : List Order) → i < length os
@@ -298,8 +293,7 @@ last_is [] x some e = absurd (cc some)
 last_is (r ∷ rs) x some e = e ∙ get_or_default (r ∷ rs) (length (r ∷ rs) - 1) x no_rung (omega arith)
 
 pub if_ok_both : {V E : Type 0} (r : Result V E) (P Q R : V → Type 0) → IfOk r P → IfOk r Q → ((v : V) → P v → Q v → R v) → IfOk r R
-if_ok_both (Ok v) P Q R p q f = f v p q
-if_ok_both (Err e) P Q R p q f = tt
+if_ok_both r P Q R p q f = grind arith
 
 -- one term more
 pub below_step : (f : ℕ → ℤ) (n : ℕ) (total term new : ℤ) → total ≡ sum_below f n → term ≡ f n → new ≡ total +ℤ term → new ≡ sum_below f (n + 1)

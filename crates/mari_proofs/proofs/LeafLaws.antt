@@ -1,5 +1,5 @@
 -- What a certificate that holds says of the activations below its prefix.
-use Rattle.std.proofs.Common.{◌≡◌, Bool, ℕ, ℤ, ◌≤ℤ◌, List, [], ◌∷◌, take, zero, suc, subst}
+use Rattle.std.proofs.Common.{◌≡◌, Bool, ℕ, ℤ, ◌≤ℤ◌, List, ◌∷◌, take, suc, subst}
 use Rattle.mari_market.specs.declared.market.Market.{Market}
 use Rattle.mari_market.specs.declared.activation.Activation.{Activation}
 use Rattle.mari_market.specs.declared.prefix.Prefix.{Prefix}
@@ -16,9 +16,8 @@ use Rattle.mari_market.proofs.Conflicts.{conflict_refutes}
 use Rattle.mari_proofs.specs.Leaves.{ExcludesWord}
 
 begins_take : (k n : ℕ) (word : List Bool) (opens : ℕ → Bool) → BeginsFrom k word opens → BeginsFrom k (take n word) opens
-begins_take k zero word opens b = tt
-begins_take k (suc n) [] opens b = tt
 begins_take k (suc n) (c ∷ cs) opens b = (b.0, begins_take (suc k) n cs opens b.1)
+begins_take k _ _ opens b = tt
 
 -- no admissible activation whose gates begin as the prefix says is better than the cutoff
 pub leaf_bounds_below : (m : Market) (w : ℤ) (x : Prefix) (n : ℕ) (leaf : LeafRecord) (a : Activation) → IsValid m

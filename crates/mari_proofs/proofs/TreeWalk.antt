@@ -38,8 +38,7 @@ branch_fits m holds x y item gates is same l f child cleared =
 
 fits_leaves : (m : Market) (holds : List Bool → LeafRecord → Type 0) (x : Prefix) (item : TreeItem) (next : Option Prefix)
     → FitsItem m holds x item next → LeavesWords m holds (left_at m.gates (Some x)) (item ∷ []) (left_at m.gates next)
-fits_leaves m holds x (Leaf leaf) next h = (h.0, sym h.1)
-fits_leaves m holds x Branch next h = (h.0, sym h.1)
+fits_leaves m holds x item next h = grind arith
 
 -- ---- the items so far
 
@@ -75,10 +74,9 @@ ends_too_early m holds items i x at h is before = record {
 }
 
 pub none_left : (m : Market) (holds : List Bool → LeafRecord → Type 0) (words : List (List Bool)) (items : List TreeItem) → LeavesWords m holds words items [] → AreParts m holds words items
-none_left m holds words [] h = subst (λ (ws : List (List Bool)). AreParts m holds ws []) (sym h) tt
-none_left m holds [] (item ∷ items) h = absurd h
 none_left m holds (word ∷ words) (Leaf leaf ∷ items) h = (h.0, none_left m holds words items h.1)
 none_left m holds (word ∷ words) (Branch ∷ items) h = (h.0, none_left m holds (children m.gates word ++ words) items h.1)
+none_left m holds _ _ h = grind arith
 
 pub walk_ends : (m : Market) (holds : List Bool → LeafRecord → Type 0) (items : List TreeItem) (i : ℕ) (at : Option Prefix)
     → length items ≤ i → at ≡ None → LeavesWords m holds ([] ∷ []) (take i items) (left_at m.gates at)
@@ -100,17 +98,10 @@ parts_split m holds (word ∷ words) (Leaf leaf ∷ items) (suc p) left a h = pa
 parts_split m holds (word ∷ words) (Branch ∷ items) (suc p) left a h = parts_split m holds (children m.gates word ++ words) items p left a.1 h.1
 
 shape_refutes : (m : Market) (holds : List Bool → LeafRecord → Type 0) (left : List (List Bool)) (items : List TreeItem) → AreParts m holds left items → ShapeFails m left items → ⊥
-shape_refutes m holds [] [] a f = f
-shape_refutes m holds [] (item ∷ items) a f = a
-shape_refutes m holds (word ∷ words) [] a f = a
-shape_refutes m holds (word ∷ words) (Leaf leaf ∷ items) a f = f
-shape_refutes m holds (word ∷ words) (Branch ∷ items) a f = omega (arith, a.0, f)
+shape_refutes m holds left items a f = grind arith
 
 leaf_refutes : (m : Market) (holds : List Bool → LeafRecord → Type 0) (left : List (List Bool)) (items : List TreeItem) → AreParts m holds left items → LeafFails m holds left items → ⊥
-leaf_refutes m holds [] items a f = f
-leaf_refutes m holds (word ∷ words) [] a f = f
-leaf_refutes m holds (word ∷ words) (Branch ∷ items) a f = f
-leaf_refutes m holds (word ∷ words) (Leaf leaf ∷ items) a f = f a.0
+leaf_refutes m holds left items a f = grind arith
 
 -- a verdict that is right says exactly whether the tree holds
 pub holds_by_verdict : (m : Market) (holds : List Bool → LeafRecord → Type 0) (items : List TreeItem) (v : TreeVerdict) → IsTreeVerdict m holds items v → (v ≡ Holds) ↔ AreParts m holds ([] ∷ []) items

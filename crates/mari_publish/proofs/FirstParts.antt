@@ -1,5 +1,5 @@
 -- The parts that a text begins with: they are in range, and after the fault of a line no further one comes.
-use Rattle.std.proofs.Common.{◌≡◌, ◌∙◌, ℕ, List, [], ◌∷◌, ◌++◌, map, inl, inr, refl, sym, ap, subst, append_assoc, append-nil}
+use Rattle.std.proofs.Common.{◌≡◌, ◌∙◌, ℕ, List, [], ◌∷◌, ◌++◌, map, inl, inr, refl, sym, ap, subst, append_assoc, append-nil, arith}
 use Rattle.std.specs.List.{All, AllByRecursion}
 use Rattle.std.proofs.lemmas.Grind.{flat_map-append}
 use Rattle.mari_lines.proofs.Gathered.{head_of, tail_of}
@@ -114,5 +114,4 @@ order_more text left n a =
 pub no_more : (text left : List ℕ) (parts : List Part) (f : TextFault) → IsLineFault text f → NoPart text parts → NoPart (text ++ left) parts
 no_more text left parts (fault.BadLine n) a none = none_stays text left parts none a.before (a.here ++ 10 ∷ a.after) (a.here ++ 10 ∷ (a.after ++ left)) a.parts (line_more text left n a)
 no_more text left parts (fault.BadOrder n) a none = none_stays text left parts none a.before (line_text a.here ++ a.after) (line_text a.here ++ (a.after ++ left)) a.parts (order_more text left n a)
-no_more text left parts (fault.Truncated n) a none = absurd a
-no_more text left parts fault.Memory a none = absurd a
+no_more text left parts _ a none = omega arith

@@ -87,8 +87,7 @@ full_fits b a w =
     }
 
 block_fits : (b : Block) → Fit (block_lines b) → IsWithinLimits b → BlockFits b
-block_fits (block.Published b) a w = full_fits b a w
-block_fits (block.Unpublished heading count) a w = a.0
+block_fits b a w = grind (arith, full_fits)
 
 from_blocks : (bs : List Block) → Fit (flat_map block_lines bs) → AllByRecursion IsWithinLimits bs → All BlockFits bs
 from_blocks [] a w = All-nil BlockFits
@@ -127,8 +126,7 @@ full_in_range b f =
     )
 
 block_in_range : (b : Block) → BlockFits b → Fit (block_lines b)
-block_in_range (block.Published b) f = full_in_range b f
-block_in_range (block.Unpublished heading count) f = (f, tt)
+block_in_range b f = grind (arith, full_in_range)
 
 blocks_in_range : (bs : List Block) → All BlockFits bs → Fit (flat_map block_lines bs)
 blocks_in_range [] a = tt
@@ -146,8 +144,7 @@ lines_in_range p h =
     )
 
 pub block_within : (b : Block) → BlockFits b → IsWithinLimits b
-block_within (block.Published b) f = (f.zones.0, f.borders.0.1, f.bids.0.1, f.operators.0, f.providers.0.1)
-block_within (block.Unpublished heading count) f = tt
+block_within b f = grind arith
 
 pub blocks_within : (bs : List Block) → All BlockFits bs → AllByRecursion IsWithinLimits bs
 blocks_within [] a = tt
@@ -159,10 +156,7 @@ items_few [] = omega arith
 items_few (i ∷ is) = let n = length-append (item_lines i) (flat_map item_lines is) in let m = items_few is in let f = four i in omega (arith, n, m, f)
   where
     four : (i : TreeItem) → length (item_lines i) ≤ 4
-    four items.Branch = omega arith
-    four (items.Leaf (leaves.Bound p)) = omega arith
-    four (items.Leaf (leaves.Cut c)) = omega arith
-    four (items.Leaf (leaves.Conflict c)) = omega arith
+    four i = grind arith
 
 demands_few : (k : ℕ) (ms : List ℕ) → length (demand_lines k ms) ≡ length ms
 demands_few k [] = refl

@@ -51,8 +51,7 @@ through : (p : Publication) (xs ys : List Line) (o : Option (Kept × Option Part
     → ((q : Publication) (k : Kept) → after_all q k (xs ++ ys) ≡ option_and_then (λ (s : Publication × Kept). after_all s.0 s.1 ys) (after_all q k xs))
     → option_and_then (λ (y : Kept × Option Part). after_all (grown p y.1) y.0 (xs ++ ys)) o ≡ option_and_then
     (λ (s : Publication × Kept). after_all s.0 s.1 ys) (option_and_then (λ (y : Kept × Option Part). after_all (grown p y.1) y.0 xs) o)
-through p xs ys None h = refl
-through p xs ys (Some y) h = h (grown p y.1) y.0
+through p xs ys o h = grind arith
 
 pub in_parts : (p : Publication) (k : Kept) (xs ys : List Line) → after_all p k (xs ++ ys) ≡ option_and_then (λ (s : Publication × Kept). after_all s.0 s.1 ys) (after_all p k xs)
 in_parts p k [] ys = refl
@@ -129,10 +128,7 @@ demands_follow p m n h w zs bs ds k before (x ∷ ms) rest some e =
 -- an item's lines
 item_follows : (p : Publication) (m n : ℕ) (b : Listing) (count : ℕ) (before : List TreeItem) (i : TreeItem) (rest : List Line) → length before < count
     → after_all p (at m n (held.Growing (growing b count before))) (item_lines i ++ rest) ≡ after_all p (at m n (held.Growing (growing b count (before ++ i ∷ [])))) rest
-item_follows p m n b count before items.Branch rest lt = rw (lt-ltb _ _ lt) refl
-item_follows p m n b count before (items.Leaf (leaves.Bound prices)) rest lt = rw (lt-ltb _ _ lt) refl
-item_follows p m n b count before (items.Leaf (leaves.Cut cut)) rest lt = rw (lt-ltb _ _ lt) refl
-item_follows p m n b count before (items.Leaf (leaves.Conflict c)) rest lt = rw (lt-ltb _ _ lt) refl
+item_follows p m n b count before i rest lt = grind arith
 
 items_follow : (p : Publication) (m n : ℕ) (b : Listing) (count : ℕ) (before is : List TreeItem) (rest : List Line) → length before + length is ≤ count
     → after_all p (at m n (held.Growing (growing b count before))) (flat_map item_lines is ++ rest) ≡ after_all p (at m n (held.Growing (growing b count (before ++ is)))) rest
@@ -256,8 +252,7 @@ blocks_follow p m n before (b ∷ bs) rest within le =
     ∙ counts_more b (λ x y. after_all (with_blocks p (before ++ b ∷ bs)) (at x y held.Between) rest)
   where
     counts_few : (c : Block) → m + n + length (b ∷ bs) ≤ 1000 → (m + ones c) + (n + others c) + length bs ≤ 1000
-    counts_few (block.Published c) e = omega (arith, e)
-    counts_few (block.Unpublished h count) e = omega (arith, e)
+    counts_few c e = grind arith
 
     sum_one : (a b : ℕ) → (a + 1) + b ≡ a + (b + 1)
     sum_one a b = omega arith

@@ -1,5 +1,5 @@
 -- More of the text, and its end.
-use Rattle.std.proofs.Common.{◌≡◌, ℕ, ◌+◌, true, not, eqb, List, [], ◌∷◌, ◌++◌, length, take, drop, ◌-◌, Option, Some, None, Result, Ok, Err, refl, sym, ap, subst, ◌∙◌, append_assoc, length-append, arith}
+use Rattle.std.proofs.Common.{◌≡◌, ℕ, ◌+◌, true, not, eqb, List, [], ◌∷◌, ◌++◌, length, take, drop, ◌-◌, Option, Result, Ok, Err, refl, sym, ap, subst, ◌∙◌, append_assoc, length-append, arith}
 use Rattle.std.specs.Prelude.{IsOk, is_some, MatchOption}
 use Rattle.std.specs.List.{list_all}
 use Rattle.std.proofs.lemmas.List.{drop-drop, length-drop}
@@ -68,8 +68,7 @@ drop_line bytes here following handled e = sym (drop-drop (length here + 1) hand
 
 -- what is there where something is
 pub there : {X : Type 0} (A : Type 0) (P : X → Type 0) (o : Option X) → is_some o ≡ true → MatchOption o A P → (x : X) × P x
-there A P None e h = absurd cc
-there A P (Some x) e h = (x, h)
+there A P o e h = grind arith
 
 -- a fault stays where it is
 pub line_stays : (text piece : List ℕ) (n : ℕ) → BadLineAt text n → BadLineAt (text ++ piece) n
@@ -134,11 +133,8 @@ cut_off r text parts s none unfinished =
 
 -- each answer at the end comes exactly where it is due
 pub end_of_text : {T : Type 0} (text : List ℕ) (parts : List Part) (p : Publication) (result : Result T TextFault) → IsEnd text parts result → IsText text p → IsOk result
-end_of_text text parts p (Ok done) e t = refl
-end_of_text text parts p (Err (fault.Truncated n)) e t = absurd (text_truncated text p n t e)
-end_of_text text parts p (Err _) e t = absurd e
+end_of_text text parts p result e t = grind (arith, text_truncated)
 
 pub end_cut_off : {T : Type 0} (text : List ℕ) (parts : List Part) (n : ℕ) (result : Result T TextFault) → IsEnd text parts result → TruncatedAt text n → result ≡ Err (fault.Truncated n)
-end_cut_off text parts n (Ok done) e t = absurd (text_truncated text e.0 n e.1 t)
 end_cut_off text parts n (Err (fault.Truncated m)) e t = ap (λ i. Err (fault.Truncated i)) (truncated_number text m n e t)
-end_cut_off text parts n (Err _) e t = absurd e
+end_cut_off text parts n _ e t = search (arith, text_truncated)

@@ -1,5 +1,5 @@
 -- A text has one outcome.
-use Rattle.std.proofs.Common.{◌≡◌, ℕ, ◌+◌, Bool, true, false, not, eqb, List, [], ◌∷◌, ◌++◌, length, Result, Ok, Err, ◌⊎◌, inl, inr, refl, sym, ap, subst, ◌∙◌, append_assoc}
+use Rattle.std.proofs.Common.{◌≡◌, ℕ, ◌+◌, Bool, true, not, eqb, List, [], ◌∷◌, ◌++◌, length, Result, Ok, Err, ◌⊎◌, inl, inr, refl, sym, ap, subst, ◌∙◌, append_assoc, arith}
 use Rattle.std.specs.List.{list_all}
 use Rattle.std.proofs.lemmas.Bool.{eq-eqb, and_parts}
 use Rattle.std.proofs.lemmas.List.{append-nil}
@@ -23,8 +23,7 @@ not_feed : (b : ℕ) → not (eqb b 10) ≡ true → b ≡ 10 → ⊥
 not_feed b e is = by_test (eqb b 10) (eq-eqb b 10 is) e
   where
     by_test : (t : Bool) → t ≡ true → not t ≡ true → ⊥
-    by_test true a e = absurd cc
-    by_test false a e = absurd cc
+    by_test t a e = grind arith
 
 -- bytes up to a line feed are those up to the first
 pub line_cut : (u v x y : List ℕ) → Lacks 10 u → Lacks 10 v → u ++ 10 ∷ x ≡ v ++ 10 ∷ y → (u ≡ v) × (x ≡ y)
@@ -50,8 +49,6 @@ Longer A B X Y = (C : List Line) × (B ≡ A ++ C) × (X ≡ text_of_lines C ++ 
 
 -- two ways to begin a text: one is longer
 pub compare : (A B : List Line) (X Y : List ℕ) → Fit A → Fit B → text_of_lines A ++ X ≡ text_of_lines B ++ Y → Longer A B X Y ⊎ Longer B A Y X
-compare [] B X Y a b e = inl (B, refl, e)
-compare (l ∷ A) [] X Y a b e = inr (l ∷ A, refl, sym e)
 compare (l ∷ A) (m ∷ B) X Y a b e =
     let c = line_cut (spelling l) (spelling m) (text_of_lines A ++ X) (text_of_lines B ++ Y) (no_feed l a.0) (no_feed m b.0) (sym (first_text l A X) ∙ e ∙ first_text m B Y) in
     let same : l ≡ m = same_line l m a.0 b.0 c.0 in
@@ -59,6 +56,7 @@ compare (l ∷ A) (m ∷ B) X Y a b e =
       | inl h ↦ inl (h.0, ap (λ z. z ∷ B) (sym same) ∙ ap (λ (ls : List Line). l ∷ ls) h.1, h.2)
       | inr h ↦ inr (h.0, ap (λ z. z ∷ A) same ∙ ap (λ (ls : List Line). m ∷ ls) h.1, h.2)
     ]
+compare _ _ X Y a b e = grind arith
 
 pub fit_begun : (ls : List Line) → Begins ls → Fit ls
 fit_begun ls b = all_front InRange ls b.1 (subst Fit b.3 (lines_in_range b.0 b.2))
@@ -166,28 +164,20 @@ bad f = Err f
 
 pub text_answer : (text : List ℕ) (result : Result Publication TextFault) → IsOutcome text result → (p : Publication) → IsText text p → AnswersWith (Ok p) result
 text_answer text (Ok q) o p t = inl (ap (λ (x : Publication). Ok x) (one_text text q p o t))
-text_answer text (Err (fault.BadLine n)) o p t = absurd (text_line text p n t o)
-text_answer text (Err (fault.BadOrder n)) o p t = absurd (text_order text p n t o)
-text_answer text (Err (fault.Truncated n)) o p t = absurd (text_truncated text p n t o)
 text_answer text (Err fault.Memory) o p t = inr refl
+text_answer text _ o p t = search (arith, text_line, text_order, text_truncated)
 
 pub line_answer : (text : List ℕ) (result : Result Publication TextFault) → IsOutcome text result → (m : ℕ) → BadLineAt text m → AnswersWith (Err (fault.BadLine m)) result
-line_answer text (Ok q) o m t = absurd (text_line text q m o t)
 line_answer text (Err (fault.BadLine n)) o m t = inl (ap (λ k. bad (fault.BadLine k)) (line_number text n m o t))
-line_answer text (Err (fault.BadOrder n)) o m t = absurd (line_order text m n t o)
-line_answer text (Err (fault.Truncated n)) o m t = absurd (line_truncated text m n t o)
 line_answer text (Err fault.Memory) o m t = inr refl
+line_answer text _ o m t = search (arith, text_line, line_order, line_truncated)
 
 pub order_answer : (text : List ℕ) (result : Result Publication TextFault) → IsOutcome text result → (m : ℕ) → BadOrderAt text m → AnswersWith (Err (fault.BadOrder m)) result
-order_answer text (Ok q) o m t = absurd (text_order text q m o t)
-order_answer text (Err (fault.BadLine n)) o m t = absurd (line_order text n m o t)
 order_answer text (Err (fault.BadOrder n)) o m t = inl (ap (λ k. bad (fault.BadOrder k)) (order_number text n m o t))
-order_answer text (Err (fault.Truncated n)) o m t = absurd (order_truncated text m n t o)
 order_answer text (Err fault.Memory) o m t = inr refl
+order_answer text _ o m t = search (arith, text_order, line_order, order_truncated)
 
 pub truncated_answer : (text : List ℕ) (result : Result Publication TextFault) → IsOutcome text result → (m : ℕ) → TruncatedAt text m → AnswersWith (Err (fault.Truncated m)) result
-truncated_answer text (Ok q) o m t = absurd (text_truncated text q m o t)
-truncated_answer text (Err (fault.BadLine n)) o m t = absurd (line_truncated text n m o t)
-truncated_answer text (Err (fault.BadOrder n)) o m t = absurd (order_truncated text n m o t)
 truncated_answer text (Err (fault.Truncated n)) o m t = inl (ap (λ k. bad (fault.Truncated k)) (truncated_number text n m o t))
 truncated_answer text (Err fault.Memory) o m t = inr refl
+truncated_answer text _ o m t = search (arith, text_truncated, line_truncated, order_truncated)

@@ -20,22 +20,13 @@ use Rattle.mari_publish.proofs.Outcomes.{line_answer, order_answer, text_answer,
 
 -- the fault of a line stays, whatever comes after it, and is the first of its text
 fault-stays : (text more : List ℕ) (f : TextFault) → IsLineFault text f → IsLineFault (text ++ more) f
-fault-stays text more (fault.BadLine n) h = line_stays text more n h
-fault-stays text more (fault.BadOrder n) h = order_stays text more n h
-fault-stays text more (fault.Truncated n) h = h
-fault-stays text more fault.Memory h = h
+fault-stays text more f h = grind (arith, line_stays, order_stays)
 
 fault-first : (text : List ℕ) (f : TextFault) → IsLineFault text f → IsTextFault text f
-fault-first text (fault.BadLine n) h = h
-fault-first text (fault.BadOrder n) h = h
-fault-first text (fault.Truncated n) h = absurd h
-fault-first text fault.Memory h = h
+fault-first text f h = grind arith
 
 pub no-line-fault : (text : List ℕ) (f : TextFault) → NoFault text → IsLineFault text f → ⊥
-no-line-fault text (fault.BadLine n) none h = (none n).0 h
-no-line-fault text (fault.BadOrder n) none h = (none n).1 h
-no-line-fault text (fault.Truncated n) none h = h
-no-line-fault text fault.Memory none h = h
+no-line-fault text f none h = grind arith
 
 -- so what is reported of a page is the first fault of its text, also where it isn't given whole
 pub reported-first : (page : List ℕ) (f : TextFault) → IsReportedFault page f → IsTextFault page f
@@ -66,10 +57,7 @@ pub same-fault : (page : List ℕ) (answer : Result Publication TextFault) (f : 
 same-fault page answer f o reported = first f (reported-first page f reported)
   where
     first : (f : TextFault) → IsTextFault page f → (answer ≡ Err f) ⊎ (answer ≡ Err fault.Memory)
-    first (fault.BadLine n) h = line_answer page answer o n h
-    first (fault.BadOrder n) h = order_answer page answer o n h
-    first (fault.Truncated n) h = truncated_answer page answer o n h
-    first fault.Memory h = absurd h
+    first f h = grind (arith, line_answer, order_answer, truncated_answer)
 
 -- ---- a page has one fault at most
 
@@ -81,10 +69,7 @@ no-fault-of-text page p (fault.Truncated n) is bad = elim (text_answer page (Err
 no-fault-of-text page p fault.Memory is bad = bad
 
 outcome-of : (page : List ℕ) (f : TextFault) → IsTextFault page f → IsOutcome page (Err f)
-outcome-of page (fault.BadLine n) bad = bad
-outcome-of page (fault.BadOrder n) bad = bad
-outcome-of page (fault.Truncated n) bad = bad
-outcome-of page fault.Memory bad = absurd bad
+outcome-of page f bad = grind arith
 
 -- two answers that don't say that memory ran out are one
 abbrev error : TextFault → Result Publication TextFault
@@ -102,14 +87,12 @@ one-fault page f fault.Memory bad other = absurd other
 
 -- of a page that is too long none is reported
 pub long-none : (page : List ℕ) (f : TextFault) → IsTooLong page → IsReportedFault page f → ⊥
-long-none page f long (of-page short bad) = omega (arith, long.longer, short)
-long-none page f long (of-given more bad) = no-line-fault (take most_given page) f long.no_fault bad
+long-none page f long x = grind (arith, no-line-fault)
 
 -- ---- what the reader gives
 
 pub next-part : (text : List ℕ) (parts : List Part) (o : Option Part) (x : Part) → o ≡ Some x → IsNext text parts (Ok o) → HasPart text parts x
-next-part text parts None x e n = absurd cc
-next-part text parts (Some y) x e n = let same : y ≡ x = cc in subst (HasPart text parts) same n
+next-part text parts o x e n = grind arith
 
 pub next-stands : (come : ComeState) (text : List ℕ) (parts : List Part) (o : Option Part) (x : Part) → o ≡ Some x → ComesFrom come text (with_part parts o) → ComesFrom come text (parts ++ x ∷ [])
 next-stands come text parts None x e s = absurd cc
@@ -119,8 +102,7 @@ next-stands come text parts (Some y) x e s = let same : y ≡ x = cc in subst (�
 
 -- a page that was opened
 pub opened-page : {T : Type 0} (done : T) (page rest : Option (List ℕ)) → OpenStates page rest (Ok done) → (bytes : List ℕ) × (page ≡ Some bytes) × (rest ≡ Some bytes)
-opened-page done None rest h = let e = h.0 in absurd cc
-opened-page done (Some bytes) rest h = (bytes, refl, h.1)
+opened-page done page rest h = grind arith
 
 -- what was appended to nothing is the piece
 pub all-new : (old items piece : List ℕ) (n : ℕ) → old ≡ [] → piece ≡ items → AppendsExactly n old items → length piece ≡ n

@@ -1,5 +1,5 @@
 -- How many parts have come, and that each further one leaves room for one less.
-use Rattle.std.proofs.Common.{◌≡◌, ◌∙◌, ◌+◌, ◌<◌, ◌≤◌, ◌-◌, ℕ, List, [], ◌∷◌, ◌++◌, length, refl, ap, arith, length-append}
+use Rattle.std.proofs.Common.{◌≡◌, ◌∙◌, ◌+◌, ◌<◌, ◌≤◌, ◌-◌, ℕ, List, [], ◌∷◌, ◌++◌, length, ap, arith, length-append}
 use Rattle.std.proofs.lemmas.List.{length-map}
 use Rattle.mari_lines.specs.declared.line.Line.{Line}
 use Rattle.mari_publish.specs.Pieces.{ComeState, ComesFrom, Gives, front_parts, parts_of, parts_so_far}
@@ -30,14 +30,10 @@ whole-count p =
     omega (arith, n, m)
 
 so-many : (p : Publication) (h : Held) → length (parts_so_far p h) ≡ count_in h (length p.blocks)
-so-many p held.Start = refl
-so-many p held.Done = whole-count p
-so-many p _ = front-count p
+so-many p h = grind (arith, whole-count, front-count)
 
 at-most : (h : Held) (n : ℕ) → n ≤ 1000 → count_in h n ≤ 1002
-at-most held.Start n l = omega arith
-at-most held.Done n l = omega (arith, l)
-at-most _ n l = omega (arith, l)
+at-most h n l = grind arith
 
 counts : (lines : List Line) (parts : List Part) (k : Kept) → Gives lines parts k → length parts ≡ count_of k
 counts lines parts k g =

@@ -1,5 +1,5 @@
 -- The parts that lines give, one after the other.
-use Rattle.std.proofs.Common.{◌≡◌, ◌+◌, Bool, cond, ◌&&◌, List, [], ◌∷◌, ◌++◌, length, Option, Some, None, refl, sym, ap, subst, ◌∙◌, append_assoc, length-append, arith, ltb, eqb}
+use Rattle.std.proofs.Common.{◌≡◌, ◌+◌, ◌&&◌, List, [], ◌∷◌, ◌++◌, length, Option, Some, None, refl, sym, ap, subst, ◌∙◌, append_assoc, length-append, arith, ltb, eqb}
 use Rattle.std.specs.Prelude.{option_and_then}
 use Rattle.std.proofs.lemmas.List.{append-nil, map_push}
 use Rattle.std.proofs.lemmas.Option.{cond_some}
@@ -16,7 +16,6 @@ use Rattle.mari_publish.specs.declared.held.Ending.{Ending}
 use Rattle.mari_publish.specs.declared.held.Growing.{Growing}
 use Rattle.mari_publish.specs.declared.held.Listing.{Listing}
 use Rattle.mari_publish.specs.declared.held.Pending.{Pending}
-use Rattle.mari_publish.specs.declared.held.Pending.TheVariants.{Nothing, Zones, At, Flows}
 use Rattle.mari_publish.specs.declared.held.Held.{Held}
 use Rattle.mari_publish.specs.declared.held.Held.TheVariants as held
 use Rattle.mari_publish.specs.declared.held.Kept.{Kept}
@@ -30,37 +29,17 @@ use Rattle.mari_publish.proofs.Follows.{Came, came_more, in_parts, stands_first}
 abbrev Inner : Held → Type 0
 Inner h = (p : Publication) → parts_so_far p h ≡ front_parts p
 
-inner_if : (b : Bool) (x y : Held) → cond b (Some x) None ≡ Some y → Inner x → Inner y
-inner_if b x y e i = subst Inner (cond_some b x y e).1 i
-
 listing_inner : (b : Listing) (l : Line) (h : Held) → after_listing b l ≡ Some h → Inner h
-listing_inner b (line.Zone z) h e = inner_if _ _ h e (λ p. refl)
-listing_inner b (line.Border x) h e = inner_if _ _ h e (λ p. refl)
-listing_inner b (line.Bid x) h e = inner_if _ _ h e (λ p. refl)
-listing_inner b (line.Demand place mw) h e = inner_if _ _ h e (λ p. refl)
-listing_inner b (line.Tree n) h e = inner_if _ _ h e (λ p. refl)
-listing_inner b _ h e = absurd cc
+listing_inner b l h e = grind arith
 
 growing_inner : (g : Growing) (pending : Pending) (l : Line) (h : Held) → after_growing g pending l ≡ Some h → Inner h
-growing_inner g Nothing line.Branch h e = inner_if _ _ h e (λ p. refl)
-growing_inner g Nothing (line.Bound prices) h e = inner_if _ _ h e (λ p. refl)
-growing_inner g Nothing (line.Cut cut) h e = inner_if _ _ h e (λ p. refl)
-growing_inner g Nothing (line.Conflict zones) h e = inner_if _ _ h e (λ p. refl)
-growing_inner g Nothing (line.Operator o) h e = inner_if _ _ h e (λ p. refl)
-growing_inner g (Zones zones) (line.At prices) h e = subst Inner (some_is _ h e) (λ p. refl)
-growing_inner g (At zones prices) (line.Flows flows) h e = subst Inner (some_is _ h e) (λ p. refl)
-growing_inner g (Flows zones prices flows) (line.Mws mws) h e = subst Inner (some_is _ h e) (λ p. refl)
-growing_inner g _ _ h e = absurd cc
+growing_inner g pending l h e = grind arith
 
 ending_inner : (n : Ending) (l : Line) (h : Held) → after_ending n l ≡ Some h → Inner h
-ending_inner n (line.Operator o) h e = inner_if _ _ h e (λ p. refl)
-ending_inner n (line.Provider a) h e = inner_if _ _ h e (λ p. refl)
-ending_inner n _ h e = absurd cc
+ending_inner n l h e = grind arith
 
 totals_inner : (os : List MoneyLine) (ps : List AmountLine) (l : Line) (h : Held) → after_totals os ps l ≡ Some h → Inner h
-totals_inner os ps (line.TotalOperator o) h e = inner_if _ _ h e (λ p. refl)
-totals_inner os ps (line.TotalProvider a) h e = inner_if _ _ h e (λ p. refl)
-totals_inner os ps _ h e = absurd cc
+totals_inner os ps l h e = grind arith
 
 abbrev StepParts : Publication → Held → Kept × Option Part → Type 0
 StepParts p h x = parts_so_far (grown p x.1) x.0.held ≡ with_part (parts_so_far p h) x.1
@@ -84,7 +63,6 @@ between_parts p k _ x e = absurd cc
 -- a line that may follow gives its part, if there is one
 step_parts : (p : Publication) (k : Kept) (h : Held) (l : Line) (x : Kept × Option Part) → after k h l ≡ Some x → StepParts p h x
 step_parts p k held.Start (line.Head date quarters budget) x e = subst (λ y. StepParts p held.Start y) (some_is (kept_with k held.Between, Some (part.Head date quarters budget)) x e) refl
-step_parts p k held.Between l x e = between_parts p k l x e
 step_parts p k (held.Run h) (line.Welfare n) x e =
     let new = held.Listing (record { heading = h; welfare = n; zones = []; borders = []; bids = []; demands = [] }) in
     subst (λ y. StepParts p (held.Run h) y) (some_is (kept_with k new, None) x e) refl
@@ -99,7 +77,7 @@ step_parts p k (held.Totals os ps) (line.Done m n) x e =
     let t = cond_some (eqb m k.counts.published && eqb n k.counts.unpublished) (kept_with k held.Done, Some (part.Totals os ps)) x e in
     subst (λ y. StepParts p (held.Totals os ps) y) t.1 refl
 step_parts p k (held.Totals os ps) l x e = kept_parts p k (held.Totals os ps) (after_totals os ps l) x (λ q. refl) (λ new o. totals_inner os ps l new o) e
-step_parts p k _ _ x e = absurd cc
+step_parts p k _ l x e = grind (arith, between_parts)
 
 -- lines that may follow one another are those of what has come
 on_stands : (done : List Line) (p : Publication) (k : Kept) (l : Line) (ls : List Line) (q : Publication) (r : Kept) (o : Option (Kept × Option Part)) → Stands done p k k.held → after k k.held l ≡ o

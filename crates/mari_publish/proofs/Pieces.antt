@@ -106,9 +106,7 @@ one_next text parts a (Err fault.Memory) s t = inr (inr refl)
 
 -- where no whole line is left
 no_line_in : (a : Ahead) (unread rest : List ℕ) → IsAhead a unread rest → NoLineIn a unread → Lacks 10 rest
-no_line_in mark.Whole unread rest e none = subst (λ (w : List ℕ). Lacks 10 w) (sym e) none
-no_line_in mark.TooLong unread rest e none = e.0
-no_line_in mark.Ended unread rest e none = absurd none
+no_line_in a unread rest e none = grind arith
 
 pub lacks_line : (r : ComeState) (text : List ℕ) (parts : List Part) (s : ComesFrom r text parts) → HasNoLine r → Lacks 10 s.rest
 lacks_line r text parts s none = no_line_in r.ahead r.unread s.rest s.ahead none
@@ -185,8 +183,7 @@ fault_next old new (fault.BadLine n) h text parts s =
     (subst (λ i. BadLineAt text i × NoPart text parts) (sym h.1) (bad_next old text parts s h.0), subst (λ r. ComesFrom r text parts) (sym h.2) s)
 fault_next old new (fault.BadOrder n) h text parts s =
     (subst (λ i. BadOrderAt text i × NoPart text parts) (sym h.1) (misplaced_next old text parts s h.0), subst (λ r. ComesFrom r text parts) (sym h.2) s)
-fault_next old new (fault.Truncated n) h text parts s = absurd h
-fault_next old new fault.Memory h text parts s = (tt, subst (λ r. ComesFrom r text parts) (sym h) s)
+fault_next old new _ h text parts s = grind arith
 
 -- what a step states
 pub line_step : (old new : ComeState) (a : Handled) (x : Option Part) → a ≡ step.Line x → Handles old new (Ok a) → IsTaken old new x

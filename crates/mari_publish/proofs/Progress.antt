@@ -161,12 +161,10 @@ truncated bytes rest n p k a none undated = record {
 }
   where
     no_name : (d : List ℕ) → d ≡ [] → is_name d ≡ true → ⊥
-    no_name [] e h = absurd cc
-    no_name (b ∷ bs) e h = absurd cc
+    no_name d e h = grind arith
 
 pub finished : (bytes rest : List ℕ) (n : ℕ) (g : Gathered) (k : Kept) (r : Result Publication TextFault) → Progress bytes rest n (seen g) k → Lacks 10 rest
     → Finishes g k.held rest n r → IsOutcome bytes r
-finished bytes rest n g k (Ok p) a none f = whole_text bytes rest n (seen g) p k a f.0 f.1 f.2
 finished bytes rest n g k (Err (fault.Truncated m)) a none f =
     subst (λ i. TruncatedAt bytes i) (sym f.0) (truncated bytes rest n (seen g) k a none (λ done empty. ap (λ (d : Option (List ℕ)). unwrap_or d []) (f.1 done empty)))
-finished bytes rest n g k (Err _) a none f = absurd f
+finished bytes rest n g k _ a none f = search (arith, whole_text)

@@ -9,7 +9,6 @@ use Rattle.mari_io.specs.declared.shelf.TheConstants.{MOST_PIECE}
 use Rattle.mari_io.proofs.Counting.{counts_as}
 use Rattle.mari_publish.specs.Order.{nothing_kept}
 use Rattle.mari_publish.specs.Paged.{IsLineFault}
-use Rattle.mari_publish.specs.Paged.IsReportedFault.{OfPage as of-page}
 use Rattle.mari_publish.specs.Pieces.{ComeState, ComesFrom, HoldsParts, IsEnd, IsNext, NoPart, ReaderState, found_none, with_part}
 use Rattle.mari_publish.specs.declared.fault.TextFault.{TextFault}
 use Rattle.mari_publish.specs.declared.fault.TextFault.TheVariants as fault
@@ -94,19 +93,14 @@ module _ (Took : List Part → Type 0) (page rest : Option (List ℕ)) (given : 
   module _ {X : Type 0} (Breaks : List Part → Part → X → Type 0) where
     -- the fetch of a piece failed
     pub piece-fault : (f : Fetch) → (f ≡ fetch.Missing → ⊥) → (f ≡ fetch.TooLong → IsOverlong rest given) → (whole : List ℕ) → page ≡ Some whole → StopStates Took Breaks whole (stop_of_fetch f)
-    piece-fault fetch.Failed not over whole is = of-page-so-far whole is
-    piece-fault fetch.Missing not over whole is = absurd (not refl)
-    piece-fault fetch.Memory not over whole is = of-page-so-far whole is
     piece-fault fetch.TooLong not over whole is =
         let front = overlong-front _ _ _ _ u (over refl) whole is in
         let all : TookAll Took u.text = took-all Took u.text u.known.parts old.come u.known.taken u.known.none in
         (overlong-page _ _ _ _ u (over refl) whole is, subst (TookAll Took) front all)
+    piece-fault _ not over whole is = grind (arith, of-page-so-far)
 
     pub piece-any : (f : Fetch) → (f ≡ fetch.Missing → ⊥) → (reader : ReaderState) → SomePieces Took Breaks reader (Err (stop_of_fetch f))
-    piece-any fetch.Failed not reader = (u.text, some-taken)
-    piece-any fetch.Missing not reader = absurd (not refl)
-    piece-any fetch.TooLong not reader = (u.text, some-taken)
-    piece-any fetch.Memory not reader = (u.text, some-taken)
+    piece-any f not reader = grind arith
 
   module _ (piece : List ℕ) (n : ℕ) (many : length piece ≡ n) (within : given + n ≤ most_given) (is_piece : (left : List ℕ) → rest ≡ Some left → IsPiece left [] piece n) where
     module _ (whole : List ℕ) (is : page ≡ Some whole) where
@@ -154,14 +148,7 @@ module _ (Took : List Part → Type 0) (page rest : Option (List ℕ)) (given : 
               }
 
           pub reading-stops : (stop : ReadStop X) → PartsReport Now Breaks (u.text ++ piece) reader (Err stop) → ReadStops rest_of calls whole after stop
-          reading-stops (OfText (fault.BadLine n)) h = line-stops (fault.BadLine n) h.0
-          reading-stops (OfText (fault.BadOrder n)) h = line-stops (fault.BadOrder n) h.0
-          reading-stops (OfText (fault.Truncated n)) h = tt
-          reading-stops (OfText fault.Memory) h = tt
-          reading-stops (Unopened f) h = tt
-          reading-stops (OfFetch f) h = tt
-          reading-stops (OfPart stop) h = tt
-          reading-stops NoMemory h = tt
+          reading-stops stop h = grind (arith, line-stops)
 
     module _ (Now : List Part → Type 0) (new : ReaderState) (all : AllTaken Now (u.text ++ piece) new) where
       -- there is more of it
@@ -180,84 +167,41 @@ module _ (Took : List Part → Type 0) (page rest : Option (List ℕ)) (given : 
 
 module _ {X : Type 0} (Took : List Part → Type 0) (Breaks : List Part → Part → X → Type 0) (text : List ℕ) (reader : ReaderState) where
   pub parts-any : (stop : ReadStop X) (after : ReaderState) → PartsReport Took Breaks text reader (Err stop) → SomePieces Took Breaks after (Err stop)
-  parts-any (Unopened f) after h = absurd h
-  parts-any (OfFetch f) after h = absurd h
-  parts-any (OfText f) after h = (text, record { parts = h.1.parts; first = h.1.first; took = h.1.took })
-  parts-any (OfPart stop) after h = (text, h)
-  parts-any NoMemory after h = (text, h)
+  parts-any stop after h = grind arith
 
   pub parts-opened : (stop : ReadStop X) → PartsReport Took Breaks text reader (Err stop) → IsUnopened {T = Unit {0}} (Err stop) → ⊥
-  parts-opened (Unopened f) h w = h
-  parts-opened (OfFetch f) h w = w
-  parts-opened (OfText f) h w = w
-  parts-opened (OfPart stop) h w = w
-  parts-opened NoMemory h w = w
+  parts-opened stop h w = grind arith
 
   pub parts-never : (stop : ReadStop X) → PartsReport Took Breaks text reader (Err stop) → IsWrapped {T = Unit {0}} (Err stop) → ⊥
-  parts-never (Unopened f) h w = h
-  parts-never (OfFetch f) h w = h
-  parts-never (OfText fault.Memory) h w = h.0
-  parts-never (OfText (fault.BadLine n)) h w = absurd cc
-  parts-never (OfText (fault.BadOrder n)) h w = absurd cc
-  parts-never (OfText (fault.Truncated n)) h w = h.0
-  parts-never (OfPart stop) h w = w
-  parts-never NoMemory h w = w
+  parts-never stop h w = grind arith
 
   pub parts-no-fetch : (stop : ReadStop X) (f : Fetch) → PartsReport Took Breaks text reader (Err stop) → IsReadFetch {T = Unit {0}} f (Err stop) → ⊥
-  parts-no-fetch (Unopened g) f h w = h
-  parts-no-fetch (OfFetch g) f h w = h
-  parts-no-fetch (OfText g) f h w = w
-  parts-no-fetch (OfPart stop) f h w = w
-  parts-no-fetch NoMemory f h w = w
+  parts-no-fetch stop f h w = grind arith
 
 module _ (X : Type 0) where
   pub fetch-opened : (f : Fetch) → IsUnopened {T = Unit {0}} {X = X} (Err (stop_of_fetch f)) → ⊥
-  fetch-opened fetch.Failed h = h
-  fetch-opened fetch.Missing h = h
-  fetch-opened fetch.TooLong h = h
-  fetch-opened fetch.Memory h = h
+  fetch-opened f h = grind arith
 
   pub text-opened : (f : TextFault) → IsUnopened {T = Unit {0}} {X = X} (Err (stop_of_text f)) → ⊥
-  text-opened (fault.BadLine n) h = h
-  text-opened (fault.BadOrder n) h = h
-  text-opened (fault.Truncated n) h = h
-  text-opened fault.Memory h = h
+  text-opened f h = grind arith
 
   pub fetch-never : (f : Fetch) → IsWrapped {T = Unit {0}} {X = X} (Err (stop_of_fetch f)) → ⊥
-  fetch-never fetch.Failed h = absurd cc
-  fetch-never fetch.Missing h = absurd cc
-  fetch-never fetch.TooLong h = absurd cc
-  fetch-never fetch.Memory h = h
+  fetch-never f h = grind arith
 
   pub opening-never : (f : Fetch) → IsWrapped {T = Unit {0}} {X = X} (Err (stop_of_opening f)) → ⊥
-  opening-never fetch.Failed h = absurd cc
-  opening-never fetch.Missing h = absurd cc
-  opening-never fetch.TooLong h = absurd cc
-  opening-never fetch.Memory h = h
+  opening-never f h = grind arith
 
   pub text-never : (f : TextFault) → IsWrapped {T = Unit {0}} {X = X} (Err (stop_of_text f)) → ⊥
-  text-never (fault.BadLine n) h = absurd cc
-  text-never (fault.BadOrder n) h = absurd cc
-  text-never (fault.Truncated n) h = absurd cc
-  text-never fault.Memory h = h
+  text-never f h = grind arith
 
   pub text-no-fetch : (f : TextFault) (g : Fetch) → IsReadFetch {T = Unit {0}} {X = X} g (Err (stop_of_text f)) → ⊥
-  text-no-fetch (fault.BadLine n) g h = h
-  text-no-fetch (fault.BadOrder n) g h = h
-  text-no-fetch (fault.Truncated n) g h = h
-  text-no-fetch fault.Memory g h = h
+  text-no-fetch f g h = grind arith
 
   same-fetch : (f g : Fetch) → IsReadFetch {T = Unit {0}} {X = X} g (Err (stop_of_fetch f)) → f ≡ g
-  same-fetch fetch.Failed g h = h
-  same-fetch fetch.Missing g h = h
-  same-fetch fetch.TooLong g h = h
-  same-fetch fetch.Memory g h = absurd h
+  same-fetch f g h = grind arith
 
   same-opening : (f g : Fetch) → IsReadFetch {T = Unit {0}} {X = X} g (Err (stop_of_opening f)) → f ≡ g
-  same-opening fetch.Failed g h = h
-  same-opening fetch.Missing g h = h
-  same-opening fetch.TooLong g h = h
-  same-opening fetch.Memory g h = absurd h
+  same-opening f g h = grind arith
 
   pub counts-on : (T : Type 0) (f g : Fetch) (a b c : ℕ) → a ≤ b → Counts (IsErrOf {T = T} (Err f) g) b c → Counts (IsReadFetch {T = Unit {0}} {X = X} g (Err (stop_of_fetch f))) a c
   counts-on T f g a b c l n = counts_as T _ f g a b c (same-fetch f g) l n
@@ -268,42 +212,24 @@ module _ (X : Type 0) where
   -- what is no fault of a part
   module _ (IsFault : X → Type 0) where
     pub opening-no-part : (f : Fetch) → IsPartFault {T = Unit {0}} IsFault (Err (stop_of_opening f)) → ⊥
-    opening-no-part fetch.Failed h = h
-    opening-no-part fetch.Missing h = h
-    opening-no-part fetch.TooLong h = h
-    opening-no-part fetch.Memory h = h
+    opening-no-part f h = grind arith
 
     pub fetch-no-part : (f : Fetch) → IsPartFault {T = Unit {0}} IsFault (Err (stop_of_fetch f)) → ⊥
-    fetch-no-part fetch.Failed h = h
-    fetch-no-part fetch.Missing h = h
-    fetch-no-part fetch.TooLong h = h
-    fetch-no-part fetch.Memory h = h
+    fetch-no-part f h = grind arith
 
     pub text-no-part : (f : TextFault) → IsPartFault {T = Unit {0}} IsFault (Err (stop_of_text f)) → ⊥
-    text-no-part (fault.BadLine n) h = h
-    text-no-part (fault.BadOrder n) h = h
-    text-no-part (fault.Truncated n) h = h
-    text-no-part fault.Memory h = h
+    text-no-part f h = grind arith
 
   -- no fault of the shelf is one of a line, nor is one at the end of the text
   module _ {S : Type 0} (rest_of : S → Option (List ℕ)) (calls : S → ℕ) (page : List ℕ) (shelf : S) where
     pub fetch-stops : (f : Fetch) → ReadStops {X = X} rest_of calls page shelf (stop_of_fetch f)
-    fetch-stops fetch.Failed = tt
-    fetch-stops fetch.Missing = tt
-    fetch-stops fetch.TooLong = tt
-    fetch-stops fetch.Memory = tt
+    fetch-stops f = grind arith
 
     pub opening-stops : (f : Fetch) → ReadStops {X = X} rest_of calls page shelf (stop_of_opening f)
-    opening-stops fetch.Failed = tt
-    opening-stops fetch.Missing = tt
-    opening-stops fetch.TooLong = tt
-    opening-stops fetch.Memory = tt
+    opening-stops f = grind arith
 
     pub end-stops : (T : Type 0) (text : List ℕ) (parts : List Part) (f : TextFault) → IsEnd {T = T} text parts (Err f) → ReadStops {X = X} rest_of calls page shelf (stop_of_text f)
-    end-stops T text parts (fault.BadLine n) h = absurd h
-    end-stops T text parts (fault.BadOrder n) h = absurd h
-    end-stops T text parts (fault.Truncated n) h = tt
-    end-stops T text parts fault.Memory h = tt
+    end-stops T text parts f h = grind arith
 
 -- ---- which calls the shelf gets
 
@@ -321,12 +247,10 @@ module _ {X : Type 0} (Took : List Part → Type 0) (Breaks : List Part → Part
   pub open-fault : (T : Type 0) (page rest : Option (List ℕ)) (f : Fetch) → Took [] → OpenStates {T = T} page rest (Err f) → ReadStates Took Breaks page (Err (stop_of_opening f))
   open-fault T None rest fetch.Failed none h = none
   open-fault T None rest fetch.Missing none h = none
-  open-fault T None rest fetch.TooLong none h = absurd h
   open-fault T None rest fetch.Memory none h = none
   open-fault T (Some page) rest fetch.Failed none h = none
-  open-fault T (Some page) rest fetch.Missing none h = absurd cc
-  open-fault T (Some page) rest fetch.TooLong none h = absurd h
   open-fault T (Some page) rest fetch.Memory none h = record { parts = []; first = nothing page; took = none }
+  open-fault T _ rest _ none h = grind arith
 
   pub open-any : (f : Fetch) → (f ≡ fetch.TooLong → ⊥) → Took [] → SomeStates Took Breaks (Err (stop_of_opening f))
   open-any fetch.Failed not none = none
@@ -351,16 +275,11 @@ module _ {X : Type 0} (Took : List Part → Type 0) (Breaks : List Part → Part
     end-any done e = (page, publication done e)
 
     pub end-reported : (T : Type 0) (f : TextFault) → length page ≤ most_given → IsEnd {T = T} page all.parts (Err f) → ReadStates Took Breaks (Some page) (Err (stop_of_text f))
-    end-reported T (fault.BadLine n) short h = absurd h
-    end-reported T (fault.BadOrder n) short h = absurd h
-    end-reported T (fault.Truncated n) short h = (of-page short h, took-all Took page all.parts reader.come all.taken all.none)
-    end-reported T fault.Memory short h = absurd h
+    end-reported T f short h = grind arith
 
     pub end-cut : (T : Type 0) (f : TextFault) → IsEnd {T = T} page all.parts (Err f) → SomeStates Took Breaks (Err (stop_of_text f))
-    end-cut T (fault.BadLine n) h = absurd h
-    end-cut T (fault.BadOrder n) h = absurd h
     end-cut T (fault.Truncated n) h = (page, took-first Took page all.parts reader.come all.taken)
-    end-cut T fault.Memory h = absurd h
+    end-cut T _ h = grind arith
 
 -- ---- the same for another call
 

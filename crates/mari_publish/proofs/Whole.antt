@@ -46,16 +46,14 @@ others (block.Published b) = 0
 others (block.Unpublished heading count) = 1
 
 published_push : (bs : List Block) (b : Block) → published_in (bs ++ b ∷ []) ≡ published_in bs + ones b
-published_push [] (block.Published b) = refl
-published_push [] (block.Unpublished heading count) = refl
 published_push (block.Published c ∷ bs) b = ap (λ n. n + 1) (published_push bs b) ∙ swap_one (published_in bs) (ones b)
 published_push (block.Unpublished heading count ∷ bs) b = published_push bs b
+published_push _ _ = grind arith
 
 unpublished_push : (bs : List Block) (b : Block) → unpublished_in (bs ++ b ∷ []) ≡ unpublished_in bs + others b
-unpublished_push [] (block.Published b) = refl
-unpublished_push [] (block.Unpublished heading count) = refl
 unpublished_push (block.Published c ∷ bs) b = unpublished_push bs b
 unpublished_push (block.Unpublished heading count ∷ bs) b = ap (λ n. n + 1) (unpublished_push bs b) ∙ swap_one (unpublished_in bs) (others b)
+unpublished_push _ _ = grind arith
 
 -- how many lines of a kind a block may have, but for those whose numbers say so
 abbrev pub IsWithinLimits : Block → Type 0

@@ -1,5 +1,5 @@
 -- The whole command line: `clap` takes the words exactly where they are a command, and finds what it asks for.
-use Rattle.std.proofs.Common.{◌≡◌, ◌∙◌, Bool, true, false, List, [], ◌∷◌, ◌++◌, fold, Option, Some, None, is_some, option_map, bytes_eq, codes, refl, sym, ap, ap₂, append_assoc, append-nil}
+use Rattle.std.proofs.Common.{◌≡◌, ◌∙◌, Bool, true, false, List, [], ◌∷◌, ◌++◌, fold, Option, Some, None, is_some, option_map, bytes_eq, codes, refl, sym, ap, ap₂, append_assoc, append-nil, arith}
 use Rattle.clap.specs.Walk.{Names, Row, Walk, finished, nothing_held, rows_after, settled, subcommand_met, walk, walk_from, walked}
 use Rattle.clap.specs.Walk.{Waiting as waits}
 use Rattle.clap.specs.Simple.{Shape, built, entered, names_of, subcommand_of}
@@ -59,14 +59,7 @@ met_as name =
 -- ---- a subcommand's name
 
 first_passes : (verb : Verb) (name : Text) → subcommand_met names waits.idle name ≡ Some (name_of verb) → turn_fault top names (walk_from nothing_held) name ≡ []
-first_passes Clears name m = rw m refl
-first_passes Checks name m = rw m refl
-first_passes Generates name m = rw m refl
-first_passes Migrates name m = rw m refl
-first_passes Feeds name m = rw m refl
-first_passes Splits name m = rw m refl
-first_passes Joins name m = rw m refl
-first_passes Values name m = rw m refl
+first_passes verb name m = grind arith
 
 first_met : (verb : Verb) (name : Text) → subcommand_met names waits.idle name ≡ Some (name_of verb) → walked [] names (walk_from nothing_held) name ≡ met (name_of verb) []
 unfolding walked
@@ -82,8 +75,7 @@ total w faults =
     (check_fault top (finished [] w.held) (is_some (entered (built line) w.stopped))))))
 
 or_none : (a : Kinds) → or_else a [] ≡ a
-or_none [] = refl
-or_none (k ∷ ks) = refl
+or_none a = grind arith
 
 total_met : (verb : Verb) (rest : List Text) → total (met (name_of verb) rest) [] ≡ level_fault (leaf verb) [] nothing_held rest false []
 unfolding defaults_fault
@@ -146,14 +138,7 @@ pub record Agrees (words : List Text) : Type 0 where
   pub refused : (fault_of line words ≡ [] → ⊥) → command_at words ≡ None
 
 named_verb : (verb : Verb) (rows : List Row) → asked_by (name_of verb) rows ≡ asked_for verb (given_of rows)
-named_verb Clears rows = refl
-named_verb Checks rows = refl
-named_verb Generates rows = refl
-named_verb Migrates rows = refl
-named_verb Feeds rows = refl
-named_verb Splits rows = refl
-named_verb Joins rows = refl
-named_verb Values rows = refl
+named_verb verb rows = grind arith
 
 pub agrees : (words : List Text) → Spelled words → Agrees words
 agrees [] sp = record { taken = λ h. absurd (no_words h); refused = λ h. refl }

@@ -1,5 +1,5 @@
 -- The end of a command's words: `clap` finds what the definition gives, or refuses where it gives nothing.
-use Rattle.std.proofs.Common.{◌≡◌, ◌∙◌, ◌≤◌, Bool, true, false, List, [], ◌∷◌, map, fold, length, Option, Some, None, is_some, option_map, option_and_then, slice_get, refl, sym, ap, subst, arith}
+use Rattle.std.proofs.Common.{◌≡◌, ◌∙◌, ◌≤◌, Bool, false, List, [], ◌∷◌, map, fold, length, Option, Some, None, is_some, option_map, option_and_then, slice_get, refl, sym, ap, subst, arith}
 use Rattle.clap.specs.Walk.{Row, Walk, finished, first_of, has_row, nothing_held, rows_after, settled_rows, walked, with_default}
 use Rattle.clap.specs.Faults.{check_fault, default_fault, defaults_fault, level_fault, settle_fault, walk_fault}
 use Rattle.clap.specs.Takes.{is_given}
@@ -15,16 +15,7 @@ use Rattle.mari_words.proofs.Walks.{Walks, walks}
 
 -- no argument has a default
 default_passes : (k : Key) (rows : List Row) (b : Bool) → has_row (id k) rows ≡ b → (default_fault rows (rule k) ≡ []) × (with_default rows (rule k) ≡ rows)
-default_passes First rows true e = (rw e refl, rw e refl)
-default_passes First rows false e = (rw e refl, rw e refl)
-default_passes Second rows true e = (rw e refl, rw e refl)
-default_passes Second rows false e = (rw e refl, rw e refl)
-default_passes Third rows true e = (rw e refl, rw e refl)
-default_passes Third rows false e = (rw e refl, rw e refl)
-default_passes Nodes rows true e = (rw e refl, rw e refl)
-default_passes Nodes rows false e = (rw e refl, rw e refl)
-default_passes Workers rows true e = (rw e refl, rw e refl)
-default_passes Workers rows false e = (rw e refl, rw e refl)
+default_passes k rows b e = grind arith
 
 defaults_pass : (ks : List Key) (rows : List Row) → defaults_fault rows (map rule ks) ≡ []
 unfolding defaults_fault
@@ -135,33 +126,26 @@ ends_open : (verb : Verb) (rows : List Row) (pending : Pending) (words : List Te
     → EndIs verb (at rows pending (mk words nodes workers None end)) (option_map given_in (whole (form_of verb) (mk words nodes workers None end)))
 ends_open Clears rows pending [] n w end few st = few_words Clears rows pending [] n w end (none_given _ (values (mk [] n w None end)) st.1 Clears refl)
 ends_open Clears rows pending (t ∷ []) n w end few st = all_words Clears rows pending (t ∷ []) n w end st (clear_given _ (values (mk (t ∷ []) n w None end)) st.1 t refl)
-ends_open Clears rows pending (t ∷ u ∷ more) n w end few st = absurd (omega (arith, few))
 ends_open Checks rows pending [] n w end few st = few_words Checks rows pending [] n w end (none_given _ (values (mk [] n w None end)) st.1 Checks refl)
 ends_open Checks rows pending (t ∷ []) n w end few st = all_words Checks rows pending (t ∷ []) n w end st (check_given _ (values (mk (t ∷ []) n w None end)) st.1 t refl)
-ends_open Checks rows pending (t ∷ u ∷ more) n w end few st = absurd (omega (arith, few))
 ends_open Generates rows pending [] n w end few st = few_words Generates rows pending [] n w end (none_given _ (values (mk [] n w None end)) st.1 Generates refl)
 ends_open Generates rows pending (t ∷ []) n w end few st = all_words Generates rows pending (t ∷ []) n w end st (generate_given _ (values (mk (t ∷ []) n w None end)) st.1 t refl)
-ends_open Generates rows pending (t ∷ u ∷ more) n w end few st = absurd (omega (arith, few))
 ends_open Feeds rows pending [] n w end few st = few_words Feeds rows pending [] n w end (none_given _ (values (mk [] n w None end)) st.1 Feeds refl)
 ends_open Feeds rows pending (t ∷ []) n w end few st = all_words Feeds rows pending (t ∷ []) n w end st (feed_given _ (values (mk (t ∷ []) n w None end)) st.1 t refl)
-ends_open Feeds rows pending (t ∷ u ∷ more) n w end few st = absurd (omega (arith, few))
 ends_open Splits rows pending [] n w end few st = few_words Splits rows pending [] n w end (none_given _ (values (mk [] n w None end)) st.1 Splits refl)
 ends_open Splits rows pending (t ∷ []) n w end few st = all_words Splits rows pending (t ∷ []) n w end st (split_given _ (values (mk (t ∷ []) n w None end)) st.1 t refl)
-ends_open Splits rows pending (t ∷ u ∷ more) n w end few st = absurd (omega (arith, few))
 ends_open Migrates rows pending [] n w end few st = few_words Migrates rows pending [] n w end (none_given _ (values (mk [] n w None end)) st.1 Migrates refl)
 ends_open Migrates rows pending (t ∷ []) n w end few st = few_words Migrates rows pending (t ∷ []) n w end (migrate_one _ (values (mk (t ∷ []) n w None end)) st.1 t refl refl)
 ends_open Migrates rows pending (t ∷ u ∷ []) n w end few st = all_words Migrates rows pending (t ∷ u ∷ []) n w end st (migrate_given _ (values (mk (t ∷ u ∷ []) n w None end)) st.1 t u refl refl)
-ends_open Migrates rows pending (t ∷ u ∷ v ∷ more) n w end few st = absurd (omega (arith, few))
 ends_open Values rows pending [] n w end few st = few_words Values rows pending [] n w end (none_given _ (values (mk [] n w None end)) st.1 Values refl)
 ends_open Values rows pending (t ∷ []) n w end few st = few_words Values rows pending (t ∷ []) n w end (value_one _ (values (mk (t ∷ []) n w None end)) st.1 t refl refl)
 ends_open Values rows pending (t ∷ u ∷ []) n w end few st = all_words Values rows pending (t ∷ u ∷ []) n w end st (value_given _ (values (mk (t ∷ u ∷ []) n w None end)) st.1 t u refl refl)
-ends_open Values rows pending (t ∷ u ∷ v ∷ more) n w end few st = absurd (omega (arith, few))
 ends_open Joins rows pending [] n w end few st = few_words Joins rows pending [] n w end (none_given _ (values (mk [] n w None end)) st.1 Joins refl)
 ends_open Joins rows pending (t ∷ []) n w end few st = few_words Joins rows pending (t ∷ []) n w end (blocks_one _ (values (mk (t ∷ []) n w None end)) st.1 t refl refl)
 ends_open Joins rows pending (t ∷ u ∷ []) n w end few st = few_words Joins rows pending (t ∷ u ∷ []) n w end (blocks_two _ (values (mk (t ∷ u ∷ []) n w None end)) st.1 t u refl refl refl)
 ends_open Joins rows pending (t ∷ u ∷ v ∷ []) n w end few st =
     all_words Joins rows pending (t ∷ u ∷ v ∷ []) n w end st (blocks_given _ (values (mk (t ∷ u ∷ v ∷ []) n w None end)) st.1 t u v refl refl refl)
-ends_open Joins rows pending (t ∷ u ∷ v ∷ x ∷ more) n w end few st = absurd (omega (arith, few))
+ends_open _ rows pending _ n w end few st = grind arith
 
 ends_at : (verb : Verb) (rows : List Row) (pending : Pending) (words : List Text) (nodes workers : Option Text) (wait : Option Choice) (end : Bool)
     → length words ≤ (form_of verb).words → State verb rows pending (mk words nodes workers wait end) wait
@@ -188,11 +172,7 @@ begins verb = record { rows = []; pending = None; is = refl; few = least verb; s
     least v = omega arith
 
     none : Finds [] (values nothing)
-    none First = refl
-    none Second = refl
-    none Third = refl
-    none Nodes = refl
-    none Workers = refl
+    none x = grind arith
 
 abbrev over : Verb → List Text → Walk
 over verb words = fold (walked (rules verb) []) (at [] None nothing) words

@@ -1,5 +1,5 @@
 -- The arguments of the command line, and what is found of them.
-use Rattle.std.proofs.Common.{◌≡◌, ◌∙◌, ◌||◌, Bool, true, false, cond, List, [], ◌∷◌, ◌++◌, map, Option, Some, None, is_some, option_map, find, bytes_eq, codes, refl, sym, ap, true≢false}
+use Rattle.std.proofs.Common.{◌≡◌, ◌∙◌, ◌||◌, Bool, true, false, cond, List, [], ◌∷◌, ◌++◌, map, Option, Some, None, is_some, option_map, find, bytes_eq, codes, refl, sym, ap, true≢false, arith}
 use Rattle.clap.specs.Walk.{Held, Row, Rule, at_row, more_values, has_row, reading_by, used}
 use Rattle.clap.specs.Simple.{filled, with_index}
 use Rattle.clap.specs.Faults.{use_fault}
@@ -135,54 +135,18 @@ used_last Workers text rows n = placed (codes "workers") (more_values CommandLin
 
 -- the first use passes
 first_use : (k : Key) (text : Text) (rows : List Row) → has_row (id k) rows ≡ false → use_fault false (rule k) (text ∷ []) rows ≡ []
-first_use First text rows e = rw e refl
-first_use Second text rows e = rw e refl
-first_use Third text rows e = rw e refl
-first_use Nodes text rows e = rw e refl
-first_use Workers text rows e = rw e refl
+first_use k text rows e = grind arith
 
 -- a second use does not
 second_use : (k : Key) (text : Text) (rows : List Row) → has_row (id k) rows ≡ true → use_fault false (rule k) (text ∷ []) rows ≡ [] → ⊥
-second_use First text rows y n = filled_not n (rw y refl)
-second_use Second text rows y n = filled_not n (rw y refl)
-second_use Third text rows y n = filled_not n (rw y refl)
-second_use Nodes text rows y n = filled_not n (rw y refl)
-second_use Workers text rows y n = filled_not n (rw y refl)
+second_use k text rows y n = grind arith
 
 -- nor does a use without a value
 pub empty_use : (k : Key) (rows : List Row) → use_fault false (rule k) [] rows ≡ [] → ⊥
-empty_use First rows n = filled_not n refl
-empty_use Second rows n = filled_not n refl
-empty_use Third rows n = filled_not n refl
-empty_use Nodes rows n = filled_not n refl
-empty_use Workers rows n = filled_not n refl
+empty_use k rows n = grind arith
 
 same_key : (a b : Key) → bytes_eq (id a) (id b) ≡ true → a ≡ b
-same_key First First h = refl
-same_key First Second h = absurd (true≢false (sym h))
-same_key First Third h = absurd (true≢false (sym h))
-same_key First Nodes h = absurd (true≢false (sym h))
-same_key First Workers h = absurd (true≢false (sym h))
-same_key Second First h = absurd (true≢false (sym h))
-same_key Second Second h = refl
-same_key Second Third h = absurd (true≢false (sym h))
-same_key Second Nodes h = absurd (true≢false (sym h))
-same_key Second Workers h = absurd (true≢false (sym h))
-same_key Third First h = absurd (true≢false (sym h))
-same_key Third Second h = absurd (true≢false (sym h))
-same_key Third Third h = refl
-same_key Third Nodes h = absurd (true≢false (sym h))
-same_key Third Workers h = absurd (true≢false (sym h))
-same_key Nodes First h = absurd (true≢false (sym h))
-same_key Nodes Second h = absurd (true≢false (sym h))
-same_key Nodes Third h = absurd (true≢false (sym h))
-same_key Nodes Nodes h = refl
-same_key Nodes Workers h = absurd (true≢false (sym h))
-same_key Workers First h = absurd (true≢false (sym h))
-same_key Workers Second h = absurd (true≢false (sym h))
-same_key Workers Third h = absurd (true≢false (sym h))
-same_key Workers Nodes h = absurd (true≢false (sym h))
-same_key Workers Workers h = refl
+same_key a b h = grind arith
 
 pub used_finds : (k : Key) (text : Text) (rows : List Row) (o : Key → Option Text) → Finds rows o → o k ≡ None
     → Finds (used (rule k) (text ∷ []) rows) (upd k text o)

@@ -36,8 +36,7 @@ sort_of [] u = plain refl refl refl refl
 sort_of (x ∷ []) u = go (x == 45) refl
   where
     go : (b : Bool) → (x == 45) ≡ b → Sort (x ∷ [])
-    go true e = plain (rw e refl) (rw e refl) (rw e refl) refl
-    go false e = plain (rw e refl) (rw e refl) (rw e refl) refl
+    go b e = grind arith
 sort_of (x ∷ y ∷ ys) u = go (x == 45) (y == 45) refl refl
   where
     two : (zs : List ℕ) → (x == 45) ≡ true → (y == 45) ≡ true → zs ≡ ys → Sort (x ∷ y ∷ zs)

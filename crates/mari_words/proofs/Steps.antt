@@ -1,5 +1,5 @@
 -- One more word: what `clap` makes of it, and what the definition makes of it.
-use Rattle.std.proofs.Common.{◌≡◌, ◌∙◌, ◌≤◌, ◌&&◌, ℕ, Bool, suc, true, false, not, cond, List, [], ◌∷◌, fold, length, Option, Some, None, is_some, option_map, find, slice_get, bytes_eq, chars, codes, refl, sym, ap, subst, true≢false}
+use Rattle.std.proofs.Common.{◌≡◌, ◌∙◌, ◌≤◌, ◌&&◌, ℕ, Bool, suc, true, false, not, cond, List, [], ◌∷◌, fold, length, Option, Some, None, is_some, option_map, find, slice_get, bytes_eq, chars, codes, refl, sym, ap, subst, true≢false, arith}
 use Rattle.std.proofs.lemmas.Bool.{not-true}
 use Rattle.std.specs.Prelude.{⊤}
 use Rattle.std.specs.List.{list_all}
@@ -86,12 +86,10 @@ Turns verb w word (Some s) = (turn_fault (leaf verb) [] w word ≡ []) × Follow
 -- ---- kinds
 
 pub none_first : (a b : Kinds) → or_else a b ≡ [] → a ≡ []
-none_first [] b e = refl
-none_first (k ∷ ks) b e = absurd (filled_not e refl)
+none_first a b e = grind arith
 
 pub none_second : (a b : Kinds) → or_else a b ≡ [] → b ≡ []
-none_second [] b e = e
-none_second (k ∷ ks) b e = absurd (filled_not e refl)
+none_second a b e = grind arith
 
 pub none_both : (a b : Kinds) → a ≡ [] → b ≡ [] → or_else a b ≡ []
 none_both a b e f = ap (λ x. or_else x b) e ∙ f
@@ -107,32 +105,16 @@ find_in p q [] x all e = absurd (true≢false (sym (ap is_some e)))
 find_in p q (y ∷ ys) x all e = go (p y) (q y) refl all e (find_in p q ys x)
   where
     go : (a b : Bool) → p y ≡ a → (a && list_all p ys) ≡ true → cond b (Some y) (find q ys) ≡ Some x → (list_all p ys ≡ true → find q ys ≡ Some x → p x ≡ true) → p x ≡ true
-    go true true h l s more = ap p (sym (ap (value_or y) s)) ∙ h
-    go true false h l s more = more l s
-    go false b h l s more = absurd (true≢false (sym l))
+    go a b h l s more = grind arith
 
 abbrev single : Rule → Bool
 single a = not (takes_several a)
 
 all_single : (verb : Verb) → list_all single (rules verb) ≡ true
-all_single Clears = refl
-all_single Checks = refl
-all_single Generates = refl
-all_single Migrates = refl
-all_single Feeds = refl
-all_single Splits = refl
-all_single Joins = refl
-all_single Values = refl
+all_single verb = grind arith
 
 pub by_short : (verb : Verb) (x : ℕ) → arg_by_short (rules verb) x ≡ None
-by_short Clears x = refl
-by_short Checks x = refl
-by_short Generates x = refl
-by_short Migrates x = refl
-by_short Feeds x = refl
-by_short Splits x = refl
-by_short Joins x = refl
-by_short Values x = refl
+by_short verb x = grind arith
 
 abbrev named_choice : Text → Option Rule
 named_choice name = option_map (λ ch. rule (key_of ch)) (choice_named name)
@@ -141,9 +123,7 @@ options_by_long : (name : Text) → arg_by_long (rule Nodes ∷ rule Workers ∷
 options_by_long name = go (bytes_eq (codes "nodes") name) (bytes_eq (codes "workers") name) refl refl
   where
     go : (a b : Bool) → bytes_eq (codes "nodes") name ≡ a → bytes_eq (codes "workers") name ≡ b → arg_by_long (rule Nodes ∷ rule Workers ∷ []) name ≡ named_choice name
-    go true b e f = rw e refl
-    go false true e f = rw (e, f) refl
-    go false false e f = rw (e, f) refl
+    go a b e f = grind arith
 
 pub by_long : (verb : Verb) (name : Text) → arg_by_long (rules verb) name ≡ option_map (λ ch. rule (key_of ch)) (choice_of (form_of verb) name)
 by_long Clears name = options_by_long name
@@ -156,21 +136,10 @@ by_long Joins name = options_by_long name
 by_long Values name = refl
 
 pub known_choice : (verb : Verb) (name : Text) (ch : Choice) → choice_of (form_of verb) name ≡ Some ch → Known verb (key_of ch)
-known_choice Clears name choice.Nodes e = refl
-known_choice Clears name choice.Workers e = refl
-known_choice Checks name ch e = absurd (true≢false (sym (ap is_some e)))
-known_choice Generates name ch e = absurd (true≢false (sym (ap is_some e)))
-known_choice Migrates name ch e = absurd (true≢false (sym (ap is_some e)))
-known_choice Feeds name ch e = absurd (true≢false (sym (ap is_some e)))
-known_choice Splits name choice.Nodes e = refl
-known_choice Splits name choice.Workers e = refl
-known_choice Joins name choice.Nodes e = refl
-known_choice Joins name choice.Workers e = refl
-known_choice Values name ch e = absurd (true≢false (sym (ap is_some e)))
+known_choice verb name ch e = grind arith
 
 pub not_both : {X : Type 0} (b : Bool) (x y : X) → cond (b && false) x y ≡ y
-not_both true x y = refl
-not_both false x y = refl
+not_both b x y = grind arith
 
 -- ---- where nothing passes any more
 

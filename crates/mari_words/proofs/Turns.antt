@@ -127,32 +127,25 @@ pub puts : (verb : Verb) (rows : List Row) (pending : Pending) (words : List Tex
     → Puts verb rows pending (mk words nodes workers None ended) word (with_plain_word (form_of verb) (mk words nodes workers None ended) word)
 puts Clears rows pending [] n w ended word few st = put_first Clears rows pending n w ended word refl refl (omega arith) st
 puts Clears rows pending (one ∷ []) n w ended word few st = puts_none Clears rows pending 2 refl
-puts Clears rows pending (one ∷ two ∷ more) n w ended word few st = absurd (omega (arith, few))
 puts Checks rows pending [] n w ended word few st = put_first Checks rows pending n w ended word refl refl (omega arith) st
 puts Checks rows pending (one ∷ []) n w ended word few st = puts_none Checks rows pending 2 refl
-puts Checks rows pending (one ∷ two ∷ more) n w ended word few st = absurd (omega (arith, few))
 puts Generates rows pending [] n w ended word few st = put_first Generates rows pending n w ended word refl refl (omega arith) st
 puts Generates rows pending (one ∷ []) n w ended word few st = puts_none Generates rows pending 2 refl
-puts Generates rows pending (one ∷ two ∷ more) n w ended word few st = absurd (omega (arith, few))
 puts Feeds rows pending [] n w ended word few st = put_first Feeds rows pending n w ended word refl refl (omega arith) st
 puts Feeds rows pending (one ∷ []) n w ended word few st = puts_none Feeds rows pending 2 refl
-puts Feeds rows pending (one ∷ two ∷ more) n w ended word few st = absurd (omega (arith, few))
 puts Splits rows pending [] n w ended word few st = put_first Splits rows pending n w ended word refl refl (omega arith) st
 puts Splits rows pending (one ∷ []) n w ended word few st = puts_none Splits rows pending 2 refl
-puts Splits rows pending (one ∷ two ∷ more) n w ended word few st = absurd (omega (arith, few))
 puts Migrates rows pending [] n w ended word few st = put_first Migrates rows pending n w ended word refl refl (omega arith) st
 puts Migrates rows pending (one ∷ []) n w ended word few st = put_second Migrates rows pending n w ended word one refl refl (omega arith) st
 puts Migrates rows pending (one ∷ two ∷ []) n w ended word few st = puts_none Migrates rows pending 3 refl
-puts Migrates rows pending (one ∷ two ∷ three ∷ more) n w ended word few st = absurd (omega (arith, few))
 puts Values rows pending [] n w ended word few st = put_first Values rows pending n w ended word refl refl (omega arith) st
 puts Values rows pending (one ∷ []) n w ended word few st = put_second Values rows pending n w ended word one refl refl (omega arith) st
 puts Values rows pending (one ∷ two ∷ []) n w ended word few st = puts_none Values rows pending 3 refl
-puts Values rows pending (one ∷ two ∷ three ∷ more) n w ended word few st = absurd (omega (arith, few))
 puts Joins rows pending [] n w ended word few st = put_first Joins rows pending n w ended word refl refl (omega arith) st
 puts Joins rows pending (one ∷ []) n w ended word few st = put_second Joins rows pending n w ended word one refl refl (omega arith) st
 puts Joins rows pending (one ∷ two ∷ []) n w ended word few st = put_third Joins rows pending n w ended word one two refl refl (omega arith) st
 puts Joins rows pending (one ∷ two ∷ three ∷ []) n w ended word few st = puts_none Joins rows pending 4 refl
-puts Joins rows pending (one ∷ two ∷ three ∷ four ∷ more) n w ended word few st = absurd (omega (arith, few))
+puts _ rows pending _ n w ended word few st = grind arith
 
 -- ---- an option with its value
 
@@ -163,16 +156,8 @@ state_now verb k rows text o s f e v = (refl, λ j. used_finds k text rows o f e
 
 pub with_nodes : (text : Text) (words : List Text) (nodes workers : Option Text) (ended : Bool) (j : Key)
     → values (mk words (Some text) workers None ended) j ≡ upd Nodes text (values (mk words nodes workers None ended)) j
-with_nodes text words nodes workers ended First = refl
-with_nodes text words nodes workers ended Second = refl
-with_nodes text words nodes workers ended Third = refl
-with_nodes text words nodes workers ended Nodes = refl
-with_nodes text words nodes workers ended Workers = refl
+with_nodes text words nodes workers ended j = grind arith
 
 pub with_workers : (text : Text) (words : List Text) (nodes workers : Option Text) (ended : Bool) (j : Key)
     → values (mk words nodes (Some text) None ended) j ≡ upd Workers text (values (mk words nodes workers None ended)) j
-with_workers text words nodes workers ended First = refl
-with_workers text words nodes workers ended Second = refl
-with_workers text words nodes workers ended Third = refl
-with_workers text words nodes workers ended Nodes = refl
-with_workers text words nodes workers ended Workers = refl
+with_workers text words nodes workers ended j = grind arith

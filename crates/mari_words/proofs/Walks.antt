@@ -1,12 +1,12 @@
 -- All words of a command: `clap` takes them exactly where the definition does, and finds the same.
-use Rattle.std.proofs.Common.{◌≡◌, ◌≤◌, Bool, true, false, List, [], ◌∷◌, fold, length, Option, Some, None, option_and_then, refl, sym, subst}
+use Rattle.std.proofs.Common.{◌≡◌, ◌≤◌, Bool, true, false, List, [], ◌∷◌, fold, length, Option, Some, None, option_and_then, refl, sym, subst, arith}
 use Rattle.clap.specs.Walk.{Row, Walk, walked}
 use Rattle.clap.specs.Faults.{turn_fault, walk_fault}
 use Rattle.mari_words.specs.Seen.{Choice, Seen, Text, after, seen_from}
 use Rattle.mari_words.specs.Words.{Verb, form_of}
 use Rattle.mari_words.proofs.Keys.{rules}
 use Rattle.mari_words.proofs.Sorts.{Sort}
-use Rattle.mari_words.proofs.Steps.{Fails, Follows, Spelled, State, Turns, at, leaf, none_both, none_first, none_second}
+use Rattle.mari_words.proofs.Steps.{Fails, Follows, Spelled, State, Turns, at, leaf, none_first, none_second}
 use Rattle.mari_words.proofs.Turns.{Pending, mk}
 use Rattle.mari_words.proofs.Open.{ended, opened}
 use Rattle.mari_words.proofs.Waiting.{waiting}
@@ -40,8 +40,7 @@ walks verb [] sp w s f = (refl, f)
 walks verb (word ∷ rest) sp w s f = go (after (form_of verb) s word) (turns verb w s word f sp.0) (walks verb rest sp.1 (walked (rules verb) [] w word))
   where
     more : (t : Seen) → turn_fault (leaf verb) [] w word ≡ [] → (o : Option Seen) → Walks verb (walked (rules verb) [] w word) rest o → Walks verb w (word ∷ rest) o
-    more t turn None h = λ walk end. h (none_second (turn_fault (leaf verb) [] w word) _ walk) end
-    more t turn (Some u) h = (none_both (turn_fault (leaf verb) [] w word) _ turn h.0, h.1)
+    more t turn o h = grind arith
 
     go : (o : Option Seen) → Turns verb w word o → ((t : Seen) → Follows verb (walked (rules verb) [] w word) t → Walks verb (walked (rules verb) [] w word) rest (seen_from (form_of verb) t rest))
         → Walks verb w (word ∷ rest) (option_and_then (λ t. seen_from (form_of verb) t rest) o)

@@ -16,7 +16,8 @@ use Rattle.mari_market.specs.Market.{IsValid, IsValidOrder}
 use Rattle.mari_market.specs.Optimal.{IsFeasible}
 use Rattle.mari_market.proofs.Sums.{AllZip-with, AllZip-both}
 
-standing_at : (opens : ℕ → Bool) (gates : ℕ) (gate : Option ℕ) (o : Order) (q : ℕ) → MatchOption gate (o.least ≡ 0) (λ g. (g < gates) × (1 ≤ o.least)) → IsWithin (span_of (λ g. if opens g then Open else Closed) gate o) q → own_standing gate q ≡ standing_of opens gate
+standing_at : (opens : ℕ → Bool) (gates : ℕ) (gate : Option ℕ) (o : Order) (q : ℕ)
+    → MatchOption gate (o.least ≡ 0) (λ g. (g < gates) × (1 ≤ o.least)) → IsWithin (span_of (λ g. if opens g then Open else Closed) gate o) q → own_standing gate q ≡ standing_of opens gate
 standing_at opens gates gate o q v w = grind arith
 
 abbrev pub OneStanding : Market → Activation → Order → ℕ → Type 0

@@ -90,7 +90,8 @@ opens_as_decided m x a v e = fun_ext (λ g. elim (cases_lt g (length m.gates)) [
       ∙ sym (get_or_past (word_of x) g false (omega (arith, length_of_word m x a e, length-map-range_with_len (bit_of x) 0 x.length)))
 ])
 
-runs_within : (opens : ℕ → Bool) (n : ℕ) (gate : Option ℕ) (o : Order) (q : ℕ) → MatchOption gate (o.least ≡ 0) (λ h. (h < n) × (1 ≤ o.least)) → IsWithin (span_of (λ g. if opens g then Open else Closed) gate o) q → RunsAsDecided opens gate q
+runs_within : (opens : ℕ → Bool) (n : ℕ) (gate : Option ℕ) (o : Order) (q : ℕ)
+    → MatchOption gate (o.least ≡ 0) (λ h. (h < n) × (1 ≤ o.least)) → IsWithin (span_of (λ g. if opens g then Open else Closed) gate o) q → RunsAsDecided opens gate q
 runs_within opens n gate o q f w = grind arith
 
 -- a feasible activation of the prefix's word runs as the prefix decides

@@ -74,7 +74,8 @@ module _ (books : Books) (run : ℕ) (made : RunMarket) (also : Option (List Cen
   sound-tree none a found.BadTree e h is = absurd (cc is)
   sound-tree none a found.BadLeaf e h is = absurd (cc is)
 
-  pub faulty-ledger : NoneBelow first 9 → (a : Activation) (t : TreeFound) → a ≡ activation_of b.block → tree-found a t → fault_of t ≡ None → (HasLedger books made also b.block → ⊥) → IsLeast free fault.Ledger
+  pub faulty-ledger : NoneBelow first 9 → (a : Activation) (t : TreeFound) → a ≡ activation_of b.block → tree-found a t → fault_of t ≡ None → (HasLedger books made also b.block → ⊥)
+      → IsLeast free fault.Ledger
   faulty-ledger none a t e h is wrong = least-is free fault.Ledger (sound-tree none a t e h is) wrong
 
   pub all-free : NoneBelow first 9 → (a : Activation) (t : TreeFound) → a ≡ activation_of b.block → tree-found a t → fault_of t ≡ None → HasLedger books made also b.block → (any : Fault) → free any

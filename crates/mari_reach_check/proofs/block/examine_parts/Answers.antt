@@ -15,43 +15,58 @@ returns-in-Faulty c =
 
 pub examine_named-requires-clause-feasible : goal.examine_named-requires-clause-feasible
 examine_named-requires-clause-feasible c =
-    let before = before-is c.args.books.now c.args.run c.args.made.now None None c.args.block.now c.in_ok-fault.field-0 (Sound c.in-Sound.activation c.in-Sound.prices) c.in-Sound.is (c.in_ok-fault.ensures None None) in
+    let before = before-is c.args.books.now c.args.run c.args.made.now None None c.args.block.now c.in_ok-fault.field-0 (Sound c.in-Sound.activation c.in-Sound.prices) c.in-Sound.is
+    (c.in_ok-fault.ensures None None) in
     subst (IsFeasible c.args.made.now.market) (sym before.1) (before.0 fault.Infeasible (omega arith))
 
 pub returns-in-Some : goal.returns-in-Some
 returns-in-Some c =
-    let before = before-is c.args.books.now c.args.run c.args.made.now _ None c.args.block.now c.in_ok-fault.field-0 (Sound c.in-Sound.activation c.in-Sound.prices) c.in-Sound.is (c.in_ok-fault.ensures _ None) in
-    faulty-tree c.args.books.now c.args.run c.args.made.now _ c.args.budget (record { block = c.args.block.now; claim = c.args.claim; tree = c.args.tree }) before.0 c.in-Sound.activation c.in_ok-found.found c.in-Some.fault before.1 c.in_ok-found.ensures (sym c.fault.ensures ∙ c.in-Some.is)
+    let before = before-is c.args.books.now c.args.run c.args.made.now _ None c.args.block.now c.in_ok-fault.field-0 (Sound c.in-Sound.activation c.in-Sound.prices) c.in-Sound.is
+    (c.in_ok-fault.ensures _ None) in
+    faulty-tree c.args.books.now c.args.run c.args.made.now _ c.args.budget (record { block = c.args.block.now; claim = c.args.claim; tree = c.args.tree }) before.0 c.in-Sound.activation
+    c.in_ok-found.found c.in-Some.fault before.1 c.in_ok-found.ensures (sym c.fault.ensures ∙ c.in-Some.is)
 
 pub reported_ledger-requires-clause-activation : goal.reported_ledger-requires-clause-activation
 reported_ledger-requires-clause-activation c =
-    let before = before-is c.args.books.now c.args.run c.args.made.now None None c.args.block.now c.in_ok-fault.field-0 (Sound c.in-Sound.activation c.in-Sound.prices) c.in-Sound.is (c.in_ok-fault.ensures None None) in
+    let before = before-is c.args.books.now c.args.run c.args.made.now None None c.args.block.now c.in_ok-fault.field-0 (Sound c.in-Sound.activation c.in-Sound.prices) c.in-Sound.is
+    (c.in_ok-fault.ensures None None) in
     before.1
 
 pub reported_ledger-requires-clause-prices : goal.reported_ledger-requires-clause-prices
 reported_ledger-requires-clause-prices c =
-    let before = before-is c.args.books.now c.args.run c.args.made.now None None c.args.block.now c.in_ok-fault.field-0 (Sound c.in-Sound.activation c.in-Sound.prices) c.in-Sound.is (c.in_ok-fault.ensures None None) in
+    let before = before-is c.args.books.now c.args.run c.args.made.now None None c.args.block.now c.in_ok-fault.field-0 (Sound c.in-Sound.activation c.in-Sound.prices) c.in-Sound.is
+    (c.in_ok-fault.ensures None None) in
     before.2
 
 pub reported_ledger-requires-clause-feasible : goal.reported_ledger-requires-clause-feasible
 reported_ledger-requires-clause-feasible c =
-    let before = before-is c.args.books.now c.args.run c.args.made.now None None c.args.block.now c.in_ok-fault.field-0 (Sound c.in-Sound.activation c.in-Sound.prices) c.in-Sound.is (c.in_ok-fault.ensures None None) in
+    let before = before-is c.args.books.now c.args.run c.args.made.now None None c.args.block.now c.in_ok-fault.field-0 (Sound c.in-Sound.activation c.in-Sound.prices) c.in-Sound.is
+    (c.in_ok-fault.ensures None None) in
     subst (IsFeasible c.args.made.now.market) (sym before.1) (before.0 fault.Infeasible (omega arith))
 
 pub reported_ledger-requires-clause-consistent : goal.reported_ledger-requires-clause-consistent
 reported_ledger-requires-clause-consistent c =
-    let before = before-is c.args.books.now c.args.run c.args.made.now None None c.args.block.now c.in_ok-fault.field-0 (Sound c.in-Sound.activation c.in-Sound.prices) c.in-Sound.is (c.in_ok-fault.ensures None None) in
+    let before = before-is c.args.books.now c.args.run c.args.made.now None None c.args.block.now c.in_ok-fault.field-0 (Sound c.in-Sound.activation c.in-Sound.prices) c.in-Sound.is
+    (c.in_ok-fault.ensures None None) in
     let P : Activation → Type 0 = λ a. IsConsistent c.args.made.now.market a (prices_of c.args.block.now) in
     subst (IsConsistent c.args.made.now.market c.in-Sound.activation) (sym before.2) (subst P (sym before.1) (before.0 fault.Inconsistent (omega arith)))
 
 pub returns-in-Some-2 : goal.returns-in-Some-2
 returns-in-Some-2 c =
-    let before = before-is c.args.books.now c.args.run c.args.made.now _ None c.args.block.now c.in_ok-fault.field-0 (Sound c.in-Sound.activation c.in-Sound.prices) c.in-Sound.is (c.in_ok-fault.ensures _ None) in
-    let reported = reported-is c.args.books.now c.args.run c.args.made.now _ c.args.budget (record { block = c.args.block.now; claim = c.args.claim; tree = c.args.tree }) c.in-Sound.activation c.in-Sound.prices c.in_ok-ledger.field-0 (Some c.in-Some-2.ledger) c.in-Some-2.is c.in_ok-ledger.ensures in
-    (all-free c.args.books.now c.args.run c.args.made.now _ c.args.budget (record { block = c.args.block.now; claim = c.args.claim; tree = c.args.tree }) before.0 c.in-Sound.activation c.in_ok-found.found before.1 c.in_ok-found.ensures (sym c.fault.ensures ∙ c.in_default.is) reported.0, reported.1)
+    let before = before-is c.args.books.now c.args.run c.args.made.now _ None c.args.block.now c.in_ok-fault.field-0 (Sound c.in-Sound.activation c.in-Sound.prices) c.in-Sound.is
+    (c.in_ok-fault.ensures _ None) in
+    let reported = reported-is c.args.books.now c.args.run c.args.made.now _ c.args.budget (record { block = c.args.block.now; claim = c.args.claim; tree = c.args.tree }) c.in-Sound.activation
+    c.in-Sound.prices c.in_ok-ledger.field-0 (Some c.in-Some-2.ledger) c.in-Some-2.is c.in_ok-ledger.ensures in (
+      all-free c.args.books.now c.args.run c.args.made.now _ c.args.budget (record { block = c.args.block.now; claim = c.args.claim; tree = c.args.tree }) before.0 c.in-Sound.activation
+          c.in_ok-found.found before.1 c.in_ok-found.ensures (sym c.fault.ensures ∙ c.in_default.is) reported.0,
+      reported.1,
+    )
 
 pub returns-in-None : goal.returns-in-None
 returns-in-None c =
-    let before = before-is c.args.books.now c.args.run c.args.made.now _ None c.args.block.now c.in_ok-fault.field-0 (Sound c.in-Sound.activation c.in-Sound.prices) c.in-Sound.is (c.in_ok-fault.ensures _ None) in
-    let unreported = reported-is c.args.books.now c.args.run c.args.made.now _ c.args.budget (record { block = c.args.block.now; claim = c.args.claim; tree = c.args.tree }) c.in-Sound.activation c.in-Sound.prices c.in_ok-ledger.field-0 None c.in-None.is c.in_ok-ledger.ensures in
-    faulty-ledger c.args.books.now c.args.run c.args.made.now _ c.args.budget (record { block = c.args.block.now; claim = c.args.claim; tree = c.args.tree }) before.0 c.in-Sound.activation c.in_ok-found.found before.1 c.in_ok-found.ensures (sym c.fault.ensures ∙ c.in_default.is) unreported
+    let before = before-is c.args.books.now c.args.run c.args.made.now _ None c.args.block.now c.in_ok-fault.field-0 (Sound c.in-Sound.activation c.in-Sound.prices) c.in-Sound.is
+    (c.in_ok-fault.ensures _ None) in
+    let unreported = reported-is c.args.books.now c.args.run c.args.made.now _ c.args.budget
+    (record { block = c.args.block.now; claim = c.args.claim; tree = c.args.tree }) c.in-Sound.activation c.in-Sound.prices c.in_ok-ledger.field-0 None c.in-None.is c.in_ok-ledger.ensures in
+    faulty-ledger c.args.books.now c.args.run c.args.made.now _ c.args.budget (record { block = c.args.block.now; claim = c.args.claim; tree = c.args.tree }) before.0 c.in-Sound.activation
+    c.in_ok-found.found before.1 c.in_ok-found.ensures (sym c.fault.ensures ∙ c.in_default.is) unreported

@@ -31,7 +31,7 @@ returns-in-Ok-read_text_parts-clause-whole g c = λ reported page p e is whole.
 pub returns-clause-reported : goal.returns-clause-reported
 returns-clause-reported g c = λ reported e.
     rw c.fault_of.ensures (fault-states (λ parts. KeepsVerdict c.args.books.now parts c.read_text_parts.new.so_far) (λ parts x stop. ⊤)
-        (page_of reported c.args.name.now) c.in-Err-read_text_parts.stop (c.in-Err-read_text_parts.ensures.reported reported e))
+    (page_of reported c.args.name.now) c.in-Err-read_text_parts.stop (c.in-Err-read_text_parts.ensures.reported reported e))
 
 pub returns-clause-stops : goal.returns-clause-stops
 returns-clause-stops g c = λ reported page e is.
@@ -43,4 +43,4 @@ returns-clause-whole g c = λ reported page p e is whole.
     let answers = c.texts_have_one_answer.ensures in
     let laws : Laws = record { day = texts.publication; whole = texts.whole; same = answers.parts; reported = answers.reported } in
     rw c.fault_of.ensures (says-fault laws c.args.books.now c.read_text_parts.new.so_far (λ parts x stop. ⊤) (page_of reported c.args.name.now)
-        c.in-Err-read_text_parts.stop (c.in-Err-read_text_parts.ensures.reported reported e) page p is whole)
+    c.in-Err-read_text_parts.stop (c.in-Err-read_text_parts.ensures.reported reported e) page p is whole)

@@ -19,7 +19,9 @@ returns-in-Some c =
     let gated : c.as_slice-2.result.now ≡ gated_of c.args.books.now c.args.made.now = grind (arith) in
     let P : List ℕ → Type 0 = λ numbers. IsNumbered c.args.books.now numbers c.args.named c.in-Some.tree in
     let told : IsNumbered c.args.books.now c.as_slice-2.result.now c.args.named c.in-Some.tree = search rules in
-    let found : IfOk c.examine_tree.result (FindsTree c.args.made.now.market (cutoff_of c.args.welfare c.args.claim) (word_claimed c.args.made.now.market c.args.activation.now c.args.claim) c.args.budget c.in-Some.tree) = search rules in
+    let found : IfOk c.examine_tree.result (FindsTree c.args.made.now.market (cutoff_of c.args.welfare c.args.claim)
+    (word_claimed c.args.made.now.market c.args.activation.now c.args.claim) c.args.budget c.in-Some.tree) = search rules in
     IfOk-weaker c.examine_tree.result _ _
-    (named-as c.args.books.now c.args.made.now (cutoff_of c.args.welfare c.args.claim) (word_claimed c.args.made.now.market c.args.activation.now c.args.claim) c.args.budget c.args.named c.in-Some.tree (subst P gated told))
+    (named-as c.args.books.now c.args.made.now (cutoff_of c.args.welfare c.args.claim)
+    (word_claimed c.args.made.now.market c.args.activation.now c.args.claim) c.args.budget c.args.named c.in-Some.tree (subst P gated told))
     found

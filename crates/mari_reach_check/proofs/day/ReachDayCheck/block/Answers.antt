@@ -25,7 +25,15 @@ add-requires-clause-next c =
 pub overflow_add-self : goal.overflow_add-self
 overflow_add-self c =
     let s = c.requires.stands in
-    omega (arith, s.1.counted, first_few s.0, as_many c.args.books.now c.requires.accepted s.0 c.args.self.now s.1, few_runs c.args.books.now c.requires.accepted s.0 c.args.self.now s.1, c.count_of-count.ensures, at_most c.args.block.claim)
+    omega (
+      arith,
+      s.1.counted,
+      first_few s.0,
+      as_many c.args.books.now c.requires.accepted s.0 c.args.self.now s.1,
+      few_runs c.args.books.now c.requires.accepted s.0 c.args.self.now s.1,
+      c.count_of-count.ensures,
+      at_most c.args.block.claim,
+    )
 
 pub returns-in-Faulty-clause-finds : goal.returns-in-Faulty-clause-finds
 returns-in-Faulty-clause-finds c = λ blocks checked.

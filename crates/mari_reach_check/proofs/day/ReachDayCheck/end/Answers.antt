@@ -19,7 +19,13 @@ returns-then-self-run_count c = λ blocks checked. (
 
 pub returns-then-not-has_totals : goal.returns-then-not-has_totals
 returns-then-not-has_totals c = λ blocks checked. (
-  omega (arith, c.if-self-run_count.false, c.run_count.ensures, as_many c.args.books.now c.requires.accepted blocks c.args.self.now checked, few_blocks c.args.books.now c.requires.accepted blocks c.args.self.now checked),
+  omega (
+    arith,
+    c.if-self-run_count.false,
+    c.run_count.ensures,
+    as_many c.args.books.now c.requires.accepted blocks c.args.self.now checked,
+    few_blocks c.args.books.now c.requires.accepted blocks c.args.self.now checked,
+  ),
   λ sums.
       let p : Publication = (record { date = []; quarters = 0; budget = 0; blocks = all_printed blocks; operators = c.args.operators.now; providers = c.args.providers.now }) in
       both_ways c.has_totals.result c.if-not-has_totals.true ((c.has_totals.ensures p checked.progress.totals refl refl).1 (record { operators = sums.operators_are; providers = sums.providers_are })),
@@ -32,7 +38,13 @@ pub returns : goal.returns
 returns c = λ blocks checked.
     let p : Publication = (record { date = []; quarters = 0; budget = 0; blocks = all_printed blocks; operators = c.args.operators.now; providers = c.args.providers.now }) in
     let totals = (c.has_totals.ensures p checked.progress.totals refl refl).0 c.if-not-has_totals.false in (
-      omega (arith, c.if-self-run_count.false, c.run_count.ensures, as_many c.args.books.now c.requires.accepted blocks c.args.self.now checked, few_blocks c.args.books.now c.requires.accepted blocks c.args.self.now checked),
+      omega (
+        arith,
+        c.if-self-run_count.false,
+        c.run_count.ensures,
+        as_many c.args.books.now c.requires.accepted blocks c.args.self.now checked,
+        few_blocks c.args.books.now c.requires.accepted blocks c.args.self.now checked,
+      ),
       record { operators_are = totals.operators; providers_are = totals.providers },
       checked.counted,
       omega (arith, checked.counted, first_few blocks, as_many c.args.books.now c.requires.accepted blocks c.args.self.now checked),

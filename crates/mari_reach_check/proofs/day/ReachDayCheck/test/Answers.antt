@@ -11,7 +11,8 @@ market_of-requires-clause-after c = let s = c.requires.stands in (all_printed s.
 pub examine_block-requires-clause-also : goal.examine_block-requires-clause-also
 examine_block-requires-clause-also c =
     let s = c.requires.stands in
-    priced-after c.args.books.now (all_printed s.0) c.in_ok-made.made (c.in_ok-made.ensures.market (all_printed s.0) s.1.progress s.2) _ c.also-also.result (c.also-also.ensures.prices (all_printed s.0) s.1.progress)
+    priced-after c.args.books.now (all_printed s.0) c.in_ok-made.made (c.in_ok-made.ensures.market (all_printed s.0) s.1.progress s.2) _ c.also-also.result
+    (c.also-also.ensures.prices (all_printed s.0) s.1.progress)
 
 pub returns-in-Faulty : goal.returns-in-Faulty
 returns-in-Faulty c = λ blocks checked is.
@@ -26,7 +27,8 @@ returns-in-Sound c = λ blocks checked is.
     let books = c.args.books.now in
     let made = c.in_ok-made.ensures.market (all_printed blocks) checked.progress is in
     let also = c.also-also.ensures.after (all_printed blocks) checked.progress is in
-    let found = examined-as books c.args.run c.in_ok-made.made _ c.args.self.now.budget c.args.block c.in_ok-fault.field-0 (examined.Sound c.in-Sound.activation c.in-Sound.prices c.in-Sound.ledger) c.in-Sound.is c.in_ok-fault.ensures in (
+    let found = examined-as books c.args.run c.in_ok-made.made _ c.args.self.now.budget c.args.block c.in_ok-fault.field-0
+    (examined.Sound c.in-Sound.activation c.in-Sound.prices c.in-Sound.ledger) c.in-Sound.is c.in_ok-fault.ensures in (
       all-after books c.args.self.now.budget blocks c.args.run is c.requires.last c.in_ok-made.made made _ also c.args.block found.0,
       settled-after books (all_printed blocks) c.in_ok-made.made made _ also c.args.block.block _ found.1,
     )

@@ -114,7 +114,7 @@ module _ (books : Books) (budget : ℕ) (blocks : List NamedBlock) (run : ℕ) (
   all-after h any = free-after any (h any)
 
 module _ (books : Books) (budget : ℕ) (blocks : List NamedBlock) (b : NamedBlock) where
-  sound-run : ((any : Fault) → IsReachFreeIn books budget blocks b any) → IsSoundRun books (all_printed blocks) b.block
+  pub sound-run : ((any : Fault) → IsReachFreeIn books budget blocks b any) → IsSoundRun books (all_printed blocks) b.block
   sound-run free = record {
     heading = (free fault.Heading).1;
     names = (free fault.Lines).1;

@@ -1,11 +1,14 @@
-//! What a block shows that has none of the faults, and that a valid day has one verdict.
+//! What a block shows that has none of the faults, what a valid day keeps, whoever printed it, and that it has one verdict.
 
-ghost use Rattle.std.specs.Prelude.{◌≡◌, ℕ, List, Option};
+ghost use Rattle.std.specs.Prelude.{◌≡◌, ℕ, List, Option, Some, pos, slice_get, take};
 ghost use Rattle.mari_units.specs.declared.numbers.Cents.{Cents as TheCents};
 ghost use Rattle.mari_check.specs.Markets.{IsMadeFor};
 ghost use Rattle.mari_check.specs.declared.fault.Fault.{Fault as TheFault};
 ghost use Rattle.mari_remain.specs.Accepted.{IsAccepted};
 ghost use Rattle.mari_remain.specs.declared.market.RunMarket.{RunMarket as TheRunMarket};
+ghost use Rattle.mari_progress.specs.After.{also_after, market_after};
+ghost use Rattle.mari_progress.specs.Keeps.{KeepsOffers, net_sum};
+ghost use Rattle.mari_reach_check.specs.Day.{all_printed};
 ghost use Rattle.mari_reach_check.specs.Faults.{IsReachFreeOf};
 ghost use Rattle.mari_reach_check.specs.Shown.{ShowsReach};
 ghost use Rattle.mari_remain.specs.declared.books.Books.{Books as TheBooks};
@@ -27,6 +30,21 @@ pub fn free_blocks_show(books: &Books)
     requires { IsAccepted books.now }
     ensures { (run : ℕ) (made : TheRunMarket) (also : Option (List TheCents)) (budget : ℕ) (b : TheBlock) → IsMadeFor books.now run made
         → ((any : TheFault) → IsReachFreeOf books.now run made also budget b any) → ShowsReach books.now made also b }
+{
+    let _books = books;
+}
+
+/// Over the blocks of a valid day no bid runs above its offer, and a gated one in at most one block; and each block shows
+/// its run, after the blocks before it: so its operators' nets sum to 0, and no rent is negative. The nets of the totals
+/// sum to 0 too.
+///
+/// The call does nothing: its contract is the law.
+pub fn valid_days_keep(books: &Books)
+    requires { IsAccepted books.now }
+    ensures offers { (p : ThePublication) → IsReachValid books.now p → KeepsOffers books.now (all_printed p.blocks) }
+    ensures blocks { (p : ThePublication) → IsReachValid books.now p → (k : ℕ) (b : TheBlock) → slice_get p.blocks k ≡ Some b
+        → ShowsReach books.now (market_after books.now (all_printed (take k p.blocks))) (also_after books.now (all_printed (take k p.blocks))) b }
+    ensures totals { (p : ThePublication) → IsReachValid books.now p → net_sum p.operators ≡ pos 0 }
 {
     let _books = books;
 }

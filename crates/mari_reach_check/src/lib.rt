@@ -15,6 +15,6 @@ mod verdict;
 
 pub use block::examine_block;
 pub use day::{Ending, ReachDayCheck};
-pub use laws::{free_blocks_show, valid_days_pass};
+pub use laws::{free_blocks_show, valid_days_keep, valid_days_pass};
 pub use stream::check_reach_stream;
 pub use verdict::ReachVerdict;

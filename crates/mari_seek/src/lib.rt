@@ -9,6 +9,7 @@ mod choosing;
 mod diving;
 mod gains;
 mod lists;
+mod nearby;
 mod nodes;
 mod places;
 mod pricing;

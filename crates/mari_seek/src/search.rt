@@ -44,6 +44,10 @@ pub(crate) struct Search {
     /// Its gate word, the first of those that were found.
     pub(crate) word: Prefix,
     waiting: BinaryHeap<Turn>,
+    /// What is decided at the first node.
+    decided: Vec<Decision>,
+    /// How many nodes were visited.
+    turn: u32,
     /// Whether the solver gave up somewhere.
     stuck: bool,
 }
@@ -110,10 +114,39 @@ impl Search {
             best: first.value,
             word,
             waiting: BinaryHeap::new(alloc),
+            decided: Vec::new(alloc),
+            turn: 0,
             stuck: false,
         };
         search.add(alloc, market, 0, &none, &start)?;
         Ok(Some(search))
+    }
+
+    /// A search below these decisions, from the best activation of this one.
+    pub(crate) fn part(
+        &self,
+        alloc: Global,
+        market: &Market,
+        decided: Vec<Decision>,
+    ) -> Result<Search, AllocError>
+        requires { IsValid market.now }
+    {
+        let places = Places::of(alloc, market)?;
+        let root = self.root.clone()?;
+        let decisions = Vec::from_slice(alloc, &decided)?;
+        let mut search = Search {
+            places,
+            root,
+            nodes: Vec::new(alloc),
+            best: self.best,
+            word: self.word,
+            waiting: BinaryHeap::new(alloc),
+            decided,
+            turn: 0,
+            stuck: false,
+        };
+        search.add(alloc, market, 0, &decisions, &self.root)?;
+        Ok(search)
     }
 
     /// The gates that run in an optimum.
@@ -165,8 +198,11 @@ impl Search {
             decisions.push(decision)?;
             number = node.parent;
         }
-        decisions.reverse();
-        Ok(decisions)
+        let mut all = Vec::from_slice(alloc, &self.decided)?;
+        for decision in decisions.iter().rev() {
+            all.push(*decision)?;
+        }
+        Ok(all)
     }
 
     /// Whether a bound that is the best welfare holds for the best word.
@@ -341,23 +377,19 @@ impl Search {
     }
 
     /// Whether a bound is far above the best welfare.
-    fn is_far(&self, bound: i64) -> bool {
+    pub(crate) fn is_far(&self, bound: i64) -> bool {
         bound.saturating_sub(self.best) > self.best / FAR
     }
 
     /// Visits a node. It says whether the search can go on.
-    fn visit(
-        &mut self,
-        alloc: Global,
-        market: &Market,
-        number: u32,
-        turn: u32,
-    ) -> Result<bool, AllocError>
+    fn visit(&mut self, alloc: Global, market: &Market, number: u32) -> Result<bool, AllocError>
         requires { IsValid market.now }
     {
         let Some(visit) = self.visit_of(alloc, market, number)? else {
             return Ok(false);
         };
+        let turn = self.turn;
+        self.turn = turn.saturating_add(1);
         if turn < TURNS_ROUNDED || turn % ROUNDED_EACH == 0 {
             self.round(alloc, market, &visit)?;
         }
@@ -374,7 +406,7 @@ impl Search {
         Ok(!self.stuck)
     }
 
-    /// Visits nodes until none waits or the budget of nodes is spent.
+    /// Visits nodes until none waits or the budget of nodes is spent. It may go on from there with a greater one.
     pub(crate) fn run(
         &mut self,
         alloc: Global,
@@ -383,7 +415,6 @@ impl Search {
     ) -> Result<Stop, AllocError>
         requires { IsValid market.now }
     {
-        let mut turn = 0u32;
         for _ in 0..u64::MAX {
             let Some(next) = self.waiting.pop() else {
                 return Ok(Stop::Done);
@@ -393,12 +424,12 @@ impl Search {
                 continue;
             }
             if self.nodes.len().saturating_add(2) > budget as usize {
+                self.waiting.push(next)?;
                 return Ok(Stop::Left);
             }
-            if !self.visit(alloc, market, number, turn)? {
+            if !self.visit(alloc, market, number)? {
                 return Ok(Stop::Left);
             }
-            turn = turn.saturating_add(1);
         }
         Ok(Stop::Left)
     }

@@ -46,6 +46,24 @@ fn nothing(alloc: Global, market: &Market) -> Sought
     }
 }
 
+/// After so many nodes the search goes on near the best activation, where a bound is far above it.
+const NODES_ALONE: u32 = 1024;
+
+/// Visits nodes within a budget, and in between searches near the best activation.
+fn run(alloc: Global, market: &Market, search: &mut Search, budget: u32) -> Result<Stop, Memory>
+    requires { IsValid market.now }
+{
+    if budget > NODES_ALONE {
+        if let Stop::Done = search.run(alloc, market, NODES_ALONE)? {
+            return Ok(Stop::Done);
+        }
+        if search.is_far(search.top()) {
+            search.search_nearby(alloc, market, budget)?;
+        }
+    }
+    Ok(search.run(alloc, market, budget)?)
+}
+
 /// Searches a market within a budget of nodes, for the first activation or for one that is as good as may be.
 pub fn seek(alloc: Global, market: &Market, budget: u32) -> Result<Sought, Memory>
     requires { IsValid market.now }
@@ -53,7 +71,7 @@ pub fn seek(alloc: Global, market: &Market, budget: u32) -> Result<Sought, Memor
     let Some(mut search) = Search::start(alloc, market)? else {
         return Ok(nothing(alloc, market));
     };
-    let (end, cutoff) = match search.run(alloc, market, budget)? {
+    let (end, cutoff) = match run(alloc, market, &mut search, budget)? {
         Stop::Done => (SearchEnd::Whole, Cutoff::Best),
         Stop::Left => {
             let top = search.top();

@@ -5,13 +5,12 @@ usage: python3 bench/leaves.py [MARI] [REACH]
 
 MARI and REACH are the built programs, by default the shipped ones. Of the first form it counts what `mari check` tests the
 tree with: the walk through it, and the table of the market by which it reads dual values. Of the second form it counts the
-test that `reach clear` does of each tree before it prints it (`mari_reach::trees::check_tree`). What these take, with all
-that they call, is divided by the leaves of the printed tree. A count is the same for the same program and folder, whatever
-else the machine does. It is no test: nothing fails where a count is high.
+test that `reach clear` does of each tree before it prints it (`mari_reach::trees::check_tree`), which makes its tables too.
+A count is the same for the same program and folder, whatever else the machine does. It is no test: nothing fails where a
+count is high.
 
-Where both forms publish a market of many gates, the tree of the second form has a few leaves, and its test is mostly what
-is done once for a market. So each row takes two markets of one size, as many zones, borders, bids and gates: one that the
-first form publishes, and one where the second form's tree is large. Of 40 gates they are the same.
+Both forms publish each market, with a tree of some hundred leaves or more. The ratio is what the second form's test takes,
+to what the first form's takes on as many leaves: its table once, and its walk for each of them.
 """
 
 import argparse
@@ -24,12 +23,14 @@ import field
 import folders
 
 LEAVES = ("none", "bound", "cut", "conflict")
-LARGE = field.GATED_30 | {"bids": 4096, "gates": 230}
-# for each row the market of the first form, and that of the second
+LARGE = field.GATED_30
 SHAPES = {
-    "30 zones, 40 gates": 2 * (field.GATED_30 | {"gates": 40, "seed": 5},),
-    "30 zones, 100 gates": (field.GATED_30 | {"gates": 100, "load": 20, "seed": 1}, field.GATED_30 | {"gates": 100, "seed": 5}),
-    "30 zones, 230 gates": (LARGE | {"size": 1, "load": -10, "seed": 6}, LARGE | {"seed": 8}),
+    "300 bids, 80 gates": field.GATED_30 | {"bids": 300, "gates": 80, "load": 30, "seed": 65},
+    "600 bids, 80 gates": field.GATED_30 | {"bids": 600, "gates": 80, "size": 10, "load": 0, "seed": 377},
+    "1,000 bids, 120 gates": field.GATED_30 | {"bids": 1000, "gates": 120, "size": 10, "seed": 255},
+    "2,000 bids, 40 gates": field.GATED_30 | {"gates": 40, "seed": 5},
+    "2,000 bids, 80 gates": field.GATED_30 | {"gates": 80, "seed": 592},
+    "2,000 bids, 100 gates": field.GATED_30 | {"gates": 100, "load": 0, "seed": 628},
 }
 
 
@@ -39,12 +40,13 @@ def leaves_of(text):
 
 
 def first(counter, folder):
-    """The leaves of the first form, and what their test takes."""
+    """The leaves of the first form, what the walk through them takes, and the table before."""
     _, text, _ = counter.clear(folder)
     with open(os.path.join(folder, "publication.txt"), "w", encoding="ascii") as out:
         out.write(text)
     _, _, profile = counter.count([counter.mari, "check", folder])
-    return leaves_of(text), sum(counter.of_function(profile, name)[0] for name in ("mari_proofs::trees::walk", "mari_proofs::table::DualTable::of"))
+    walk, table = (counter.of_function(profile, f"mari_proofs::{name}")[0] for name in ("trees::walk", "table::DualTable::of"))
+    return leaves_of(text), walk, table
 
 
 def second(counter, reach, folder):
@@ -54,12 +56,13 @@ def second(counter, reach, folder):
 
 
 def table(counter, reach):
-    print(field.header("the test of a tree", "bids", "leaves of the first form", "instructions a leaf", "leaves of the second form", "instructions a leaf", "ratio"))
-    for name, (one, other) in SHAPES.items():
-        leaves, spent = first(counter, counter.folder(folders.market(**one)))
-        more, taken = second(counter, reach, counter.folder(folders.market(**other)))
-        ratio = taken / more / (spent / leaves)
-        print(field.row(name, f"{one['bids']:,}", leaves, f"{spent / leaves:,.0f}", more, f"{taken / more:,.0f}", f"{ratio:.2f}"), flush=True)
+    print(field.header("the test of a tree, 30 zones", "leaves of the first form", "instructions of a leaf", "of its table", "leaves of the second form", "instructions a leaf", "ratio"))
+    for name, shape in SHAPES.items():
+        folder = counter.folder(folders.market(**shape))
+        leaves, walk, made = first(counter, folder)
+        more, taken = second(counter, reach, folder)
+        ratio = taken / (made + walk / leaves * more)
+        print(field.row(name, f"{leaves:,}", f"{walk / leaves:,.0f}", f"{made:,}", more, f"{taken / more:,.0f}", f"{ratio:.2f}"), flush=True)
 
 
 def main():

@@ -49,7 +49,8 @@ level_says Withdraw c p low high =
     (λ l. is_not_less (withdraw_above p low high) c l ∙ sym (neither (lt_z high c) c (int_max p low) (is_not_less high c (omega (arith, ints, clamps, l))) (omega (arith, ints, clamps, l))))
 
 -- what a plain order gains at most by levels
-pub best_by_levels : (r : State) (ps : List Cents) (levels : Levels) (o : Order) (p x gap : ℤ) (mw : ℕ) → HasLevels r ps levels → o.zone < length ps → o.gate ≡ None → p ≡ price_at ps o.zone → gap ≡ gain_per_mw o.side o.price.0 p
+pub best_by_levels : (r : State) (ps : List Cents) (levels : Levels) (o : Order) (p x gap : ℤ) (mw : ℕ) → HasLevels r ps levels → o.zone < length ps → o.gate ≡ None
+    → p ≡ price_at ps o.zone → gap ≡ gain_per_mw o.side o.price.0 p
     → mw ≡ (if runs_at o.side o.price.0 (int_at levels.injects o.zone) (int_at levels.withdraws o.zone) then o.greatest else 0)
     → x ≡ gap *ℤ pos mw → x ≡ best_order (span_in r) ps o
 best_by_levels r ps levels o p x gap mw h there plain e g test k =
@@ -104,7 +105,8 @@ no_gate : (gate : Option ℕ) → not (is_some gate) ≡ true → gate ≡ None
 no_gate None e = refl
 no_gate (Some g) e = absurd (cc)
 
-kept_plain : (o : Order) (os : List Order) (b : Bool) → is_plain o ≡ b → All (λ (x : Order). x.gate ≡ None) (filter is_plain os) → All (λ (x : Order). x.gate ≡ None) (if b then o ∷ filter is_plain os else filter is_plain os)
+kept_plain : (o : Order) (os : List Order) (b : Bool) → is_plain o ≡ b → All (λ (x : Order). x.gate ≡ None) (filter is_plain os)
+    → All (λ (x : Order). x.gate ≡ None) (if b then o ∷ filter is_plain os else filter is_plain os)
 kept_plain o os true e more = All-cons (λ (x : Order). x.gate ≡ None) o (filter is_plain os) (no_gate o.gate e) more
 kept_plain o os false e more = more
 
@@ -138,14 +140,16 @@ valid_widest m v =
     (λ o h. record { zone = omega (arith, h.zone, v.zones.1); price = h.price; in_order = h.in_order; small = h.small; gate = h.gate }) m.orders (valid_wide m m.zones refl v)
 
 -- three numbers that are small enough are summed without a loss
-pub sum_of_three : (p g b orders borders : ℤ) → neg_ℤ (pos (4 * (MOST_WORTH * MOST_ORDERS) * 64)) ≤ℤ p → p ≤ℤ pos (4 * (MOST_WORTH * MOST_ORDERS) * 64) → neg_ℤ (pos (MOST_ORDERS * MOST_WORTH)) ≤ℤ g → g ≤ℤ pos (MOST_ORDERS * MOST_WORTH)
+pub sum_of_three : (p g b orders borders : ℤ) → neg_ℤ (pos (4 * (MOST_WORTH * MOST_ORDERS) * 64)) ≤ℤ p → p ≤ℤ pos (4 * (MOST_WORTH * MOST_ORDERS) * 64)
+    → neg_ℤ (pos (MOST_ORDERS * MOST_WORTH)) ≤ℤ g → g ≤ℤ pos (MOST_ORDERS * MOST_WORTH)
     → neg_ℤ (pos (MOST_BORDERS * MOST_WORTH)) ≤ℤ b → b ≤ℤ pos (MOST_BORDERS * MOST_WORTH) → p +ℤ g ≡ orders → b ≡ borders
     → to_z w64 (of_z w64 (to_z w64 (of_z w64 (to_z w64 (of_z w64 p) +ℤ to_z w64 (of_z w64 g))) +ℤ to_z w64 (of_z w64 b))) ≡ orders +ℤ borders
 sum_of_three p g b orders borders pl ph gl gh bl bh e k =
     let one = to_z-of_z w64 p (fits_signed_from_abs w64 p (omega (arith, ints, pl, ph))) in
     let two = to_z-of_z w64 g (fits_signed_from_abs w64 g (omega (arith, ints, gl, gh))) in
     let three = to_z-of_z w64 b (fits_signed_from_abs w64 b (omega (arith, ints, bl, bh))) in
-    let first = to_z-of_z w64 (to_z w64 (of_z w64 p) +ℤ to_z w64 (of_z w64 g)) (fits_signed_from_abs w64 (to_z w64 (of_z w64 p) +ℤ to_z w64 (of_z w64 g)) (omega (arith, ints, one, two, pl, ph, gl, gh))) in
+    let first = to_z-of_z w64 (to_z w64 (of_z w64 p) +ℤ to_z w64 (of_z w64 g))
+    (fits_signed_from_abs w64 (to_z w64 (of_z w64 p) +ℤ to_z w64 (of_z w64 g)) (omega (arith, ints, one, two, pl, ph, gl, gh))) in
     let whole = to_z w64 (of_z w64 (to_z w64 (of_z w64 p) +ℤ to_z w64 (of_z w64 g))) +ℤ to_z w64 (of_z w64 b) in
     let last = to_z-of_z w64 whole (fits_signed_from_abs w64 whole (omega (arith, ints, one, two, three, first, pl, ph, gl, gh, bl, bh))) in
     omega (arith, ints, one, two, three, first, last, e, k)
@@ -161,7 +165,8 @@ below_is p low high least best pe le he ne be bound cap e k =
     let next = to_z-of_z w64 (stored least +ℤ pos 1) (fits_signed_from_abs w64 (stored least +ℤ pos 1) (omega (arith, ints, clamps, pe, he, ne, bound, cap, e))) in
     omega (arith, ints, clamps, pe, le, he, ne, be, next, e, k)
 
-pub above_is : (p low high greatest best : ℤ) → stored p ≡ p → stored low ≡ low → stored high ≡ high → stored greatest ≡ greatest → stored best ≡ best → greatest ≤ℤ pos 9223372036854775807 → neg_ℤ CAP ≤ℤ p
+pub above_is : (p low high greatest best : ℤ) → stored p ≡ p → stored low ≡ low → stored high ≡ high → stored greatest ≡ greatest → stored best ≡ best
+    → greatest ≤ℤ pos 9223372036854775807 → neg_ℤ CAP ≤ℤ p
     → greatest ≡ int_max (stored p) (stored low) → best ≡ int_min (stored high) (stored (stored greatest -ℤ pos 1)) → stored best ≡ withdraw_above p low high
 above_is p low high greatest best pe le he ne be bound cap e k =
     let next = to_z-of_z w64 (stored greatest -ℤ pos 1) (fits_signed_from_abs w64 (stored greatest -ℤ pos 1) (omega (arith, ints, clamps, pe, le, ne, bound, cap, e))) in

@@ -99,7 +99,8 @@ some_is : (g k : ℕ) → Some k ≡ Some g → k ≡ g
 some_is g k e = cc
 
 -- what an order of an open gate, and of a closed one, runs
-from_open : (own : ℕ → Bool) (gate : Option ℕ) (h : ℕ) (o : Order) (q : ℕ) → gate ≡ Some h → own h ≡ true → IsWithin (span_of (λ k. if own k then Open else Closed) gate o) q → (o.least ≤ q) × (q ≤ o.greatest)
+from_open : (own : ℕ → Bool) (gate : Option ℕ) (h : ℕ) (o : Order) (q : ℕ) → gate ≡ Some h → own h ≡ true → IsWithin (span_of (λ k. if own k then Open else Closed) gate o) q
+    → (o.least ≤ q) × (q ≤ o.greatest)
 from_open own None h o q e f w = absurd (cc)
 from_open own (Some k) h o q e f w =
     let x : IsWithin (gated_span Open o) q = subst (λ (b : Bool). IsWithin (gated_span (if b then Open else Closed) o) q) (ap own (some_is h k e) ∙ f) w in
@@ -111,7 +112,8 @@ from_closed own (Some k) h o q e f w =
     let x : IsWithin (gated_span Closed o) q = subst (λ (b : Bool). IsWithin (gated_span (if b then Open else Closed) o) q) (ap own (some_is h k e) ∙ f) w in
     x.most
 
-to_open : (new : ℕ → Bool) (gate : Option ℕ) (g : ℕ) (o : Order) (q : ℕ) → gate ≡ Some g → new g ≡ true → o.least ≤ q → q ≤ o.greatest → IsWithin (span_of (λ k. if new k then Open else Closed) gate o) q
+to_open : (new : ℕ → Bool) (gate : Option ℕ) (g : ℕ) (o : Order) (q : ℕ) → gate ≡ Some g → new g ≡ true → o.least ≤ q → q ≤ o.greatest
+    → IsWithin (span_of (λ k. if new k then Open else Closed) gate o) q
 to_open new None g o q e f l s = absurd (cc)
 to_open new (Some k) g o q e f l s = subst (λ (b : Bool). IsWithin (gated_span (if b then Open else Closed) o) q) (sym (ap new (some_is g k e) ∙ f)) (record { least = l; most = s })
 
@@ -119,11 +121,13 @@ to_closed : (new : ℕ → Bool) (gate : Option ℕ) (h : ℕ) (o : Order) → g
 to_closed new None h o e f = absurd (cc)
 to_closed new (Some k) h o e f = subst (λ (b : Bool). IsWithin (gated_span (if b then Open else Closed) o) 0) (sym (ap new (some_is h k e) ∙ f)) (record { least = omega arith; most = omega arith })
 
-trade_from_open : (own : ℕ → Bool) (gate : Option ℕ) (h : ℕ) (side : Side) (c p : ℤ) (most q : ℕ) → gate ≡ Some h → own h ≡ true → IsConsistentTrade (standing_of own gate) side c most q p → IsConsistentTrade InOpen side c most q p
+trade_from_open : (own : ℕ → Bool) (gate : Option ℕ) (h : ℕ) (side : Side) (c p : ℤ) (most q : ℕ) → gate ≡ Some h → own h ≡ true
+    → IsConsistentTrade (standing_of own gate) side c most q p → IsConsistentTrade InOpen side c most q p
 trade_from_open own None h side c p most q e f t = absurd (cc)
 trade_from_open own (Some k) h side c p most q e f t = subst (λ (b : Bool). IsConsistentTrade (if b then InOpen else InClosed) side c most q p) (ap own (some_is h k e) ∙ f) t
 
-trade_to_open : (new : ℕ → Bool) (gate : Option ℕ) (g : ℕ) (side : Side) (c p : ℤ) (most q : ℕ) → gate ≡ Some g → new g ≡ true → IsConsistentTrade InOpen side c most q p → IsConsistentTrade (standing_of new gate) side c most q p
+trade_to_open : (new : ℕ → Bool) (gate : Option ℕ) (g : ℕ) (side : Side) (c p : ℤ) (most q : ℕ) → gate ≡ Some g → new g ≡ true → IsConsistentTrade InOpen side c most q p
+    → IsConsistentTrade (standing_of new gate) side c most q p
 trade_to_open new None g side c p most q e f t = absurd (cc)
 trade_to_open new (Some k) g side c p most q e f t = subst (λ (b : Bool). IsConsistentTrade (if b then InOpen else InClosed) side c most q p) (sym (ap new (some_is g k e) ∙ f)) t
 
@@ -145,7 +149,8 @@ as_good Inject c d g h r = elim r [ inl b ↦ omega (arith, ints, b) | inr e ↦
 as_good Withdraw c d g h r = elim r [ inl b ↦ omega (arith, ints, b) | inr e ↦ let same = e.0 in omega (arith, ints, same) ]
 
 -- what runs at a price, runs so at a price that is as good
-trade_moves : (side : Side) (c d p : ℤ) (most other q : ℕ) → IsAsGood side c d → (q < most → (q < other) × (c ≡ d)) → IsConsistentTrade InOpen side d other q p → IsConsistentTrade InOpen side c most q p
+trade_moves : (side : Side) (c d p : ℤ) (most other q : ℕ) → IsAsGood side c d → (q < most → (q < other) × (c ≡ d)) → IsConsistentTrade InOpen side d other q p
+    → IsConsistentTrade InOpen side c most q p
 trade_moves Inject c d p most other q good room t = record {
   lower = λ x. omega (arith, ints, t.lower tt, good);
   upper = λ l. let r = room l in omega (arith, ints, t.upper r.0, r.1);
@@ -253,7 +258,8 @@ not_its k g gate e n = by_test (is_gate k gate) (λ t. absurd (n (some_is g k (s
 
 pub open_others : (m : Market) (a : Activation) (us : List Cents) (g h i j k : ℕ) → Exchange m a us g h i j → k ≢ g → k ≢ h → is_open m (moved a i j) k ≡ is_open m a k
 open_others m a us g h i j k x kg kh =
-    off_gate k m.orders (set a.mw j 0) i (get_or a.mw j 0) no_order x.twins.first.place (omega (arith, x.twins.first.place, full m a us g h i j x, length-set a.mw j 0)) (not_its k g (order_at m i).gate x.twins.first.of_it kg)
+    off_gate k m.orders (set a.mw j 0) i (get_or a.mw j 0) no_order x.twins.first.place (omega (arith, x.twins.first.place, full m a us g h i j x, length-set a.mw j 0))
+    (not_its k g (order_at m i).gate x.twins.first.of_it kg)
     ∙ off_gate k m.orders a.mw j 0 no_order x.twins.second.place (omega (arith, x.twins.second.place, full m a us g h i j x)) (not_its k h (order_at m j).gate x.twins.second.of_it kh)
 
 pub open_first : (m : Market) (a : Activation) (us : List Cents) (g h i j : ℕ) → Exchange m a us g h i j → is_open m (moved a i j) g ≡ true
@@ -272,7 +278,8 @@ pub shut_second : (m : Market) (a : Activation) (us : List Cents) (g h i j : ℕ
 shut_second m a us g h i j x =
     runs_none h m.orders (moved a i j).mw no_order (λ n l s.
     by_test (is_gate h (order_at m n).gate)
-    (λ t. no_run (is_gate h (order_at m n).gate) (get_or (moved a i j).mw n 0) (ap (λ (k : ℕ). get_or (moved a i j).mw k 0) (x.twins.second.alone n l (gate_is h (order_at m n).gate t)) ∙ at_second m a us g h i j x))
+    (λ t. no_run (is_gate h (order_at m n).gate) (get_or (moved a i j).mw n 0)
+    (ap (λ (k : ℕ). get_or (moved a i j).mw k 0) (x.twins.second.alone n l (gate_is h (order_at m n).gate t)) ∙ at_second m a us g h i j x))
     (λ f. and_none (is_gate h (order_at m n).gate) (nat_lt 0 (get_or (moved a i j).mw n 0)) f))
 
 -- an open gate is the first of the twins, or neither and open before too
@@ -341,7 +348,8 @@ room m a us g h i j x l =
       | inr alike ↦ let z = alike.greatest in (omega (arith, l, z), alike.price)
     ]
 
-moved_orders : (m : Market) (a : Activation) (us : List Cents) (g h i j : ℕ) → Exchange m a us g h i j → AllZip (λ (o : Order) (q : ℕ). IsWithin (own_bounds m (moved a i j) o) q) m.orders (moved a i j).mw
+moved_orders : (m : Market) (a : Activation) (us : List Cents) (g h i j : ℕ) → Exchange m a us g h i j
+    → AllZip (λ (o : Order) (q : ℕ). IsWithin (own_bounds m (moved a i j) o) q) m.orders (moved a i j).mw
 moved_orders m a us g h i j x =
     let fits = fits_least m a us g h i j x in
     by_place (λ (o : Order) (q : ℕ). IsWithin (own_bounds m (moved a i j) o) q) m a us g h i j x
@@ -366,14 +374,16 @@ moved_prices m a us g h i j x rank =
     (trade_to_open (is_open m (moved a i j)) o.gate g o.side o.price.0 (price_at us o.zone) o.greatest q x.twins.first.of_it (open_first m a us g h i j x)
     (trade_moves o.side o.price.0 y.price.0 (price_at us o.zone) o.greatest y.greatest q (as_good o.side o.price.0 y.price.0 g h rank) (room m a us g h i j x) here))
     (trade_to_closed (is_open m (moved a i j)) y.gate h y.side y.price.0 (price_at us y.zone) y.greatest 0 x.twins.second.of_it (shut_second m a us g h i j x))
-    (λ k l ki kj. keep_trade (is_open m a) (is_open m (moved a i j)) (order_at m k).gate (order_at m k).side (order_at m k).price.0 (price_at us (order_at m k).zone) (order_at m k).greatest (get_or a.mw k 0) (other_gate m a us g h i j k x l ki kj)
+    (λ k l ki kj. keep_trade (is_open m a) (is_open m (moved a i j)) (order_at m k).gate (order_at m k).side (order_at m k).price.0 (price_at us (order_at m k).zone)
+    (order_at m k).greatest (get_or a.mw k 0) (other_gate m a us g h i j k x l ki kj)
     (AllZip-at (IsConsistentOrder (is_open m a) us) m.orders a.mw k no_order 0 l x.consistent.orders))
 
 -- ---- its balance, its welfare and its word
 
 moved_balance : (m : Market) (a : Activation) (us : List Cents) (g h i j : ℕ) → Exchange m a us g h i j → IsBalanced m (moved a i j)
 moved_balance m a us g h i j x = λ z l.
-    let sums = exchanged_sum (put_into z) m.orders a.mw i j x.twins.first.place x.twins.second.place (full m a us g h i j x) (apart_places m a us g h i j x) (none_there m a us g h i j x) (no_put z (order_at m i)) (no_put z (order_at m j)) in
+    let sums = exchanged_sum (put_into z) m.orders a.mw i j x.twins.first.place x.twins.second.place (full m a us g h i j x) (apart_places m a us g h i j x)
+    (none_there m a us g h i j x) (no_put z (order_at m i)) (no_put z (order_at m j)) in
     let same = same_put z (order_at m i) (order_at m j) (get_or a.mw j 0) x.twins.zone x.twins.side in
     omega (arith, ints, sums, same, x.feasible.balance z l)
 
@@ -388,7 +398,8 @@ moved_before m a us g h i j x l = record {
   gate = h;
   same = λ k s.
       let there : k < length m.gates = omega (arith, x.twins.second.there) in
-      opens_map (is_open m (moved a i j)) (length m.gates) k there ∙ open_others m a us g h i j k x (λ e. omega (arith, e)) (λ e. omega (arith, e)) ∙ sym (opens_map (is_open m a) (length m.gates) k there);
+      opens_map (is_open m (moved a i j)) (length m.gates) k there ∙ open_others m a us g h i j k x (λ e. omega (arith, e)) (λ e. omega (arith, e))
+      ∙ sym (opens_map (is_open m a) (length m.gates) k there);
   closed = opens_map (is_open m (moved a i j)) (length m.gates) h x.twins.second.there ∙ shut_second m a us g h i j x;
   opened = opens_map (is_open m a) (length m.gates) h x.twins.second.there ∙ x.opened;
 }
@@ -416,7 +427,8 @@ pub moved_consistent : (m : Market) (a : Activation) (us : List Cents) (g h i j 
 moved_consistent m a us g h i j x rank = record { prices = x.consistent.prices; orders = moved_prices m a us g h i j x rank; borders = x.consistent.borders }
 
 -- so it isn't the first
-pub out_of_rank : (m : Market) (a : Activation) (g h i j : ℕ) → IsValid m → AreTwins m g h i j → RanksBefore (order_at m i) g (order_at m j) h → is_open m a h ≡ true → is_open m a g ≡ false → IsFirst m a → ⊥
+pub out_of_rank : (m : Market) (a : Activation) (g h i j : ℕ) → IsValid m → AreTwins m g h i j → RanksBefore (order_at m i) g (order_at m j) h → is_open m a h ≡ true
+    → is_open m a g ≡ false → IsFirst m a → ⊥
 out_of_rank m a g h i j v t rank opened closed f =
     let adm = f.optimal.admissible in
     let us = adm.consistent.0 in

@@ -77,11 +77,13 @@ gated_speak m os gated v same e = subst (SpeaksFor m) (sym (e ∙ ap (filter has
 })
 
 -- the same of orders that memory may not have been there for
-pub gated_if_any : {E : Type 0} (m : Market) (os : List Order) (r : Result (Vec Order Global) E) → IsValid m → os ≡ m.orders → IfOk r (λ v. v.items ≡ filter has_gate os) → IfOk r (λ v. SpeaksFor m v.items)
+pub gated_if_any : {E : Type 0} (m : Market) (os : List Order) (r : Result (Vec Order Global) E) → IsValid m → os ≡ m.orders → IfOk r (λ v. v.items ≡ filter has_gate os)
+    → IfOk r (λ v. SpeaksFor m v.items)
 gated_if_any m os (Ok v) valid e h = gated_speak m os v.items valid e h
 gated_if_any m os (Err x) valid e h = tt
 
-pub items_if_any : {E : Type 0} (m : Market) (os : List Order) (r : Result (Vec Order Global) E) → os ≡ m.orders → IfOk r (λ v. v.items ≡ filter has_gate os) → IfOk r (λ v. v.items ≡ filter has_gate m.orders)
+pub items_if_any : {E : Type 0} (m : Market) (os : List Order) (r : Result (Vec Order Global) E) → os ≡ m.orders → IfOk r (λ v. v.items ≡ filter has_gate os)
+    → IfOk r (λ v. v.items ≡ filter has_gate m.orders)
 items_if_any m os (Ok v) e h = h ∙ ap (filter has_gate) e
 items_if_any m os (Err x) e h = tt
 

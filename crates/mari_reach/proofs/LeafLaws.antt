@@ -98,7 +98,8 @@ without_gate : (own : ℕ → Bool) (g : ℕ) (gate : Option ℕ) (o : Order) (q
 without_gate own g None o q s e w h = h
 without_gate own g (Some k) o q s e w h = if_gate (k == g) q s (λ t. closed_runs_none (own k) o q (ap own (same_number k g t) ∙ e) w) h
 
-within_without : (m : Market) (a : Activation) (g : ℕ) (bounds : Order → Span) (flows : Border → FlowSpan) → IsFeasible m a → is_open m a g ≡ false → IsWithinSpans bounds flows m a → IsWithinSpans (without g bounds) flows m a
+within_without : (m : Market) (a : Activation) (g : ℕ) (bounds : Order → Span) (flows : Border → FlowSpan) → IsFeasible m a → is_open m a g ≡ false
+    → IsWithinSpans bounds flows m a → IsWithinSpans (without g bounds) flows m a
 within_without m a g bounds flows f e w = record {
   orders = AllZip-both (λ (o : Order) (q : ℕ). IsWithin (own_bounds m a o) q) (λ (o : Order) (q : ℕ). IsWithin (bounds o) q) (λ (o : Order) (q : ℕ). IsWithin (without g bounds o) q)
       (λ o q own h. without_gate (is_open m a) g o.gate o q (bounds o) e own h) m.orders a.mw f.orders w.orders;
@@ -110,7 +111,8 @@ pub nothing : (gap : ℤ) → int_max (gap *ℤ pos 0) (gap *ℤ pos 0) ≡ pos 
 nothing gap = omega (arith, ints, clamps)
 
 without_best : (t : Bool) (o : Order) (ps : List Cents) (s : Span)
-    → best_trade o.side o.price.0 (price_at ps o.zone) (if t then record { lo = 0; hi = 0 } else s) +ℤ (if t then best_trade o.side o.price.0 (price_at ps o.zone) s else pos 0) ≡ best_trade o.side o.price.0 (price_at ps o.zone) s
+    → best_trade o.side o.price.0 (price_at ps o.zone) (if t then record { lo = 0; hi = 0 } else s) +ℤ (if t then best_trade o.side o.price.0 (price_at ps o.zone) s else pos 0)
+    ≡ best_trade o.side o.price.0 (price_at ps o.zone) s
 without_best true o ps s = omega (arith, ints, clamps, nothing (gain_per_mw o.side o.price.0 (price_at ps o.zone)))
 without_best false o ps s = omega (arith, ints)
 
@@ -123,7 +125,13 @@ sum_without g bounds ps (o ∷ os) = omega (arith, ints, without_best (is_gate g
 closed_loses : (m : Market) (ds : List Decision) (a : Activation) (us : List Cents) (ps : List Cents) (g : ℕ) → IsValid m → IsReached m ds a us → is_open m a g ≡ false
     → (welfare_of m a +ℤ gain_of (bounds_in m ds) m ps g) ≤ℤ dual_of m ds ps
 closed_loses m ds a us ps g v r shut =
-    omega (arith, ints, sum_without g (bounds_in m ds) ps m.orders, weak_duality_within (without g (bounds_in m ds)) (flows_in m ds) m a ps v (within_without m a g (bounds_in m ds) (flows_in m ds) r.feasible shut (within_bounds m ds a us r)))
+    omega (
+      arith,
+      ints,
+      sum_without g (bounds_in m ds) ps m.orders,
+      weak_duality_within (without g (bounds_in m ds)) (flows_in m ds) m a ps v
+          (within_without m a g (bounds_in m ds) (flows_in m ds) r.feasible shut (within_bounds m ds a us r)),
+    )
 
 -- ---- early bounds
 

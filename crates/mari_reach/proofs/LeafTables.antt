@@ -101,7 +101,8 @@ earns_rising r ps b x gap rising e k =
     k ∙ ap (λ (g : ℤ). g *ℤ pos b.limit) e ∙ earns_on (price_at ps b.from) (price_at ps b.to) (falls_in r.prices b) b
     ∙ ap (λ (t : Bool). best_between (price_at ps b.from) (price_at ps b.to) (border_span t (falls_in r.prices b) b)) (sym rising)
 
-pub earns_falling : (r : State) (ps : List Cents) (b : Border) (x gap : ℤ) → rises_in r.prices b ≡ false → falls_in r.prices b ≡ true → gap ≡ price_at ps b.from -ℤ price_at ps b.to → x ≡ gap *ℤ pos b.back
+pub earns_falling : (r : State) (ps : List Cents) (b : Border) (x gap : ℤ) → rises_in r.prices b ≡ false → falls_in r.prices b ≡ true
+    → gap ≡ price_at ps b.from -ℤ price_at ps b.to → x ≡ gap *ℤ pos b.back
     → x ≡ best_flow (flow_in r) ps b
 earns_falling r ps b x gap rising falling e k =
     k ∙ ap (λ (g : ℤ). g *ℤ pos b.back) e ∙ earns_back (price_at ps b.from) (price_at ps b.to) b
@@ -194,7 +195,8 @@ pub tests_balance : (bounds : Order → Span) (flows : Border → FlowSpan) (m :
 tests_balance bounds flows m side set orders borders put carried answer p os c bs t =
     let put_is : put ≡ int_sum (put_of side bounds set) m.orders = p ∙ ap (int_sum (put_of side bounds set)) os in
     let carried_is : carried ≡ int_sum (carried_by side flows set) m.borders = c ∙ ap (int_sum (carried_by side flows set)) bs in
-    let same : Exceeds side put carried ≡ CannotBalanceWithin bounds flows m side set = ap (λ (x : ℤ). Exceeds side x carried) put_is ∙ ap (λ (x : ℤ). Exceeds side (int_sum (put_of side bounds set) m.orders) x) carried_is ∙ sym (balance_is bounds flows m side set) in
+    let same : Exceeds side put carried ≡ CannotBalanceWithin bounds flows m side set = ap (λ (x : ℤ). Exceeds side x carried) put_is
+    ∙ ap (λ (x : ℤ). Exceeds side (int_sum (put_of side bounds set) m.orders) x) carried_is ∙ sym (balance_is bounds flows m side set) in
     subst (λ (P : Type 0). IsTrue answer ↔ P) same t
 
 same_cut : (f g : Order → Span) (p q : Border → FlowSpan) (m : Market) (cut : CutRecord) → IsValid m → ((o : Order) → IsValidOrder m.zones (length m.gates) o → f o ≡ g o)

@@ -75,7 +75,8 @@ pub same_outranks : (m : Market) (t : Lone) (g h : ℕ) → IsLoneOf m t → g <
 same_outranks m t g h k l s = ap (λ (x : Option Order). outranks_by x g (lone_in t h) h) (k g l) ∙ ap (λ (x : Option Order). outranks_by (lone_order m g) g x h) (k h s)
 
 -- both of two twins are marked
-both_marked : (m : Market) (t : Twins) (g h : ℕ) → IsTwinsOf m t → g < length m.gates → h < length m.gates → outranks_in t.lone g h ≡ true → (opens_in t.twinned g ≡ true) × (opens_in t.twinned h ≡ true)
+both_marked : (m : Market) (t : Twins) (g h : ℕ) → IsTwinsOf m t → g < length m.gates → h < length m.gates → outranks_in t.lone g h ≡ true
+    → (opens_in t.twinned g ≡ true) × (opens_in t.twinned h ≡ true)
 both_marked m t g h k l s e = elim (cases_lt g h) [
   | inl less ↦
       let both = and_parts (opens_in t.twinned h) (opens_in t.twinned g) (k.marked h g s (omega (arith, less)) (or_later (outranks_in t.lone h g) (outranks_in t.lone g h) e)) in

@@ -22,7 +22,8 @@ use Rattle.mari_reach.proofs.Reaching.{or_either, same_number}
 use Rattle.mari_reach.proofs.Ranges.{or_first, or_later}
 
 -- an order of a closed gate runs nothing
-closed_span : (s : ℕ → GateState) (gaining losing : Bool) (gate : Option ℕ) (o : Order) (g : ℕ) → s g ≡ Closed → is_gate g gate ≡ true → reached_span s gaining losing gate o ≡ record { lo = 0; hi = 0 }
+closed_span : (s : ℕ → GateState) (gaining losing : Bool) (gate : Option ℕ) (o : Order) (g : ℕ) → s g ≡ Closed → is_gate g gate ≡ true
+    → reached_span s gaining losing gate o ≡ record { lo = 0; hi = 0 }
 closed_span s gaining losing None o g e t = absurd (cc)
 closed_span s gaining losing (Some k) o g e t = ap (λ (x : GateState). gate_span gaining x o) (ap s (same_number k g t) ∙ e) ∙ shut gaining
   where
@@ -49,7 +50,8 @@ pub needed_is : (m : Market) (w : ℤ) (ds : List Decision) (ps : List Cents) (g
 needed_is m w ds ps g top = (
   λ e. elim (or_either (opens m ds g) (lt_z (pos 0) (gain_of (bounds_in m ds) m ps g)) e) [
     | inl said ↦ inl said
-    | inr gain ↦ by_test (opens m ds g) (λ said. inl said) (λ isnt. inr (free isnt (less (pos 0) (gain_of (bounds_in m ds) m ps g) gain), omega (arith, ints, less (pos 0) (gain_of (bounds_in m ds) m ps g) gain, top)))
+    | inr gain ↦ by_test (opens m ds g) (λ said. inl said) (λ isnt. inr
+        (free isnt (less (pos 0) (gain_of (bounds_in m ds) m ps g) gain), omega (arith, ints, less (pos 0) (gain_of (bounds_in m ds) m ps g) gain, top)))
   ],
   λ h. elim h [
     | inl said ↦ or_first (opens m ds g) (lt_z (pos 0) (gain_of (bounds_in m ds) m ps g)) said

@@ -233,7 +233,8 @@ pub wide : (zones n : ℕ) (xs : List Offer) → zones ≤ n → All (IsOffer zo
 wide zones n xs l a = All-weaker (IsOffer zones) (IsOffer n) (λ x h. record { zone = omega (arith, h.zone, l); price = h.price; small = h.small; placed = h.placed }) xs a
 
 -- a ladder of its parts
-pub ladder_is : (m : Market) (side : Side) (xs ys : List Offer) (sums : List Sums) (l : Ladder) → xs ≡ l.offers.items → ys ≡ l.offers.items → sums ≡ l.sums.items → m.zones ≤ MOST_ZONES → length xs ≤ MOST_ORDERS
+pub ladder_is : (m : Market) (side : Side) (xs ys : List Offer) (sums : List Sums) (l : Ladder) → xs ≡ l.offers.items → ys ≡ l.offers.items → sums ≡ l.sums.items
+    → m.zones ≤ MOST_ZONES → length xs ≤ MOST_ORDERS
     → All (IsOffer m.zones) xs → RisesBy (λ (x : Offer). x.place) l.offers.items → length l.sums.items ≡ length xs + 1
     → ((k : ℕ) (d : Sums) → k ≤ length xs → AreSumsOf (take k xs) (get_or l.sums.items k d)) → length l.starts.items ≡ m.zones
     → ((z : ℕ) (d : Sums) → z < m.zones → AreSumsBefore ys (place_of z (neg_ℤ CAP)) (get_or l.starts.items z d)) → AreOffersOf side m.orders l.offers.items → IsLadderOf m side l
@@ -332,7 +333,8 @@ some_in z level zones k (x ∷ xs) e = omega (arith, ints, one ((x.zone == z) &&
     one false t v e = refl
 
 -- a zone of the set, or another
-pub put_in : (z : ℕ) (level : ℤ) (zones : List ℕ) (xs : List Offer) (b : Bool) (put : ℤ) → b ≡ is_in zones z → b ≡ true → put ≡ int_sum (up_to mw_of z level) xs → put ≡ int_sum (up_to (mw_in zones z) z level) xs
+pub put_in : (z : ℕ) (level : ℤ) (zones : List ℕ) (xs : List Offer) (b : Bool) (put : ℤ) → b ≡ is_in zones z → b ≡ true → put ≡ int_sum (up_to mw_of z level) xs
+    → put ≡ int_sum (up_to (mw_in zones z) z level) xs
 put_in z level zones xs b put is there e = e ∙ sym (some_in z level zones z xs (sym is ∙ there))
 
 pub put_out : (z : ℕ) (level : ℤ) (zones : List ℕ) (xs : List Offer) (b : Bool) → b ≡ is_in zones z → b ≡ false → pos 0 ≡ int_sum (up_to (mw_in zones z) z level) xs

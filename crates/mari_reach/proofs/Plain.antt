@@ -48,7 +48,8 @@ pub is_not_less : (x y : ℤ) → y ≤ℤ x → lt_z x y ≡ false
 is_not_less x y h = grind (arith, ints)
 
 by_side : (side : Side) (c p low high : ℤ) (o : Order)
-    → gain_per_mw side c p *ℤ pos (if runs_best side c p low high then o.greatest else 0) ≡ best_within (gain_per_mw side c p) (plain_span (gains_within side c low high) (loses_within side c low high) o)
+    → gain_per_mw side c p *ℤ pos (if runs_best side c p low high then o.greatest else 0)
+    ≡ best_within (gain_per_mw side c p) (plain_span (gains_within side c low high) (loses_within side c low high) o)
 by_side Inject c p low high o =
     by_cases (p -ℤ c) o (lt_z c low) (lt_z high c) (not (lt_z (int_min p high) c))
     (λ e. let l : c ≤ℤ int_min p high = not_less (int_min p high) c (opposite (lt_z (int_min p high) c) e) in (is_not_less high c (omega (arith, ints, clamps, l)), omega (arith, ints, clamps, l)))

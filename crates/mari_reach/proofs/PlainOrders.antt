@@ -58,7 +58,8 @@ one_plain r ps levels o Inject e plain h there price =
     let mw = if lt_z c below then o.greatest else 0 in
     plus_none _ _ (
     ap (λ (b : Bool). if b then (p -ℤ c) *ℤ pos o.greatest else pos 0) (by_rung Inject c below price) ∙ if_times (lt_z c below) (p -ℤ c) o.greatest
-    ∙ best_by_levels r ps levels o p ((p -ℤ c) *ℤ pos mw) (p -ℤ c) mw h there plain refl (ap (λ (s : Side). gain_per_mw s c p) (sym e)) (ap (λ (s : Side). if runs_at s c below above then o.greatest else 0) (sym e)) refl
+    ∙ best_by_levels r ps levels o p ((p -ℤ c) *ℤ pos mw) (p -ℤ c) mw h there plain refl (ap (λ (s : Side). gain_per_mw s c p) (sym e))
+    (ap (λ (s : Side). if runs_at s c below above then o.greatest else 0) (sym e)) refl
     )
 one_plain r ps levels o Withdraw e plain h there price =
     let c = o.price.0 in
@@ -69,12 +70,15 @@ one_plain r ps levels o Withdraw e plain h there price =
     none_plus _ _ (
     ap (λ (b : Bool). if b then (neg_ℤ p -ℤ neg_ℤ c) *ℤ pos o.greatest else pos 0) (by_rung Withdraw c above price)
     ∙ ap (λ (gap : ℤ). if lt_z above c then gap *ℤ pos o.greatest else pos 0) (same_gap p c) ∙ if_times (lt_z above c) (c -ℤ p) o.greatest
-    ∙ best_by_levels r ps levels o p ((c -ℤ p) *ℤ pos mw) (c -ℤ p) mw h there plain refl (ap (λ (s : Side). gain_per_mw s c p) (sym e)) (ap (λ (s : Side). if runs_at s c below above then o.greatest else 0) (sym e)) refl
+    ∙ best_by_levels r ps levels o p ((c -ℤ p) *ℤ pos mw) (c -ℤ p) mw h there plain refl (ap (λ (s : Side). gain_per_mw s c p) (sym e))
+    (ap (λ (s : Side). if runs_at s c below above then o.greatest else 0) (sym e)) refl
     )
 
 plain_more : (r : State) (ps : List Cents) (levels : Levels) (o : Order) (os : List Order) (g : Option ℕ) → o.gate ≡ g → HasLevels r ps levels → o.zone < length ps → IsPrice o.price.0
-    → int_sum (λ (x : Order). of_offer (gain_by Inject levels ps) (offer_of Inject x)) os +ℤ int_sum (λ (x : Order). of_offer (gain_by Withdraw levels ps) (offer_of Withdraw x)) os ≡ int_sum (best_order (span_in r) ps) (filter is_plain os)
-    → int_sum (λ (x : Order). of_offer (gain_by Inject levels ps) (offer_of Inject x)) (o ∷ os) +ℤ int_sum (λ (x : Order). of_offer (gain_by Withdraw levels ps) (offer_of Withdraw x)) (o ∷ os) ≡ int_sum (best_order (span_in r) ps) (filter is_plain (o ∷ os))
+    → int_sum (λ (x : Order). of_offer (gain_by Inject levels ps) (offer_of Inject x)) os
+    +ℤ int_sum (λ (x : Order). of_offer (gain_by Withdraw levels ps) (offer_of Withdraw x)) os ≡ int_sum (best_order (span_in r) ps) (filter is_plain os)
+    → int_sum (λ (x : Order). of_offer (gain_by Inject levels ps) (offer_of Inject x)) (o ∷ os)
+    +ℤ int_sum (λ (x : Order). of_offer (gain_by Withdraw levels ps) (offer_of Withdraw x)) (o ∷ os) ≡ int_sum (best_order (span_in r) ps) (filter is_plain (o ∷ os))
 plain_more r ps levels o os None e h there price more =
     let kept : filter is_plain (o ∷ os) ≡ o ∷ filter is_plain os = ap (λ (b : Bool). if not b then o ∷ filter is_plain os else filter is_plain os) (ap is_some e) in
     let sum = ap (int_sum (best_order (span_in r) ps)) kept in
@@ -91,7 +95,8 @@ plain_more r ps levels o os (Some g) e h there price more =
 
 -- what the offers of both sides gain together
 pub plain_sum : (r : State) (ps : List Cents) (levels : Levels) (gates : ℕ) (os : List Order) → HasLevels r ps levels → All (IsValidOrder (length ps) gates) os
-    → int_sum (λ (x : Order). of_offer (gain_by Inject levels ps) (offer_of Inject x)) os +ℤ int_sum (λ (x : Order). of_offer (gain_by Withdraw levels ps) (offer_of Withdraw x)) os ≡ int_sum (best_order (span_in r) ps) (filter is_plain os)
+    → int_sum (λ (x : Order). of_offer (gain_by Inject levels ps) (offer_of Inject x)) os
+    +ℤ int_sum (λ (x : Order). of_offer (gain_by Withdraw levels ps) (offer_of Withdraw x)) os ≡ int_sum (best_order (span_in r) ps) (filter is_plain os)
 plain_sum r ps levels gates [] h a = refl
 plain_sum r ps levels gates (o ∷ os) h a =
     let own = All-head (IsValidOrder (length ps) gates) o os a in

@@ -50,7 +50,8 @@ over_cap c low p = by_lt_z c low
 
 -- what a cut counts of an injection, and of a withdrawal
 of_injection : (cut : CutSide) (low high : ℤ) (o : Order) → IsPrice o.price.0
-    → (if lt_z o.price.0 (cut_level cut Inject low high) then pos o.greatest else pos 0) ≡ net_put cut Inject (plain_span (gains_within Inject o.price.0 low high) (loses_within Inject o.price.0 low high) o)
+    → (if lt_z o.price.0 (cut_level cut Inject low high) then pos o.greatest else pos 0)
+    ≡ net_put cut Inject (plain_span (gains_within Inject o.price.0 low high) (loses_within Inject o.price.0 low high) o)
 of_injection Out low high o p = sym (least_of (lt_z o.price.0 low) (lt_z high o.price.0) o)
 of_injection In low high o p =
     ap (λ (b : Bool). if b then pos o.greatest else pos 0) (level_says Inject o.price.0 CAP low high)
@@ -58,7 +59,8 @@ of_injection In low high o p =
     ∙ sym (most_of (lt_z o.price.0 low) (lt_z high o.price.0) o)
 
 of_withdrawal : (cut : CutSide) (low high : ℤ) (o : Order) → IsPrice o.price.0
-    → neg_ℤ (if lt_z (cut_level cut Withdraw low high) o.price.0 then pos o.greatest else pos 0) ≡ net_put cut Withdraw (plain_span (gains_within Withdraw o.price.0 low high) (loses_within Withdraw o.price.0 low high) o)
+    → neg_ℤ (if lt_z (cut_level cut Withdraw low high) o.price.0 then pos o.greatest else pos 0)
+    ≡ net_put cut Withdraw (plain_span (gains_within Withdraw o.price.0 low high) (loses_within Withdraw o.price.0 low high) o)
 of_withdrawal Out low high o p = ap neg_ℤ (
     ap (λ (b : Bool). if b then pos o.greatest else pos 0) (level_says Withdraw o.price.0 (neg_ℤ CAP) low high)
     ∙ ap (λ (b : Bool). if lt_z high o.price.0 || not b then pos o.greatest else pos 0) (over_cap o.price.0 low p)
@@ -98,8 +100,10 @@ one_put cut r zones o Withdraw e plain p =
     omega (arith, ints, own, value, sided, gated)
 
 put_more : (cut : CutSide) (r : State) (zones : List ℕ) (o : Order) (os : List Order) (g : Option ℕ) → o.gate ≡ g → IsPrice o.price.0
-    → int_sum (λ (x : Order). of_offer (put_by cut Inject r.prices zones) (offer_of Inject x)) os -ℤ int_sum (λ (x : Order). of_offer (put_by cut Withdraw r.prices zones) (offer_of Withdraw x)) os ≡ int_sum (put_of cut (span_in r) zones) (filter is_plain os)
-    → int_sum (λ (x : Order). of_offer (put_by cut Inject r.prices zones) (offer_of Inject x)) (o ∷ os) -ℤ int_sum (λ (x : Order). of_offer (put_by cut Withdraw r.prices zones) (offer_of Withdraw x)) (o ∷ os) ≡ int_sum (put_of cut (span_in r) zones) (filter is_plain (o ∷ os))
+    → int_sum (λ (x : Order). of_offer (put_by cut Inject r.prices zones) (offer_of Inject x)) os
+    -ℤ int_sum (λ (x : Order). of_offer (put_by cut Withdraw r.prices zones) (offer_of Withdraw x)) os ≡ int_sum (put_of cut (span_in r) zones) (filter is_plain os)
+    → int_sum (λ (x : Order). of_offer (put_by cut Inject r.prices zones) (offer_of Inject x)) (o ∷ os)
+    -ℤ int_sum (λ (x : Order). of_offer (put_by cut Withdraw r.prices zones) (offer_of Withdraw x)) (o ∷ os) ≡ int_sum (put_of cut (span_in r) zones) (filter is_plain (o ∷ os))
 put_more cut r zones o os None e p more =
     let kept : filter is_plain (o ∷ os) ≡ o ∷ filter is_plain os = ap (λ (b : Bool). if not b then o ∷ filter is_plain os else filter is_plain os) (ap is_some e) in
     let sum = ap (int_sum (put_of cut (span_in r) zones)) kept in
@@ -116,7 +120,8 @@ put_more cut r zones o os (Some g) e p more =
 
 -- what a cut counts of the offers of both sides
 pub put_sum : (cut : CutSide) (r : State) (zones : List ℕ) (n gates : ℕ) (os : List Order) → All (IsValidOrder n gates) os
-    → int_sum (λ (x : Order). of_offer (put_by cut Inject r.prices zones) (offer_of Inject x)) os -ℤ int_sum (λ (x : Order). of_offer (put_by cut Withdraw r.prices zones) (offer_of Withdraw x)) os ≡ int_sum (put_of cut (span_in r) zones) (filter is_plain os)
+    → int_sum (λ (x : Order). of_offer (put_by cut Inject r.prices zones) (offer_of Inject x)) os
+    -ℤ int_sum (λ (x : Order). of_offer (put_by cut Withdraw r.prices zones) (offer_of Withdraw x)) os ≡ int_sum (put_of cut (span_in r) zones) (filter is_plain os)
 put_sum cut r zones n gates [] a = refl
 put_sum cut r zones n gates (o ∷ os) a =
     let own = All-head (IsValidOrder n gates) o os a in

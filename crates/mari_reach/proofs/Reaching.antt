@@ -265,7 +265,8 @@ closed_by_rival gates on own g rules k e o =
     any_gives (λ h. are_rivals gates g h && on h) (range_with_len 0 (length gates)) e
     (λ h test. let both = and_parts (are_rivals gates g h) (on h) test in not_rival gates own g h rules o (k h both.1) both.0)
 
-pays_of_gate : (own : ℕ → Bool) (g : ℕ) (gate : Option ℕ) (side : Side) (c p : ℤ) (most q : ℕ) → own g ≡ true → IsConsistentTrade (standing_of own gate) side c most q p → is_gate g gate ≡ true → Pays side c p
+pays_of_gate : (own : ℕ → Bool) (g : ℕ) (gate : Option ℕ) (side : Side) (c p : ℤ) (most q : ℕ) → own g ≡ true → IsConsistentTrade (standing_of own gate) side c most q p
+    → is_gate g gate ≡ true → Pays side c p
 pays_of_gate own g None side c p most q o h e = absurd (cc)
 pays_of_gate own g (Some k) side c p most q o h e = pays_if (own k) side c p most q (ap own (same_number k g e) ∙ o) h
 

@@ -66,7 +66,8 @@ first_alone : (g : ℕ) (x : Order) (xs : List Order) → orders_of xs g ≡ [] 
 first_alone g x xs e zero l is = refl
 first_alone g x xs e (suc k) l is = absurd (clash (is_gate g (get_or xs k no_order).gate) (is_it g (get_or xs k no_order).gate is) (none_of g xs e k (omega arith)))
 
-later_alone : (g : ℕ) (x : Order) (xs : List Order) (o : Order) → is_gate g x.gate ≡ false → (s : Sole xs g o) → (k : ℕ) → k < length (x ∷ xs) → (get_or (x ∷ xs) k no_order).gate ≡ Some g → k ≡ suc s.place
+later_alone : (g : ℕ) (x : Order) (xs : List Order) (o : Order) → is_gate g x.gate ≡ false → (s : Sole xs g o) → (k : ℕ) → k < length (x ∷ xs)
+    → (get_or (x ∷ xs) k no_order).gate ≡ Some g → k ≡ suc s.place
 later_alone g x xs o isnt s zero l is = absurd (clash (is_gate g x.gate) (is_it g x.gate is) isnt)
 later_alone g x xs o isnt s (suc k) l is = ap suc (s.alone k (omega arith) is)
 
@@ -175,7 +176,8 @@ pub record Ranked (m : Market) (g h : ℕ) : Type 0 where
   pub better_order : lone_order m g ≡ Some (order_at m first)
   pub worse_order : lone_order m h ≡ Some (order_at m second)
 
-ranked_lone : (m : Market) (g h : ℕ) (a : Lone m g) (b : Lone m h) → (may_exchange (order_at m a.place) (order_at m b.place) && ranks_before (order_at m a.place) g (order_at m b.place) h) ≡ true → Ranked m g h
+ranked_lone : (m : Market) (g h : ℕ) (a : Lone m g) (b : Lone m h)
+    → (may_exchange (order_at m a.place) (order_at m b.place) && ranks_before (order_at m a.place) g (order_at m b.place) h) ≡ true → Ranked m g h
 ranked_lone m g h a b e =
     let o = order_at m a.place in
     let x = order_at m b.place in
@@ -335,7 +337,8 @@ if_shut : (b : Bool) (x : ℕ) → b ≡ false → (if b then x else 0) ≡ 0
 if_shut true x e = absurd (cc)
 if_shut false x e = refl
 
-exchange_of : (m : Market) (a : Activation) (us : List Cents) (g h : ℕ) → IsValid m → IsFeasible m a → IsConsistent m a us → is_open m a h ≡ true → is_open m a g ≡ false → (r : Ranked m g h) → Exchange m a us g h r.first r.second
+exchange_of : (m : Market) (a : Activation) (us : List Cents) (g h : ℕ) → IsValid m → IsFeasible m a → IsConsistent m a us → is_open m a h ≡ true → is_open m a g ≡ false
+    → (r : Ranked m g h) → Exchange m a us g h r.first r.second
 exchange_of m a us g h v f c opened closed r = record { valid = v; twins = r.twins; feasible = f; consistent = c; opened = opened; closed = closed }
 
 -- an exchange makes it less
@@ -351,10 +354,12 @@ weighs_less m a us g h r x =
     let second_price = (x.valid.orders r.second no_order r.twins.second.place).price in
     let fg : weighs m old g ≡ 0 = if_shut (old g) (place_of n (lone_order m g) g) x.closed in
     let eh : weighs m new h ≡ 0 = if_shut (new h) (place_of n (lone_order m h) h) (shut_second m a us g h r.first r.second x) in
-    let eg : weighs m new g ≡ place_of n (Some (order_at m r.first)) g = if_open (new g) (place_of n (lone_order m g) g) (open_first m a us g h r.first r.second x) ∙ ap (λ (o : Option Order). place_of n o g) r.better_order in
+    let eg : weighs m new g ≡ place_of n (Some (order_at m r.first)) g = if_open (new g) (place_of n (lone_order m g) g) (open_first m a us g h r.first r.second x)
+    ∙ ap (λ (o : Option Order). place_of n o g) r.better_order in
     let fh : weighs m old h ≡ place_of n (Some (order_at m r.second)) h = if_open (old h) (place_of n (lone_order m h) h) x.opened ∙ ap (λ (o : Option Order). place_of n o h) r.worse_order in
     let lower = place_less (order_at m r.first) (order_at m r.second) n g h first_price second_price g_there h_there r.twins.side r.rank in
-    total_less (weighs m old) (weighs m new) g h n g_there h_there (λ e. clash (old h) x.opened (ap old (sym e) ∙ x.closed)) fg eh (subst (λ (w : ℕ). w < weighs m old h) (sym eg) (subst (λ (w : ℕ). place_of n (Some (order_at m r.first)) g < w) (sym fh) lower))
+    total_less (weighs m old) (weighs m new) g h n g_there h_there (λ e. clash (old h) x.opened (ap old (sym e) ∙ x.closed)) fg eh
+    (subst (λ (w : ℕ). w < weighs m old h) (sym eg) (subst (λ (w : ℕ). place_of n (Some (order_at m r.first)) g < w) (sym fh) lower))
     (λ k kg kh. ap (λ (t : Bool). if t then place_of n (lone_order m k) k else 0) (open_others m a us g h r.first r.second k x kg kh))
 
 -- ---- repeated exchange
@@ -407,7 +412,8 @@ say m us P a v f c kept step = elim (rank_or_pair m (is_open m a) v) [
       let h = out.worse_gate in
       let r = ranked m g h v out.twins in
       let x = exchange_of m a us g h v f c out.opened out.closed r in
-      step (moved a r.first r.second) (moved_feasible m a us g h r.first r.second x) (moved_consistent m a us g h r.first r.second x r.rank) (moved_ahead m a us g h r.first r.second x r.rank) (weighs_less m a us g h r x)
+      step (moved a r.first r.second) (moved_feasible m a us g h r.first r.second x) (moved_consistent m a us g h r.first r.second x r.rank)
+      (moved_ahead m a us g h r.first r.second x r.rank) (weighs_less m a us g h r x)
 ]
 
 by_weight : (m : Market) (us : List Cents) (P : Activation → Type 0) → IsValid m

@@ -92,10 +92,12 @@ box_is m ds marks box os v speaks k low high = record {
 -- ---- what gains and what loses
 
 pub same_gains : (m : Market) (ds : List Decision) (box : PriceBox) (o : Order) → HasPrices m ds box → o.zone < m.zones → gains_in box o ≡ gains m ds o
-same_gains m ds box o h l = ap (λ (x : ℤ). gains_within o.side o.price.0 x (int_at box.high o.zone)) (h.low o.zone l) ∙ ap (λ (x : ℤ). gains_within o.side o.price.0 (low_of m ds o.zone) x) (h.high o.zone l)
+same_gains m ds box o h l = ap (λ (x : ℤ). gains_within o.side o.price.0 x (int_at box.high o.zone)) (h.low o.zone l)
+    ∙ ap (λ (x : ℤ). gains_within o.side o.price.0 (low_of m ds o.zone) x) (h.high o.zone l)
 
 pub same_loses : (m : Market) (ds : List Decision) (box : PriceBox) (o : Order) → HasPrices m ds box → o.zone < m.zones → loses_in box o ≡ loses m ds o
-same_loses m ds box o h l = ap (λ (x : ℤ). loses_within o.side o.price.0 x (int_at box.high o.zone)) (h.low o.zone l) ∙ ap (λ (x : ℤ). loses_within o.side o.price.0 (low_of m ds o.zone) x) (h.high o.zone l)
+same_loses m ds box o h l = ap (λ (x : ℤ). loses_within o.side o.price.0 x (int_at box.high o.zone)) (h.low o.zone l)
+    ∙ ap (λ (x : ℤ). loses_within o.side o.price.0 (low_of m ds o.zone) x) (h.high o.zone l)
 
 same_loss : (m : Market) (ds : List Decision) (box : PriceBox) (g : ℕ) → IsValid m → HasPrices m ds box → list_any (λ (o : Order). is_gate g o.gate && loses_in box o) m.orders ≡ has_loss m ds g
 same_loss m ds box g v h =
@@ -116,7 +118,8 @@ pub shut_is : (m : Market) (ds : List Decision) (marks : Marks) (box : PriceBox)
 shut_is m ds marks box os gates g none one two three v k h speaks same_gates n e f d =
     d ∙ ap (λ (b : Bool). b || list_any (λ (o : Order). is_gate g o.gate && loses_in box o) os) (f ∙ ap (λ (b : Bool). b || has_rival gates (opens_in marks) g) e)
     ∙ regroup none (closes m ds g) (has_rival gates (opens_in marks) g) (list_any (λ (o : Order). is_gate g o.gate && loses_in box o) os) n
-    ∙ ap (λ (b : Bool). closes m ds g || (b || list_any (λ (o : Order). is_gate g o.gate && loses_in box o) os)) (ap (λ (gs : List GateInfo). has_rival gs (opens_in marks) g) same_gates ∙ same_rival m.gates (opens_in marks) (opens m ds) g k)
+    ∙ ap (λ (b : Bool). closes m ds g || (b || list_any (λ (o : Order). is_gate g o.gate && loses_in box o) os))
+    (ap (λ (gs : List GateInfo). has_rival gs (opens_in marks) g) same_gates ∙ same_rival m.gates (opens_in marks) (opens m ds) g k)
     ∙ ap (λ (b : Bool). closes m ds g || (has_rival m.gates (opens m ds) g || b)) (speaks.losses box g ∙ same_loss m ds box g v h)
 
 -- ---- bounds
@@ -139,8 +142,10 @@ same_span m ds r o h v =
 -- the bounds of a valid border by the tables are those of the state
 pub same_flow : (m : Market) (ds : List Decision) (r : State) (b : Border) → IsStateOf m ds r → IsValidBorder m.zones b → flow_in r b ≡ flows_in m ds b
 same_flow m ds r b h v =
-    ap (λ (x : Bool). border_span x (falls_in r.prices b) b) (ap (λ (x : ℤ). lt_z x (int_at r.prices.low b.to)) (h.prices.high b.from v.from) ∙ ap (λ (x : ℤ). lt_z (high_of m ds b.from) x) (h.prices.low b.to v.to))
-    ∙ ap (λ (x : Bool). border_span (rises m ds b) x b) (ap (λ (x : ℤ). lt_z x (int_at r.prices.low b.from)) (h.prices.high b.to v.to) ∙ ap (λ (x : ℤ). lt_z (high_of m ds b.to) x) (h.prices.low b.from v.from))
+    ap (λ (x : Bool). border_span x (falls_in r.prices b) b) (ap (λ (x : ℤ). lt_z x (int_at r.prices.low b.to)) (h.prices.high b.from v.from)
+    ∙ ap (λ (x : ℤ). lt_z (high_of m ds b.from) x) (h.prices.low b.to v.to))
+    ∙ ap (λ (x : Bool). border_span (rises m ds b) x b) (ap (λ (x : ℤ). lt_z x (int_at r.prices.low b.from)) (h.prices.high b.to v.to)
+    ∙ ap (λ (x : ℤ). lt_z (high_of m ds b.to) x) (h.prices.low b.from v.from))
 
 -- ---- void states
 

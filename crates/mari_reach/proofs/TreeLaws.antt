@@ -36,7 +36,8 @@ either_child : {R : Type 0} (on : ℕ → Bool) (us : List Cents) (choice : Choi
 either_child on us (OfGate g) one other = by_test (on g) other one
 either_child on us (OfPrice z p) one other = by_lt_z p.0 (price_at us z) other one
 
-of_children : (on : ℕ → Bool) (us : List Cents) (R : Type 0) (ds : List Decision) (choice : Choice) (states : List (List Decision)) → EachState on us R (children_at ds choice ++ states) → EachState on us R (ds ∷ states)
+of_children : (on : ℕ → Bool) (us : List Cents) (R : Type 0) (ds : List Decision) (choice : Choice) (states : List (List Decision))
+    → EachState on us R (children_at ds choice ++ states) → EachState on us R (ds ∷ states)
 of_children on us R ds choice states h = (
   λ agree. either_child on us choice (λ e. h.0 (All-push (Obeys on us) ds (first_of choice) agree e)) (λ e. h.1.0 (All-push (Obeys on us) ds (second_of choice) agree e)),
   h.1.1,

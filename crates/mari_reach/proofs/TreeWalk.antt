@@ -144,7 +144,8 @@ branch_fits m false path after choice d l e same may = absurd (cc)
 branch_fits m true path after choice d l e same may =
     (may, sym (ap (states_left true) (same ∙ ap (λ (x : Decision). path ++ x ∷ []) e) ∙ next_first path choice))
 
-pub branch_there : (m : Market) (path after : List Decision) (choice : Choice) (d : Decision) → d ≡ first_of choice → after ≡ path ++ d ∷ [] → AreDecisions m path → MayBranch m path choice → AreDecisions m after
+pub branch_there : (m : Market) (path after : List Decision) (choice : Choice) (d : Decision) → d ≡ first_of choice → after ≡ path ++ d ∷ [] → AreDecisions m path
+    → MayBranch m path choice → AreDecisions m after
 branch_there m path after choice d e same all may = subst (AreDecisions m) (sym (same ∙ ap (λ (x : Decision). path ++ x ∷ []) e)) (first_child_there m path choice all may.left)
 
 -- ---- the answers
@@ -194,7 +195,8 @@ leaves_more m holds items i d left after None (Some q) l fits before kept looked
     let bad = looked refl in
     subst (IsFalseLeaf m holds items) (sym bad.0) (false_leaf m holds items i d left l before bad.1)
 
-pub none_left : (m : Market) (holds : List Decision → ReachLeaf → Type 0) (states : List (List Decision)) (items : List ReachItem) → LeavesStates m holds states items [] → ArePartsOf m holds states items
+pub none_left : (m : Market) (holds : List Decision → ReachLeaf → Type 0) (states : List (List Decision)) (items : List ReachItem) → LeavesStates m holds states items []
+    → ArePartsOf m holds states items
 none_left m holds states [] h = subst (λ (xs : List (List Decision)). ArePartsOf m holds xs []) (sym h) tt
 none_left m holds [] (item ∷ items) h = absurd h
 none_left m holds (ds ∷ states) (Leaf leaf ∷ items) h = (h.0, none_left m holds states items h.1)
@@ -252,7 +254,8 @@ bad_has_none : (m : Market) (items : List ReachItem) (p : ℕ) → IsBadShape m 
 bad_has_none m items p h t = shape_refutes m AnyLeaf h.left (drop p items) (parts_split m AnyLeaf ([] ∷ []) items p h.left t h.before) h.fails
 
 -- a verdict that is right says exactly whether the tree holds
-holds_by_verdict : (m : Market) (holds : List Decision → ReachLeaf → Type 0) (items : List ReachItem) (v : TreeVerdict) → IsReachVerdict m holds items v → (v ≡ Holds) ↔ ArePartsOf m holds ([] ∷ []) items
+holds_by_verdict : (m : Market) (holds : List Decision → ReachLeaf → Type 0) (items : List ReachItem) (v : TreeVerdict) → IsReachVerdict m holds items v
+    → (v ≡ Holds) ↔ ArePartsOf m holds ([] ∷ []) items
 holds_by_verdict m holds items Holds h = (λ e. h, λ t. refl)
 holds_by_verdict m holds items (BadShape p) h = (λ e. absurd (cc), λ t. absurd (bad_has_none m items p h (any_parts m holds ([] ∷ []) items t)))
 holds_by_verdict m holds items (BadLeaf p) h = (λ e. absurd (cc), λ t. absurd (leaf_refutes m holds h.1.left (drop p items) (parts_split m holds ([] ∷ []) items p h.1.left t h.1.before) h.1.fails))

@@ -107,7 +107,8 @@ later_is h g l = grind (arith, nat_tests)
 rank_is : (o x : Order) (g h : ℕ) → RanksBefore o g x h → ranks_before o g x h ≡ true
 rank_is o x g h r = elim r [
   | inl b ↦ or_first (is_better o.side o.price.0 x.price.0) (int_eq o.price.0 x.price.0 && nat_lt h g) (better_is o.side o.price.0 x.price.0 b)
-  | inr e ↦ or_later (is_better o.side o.price.0 x.price.0) (int_eq o.price.0 x.price.0 && nat_lt h g) (both_true (int_eq o.price.0 x.price.0) (nat_lt h g) (equal_price o.price.0 x.price.0 e.0) (later_is h g e.1))
+  | inr e ↦ or_later (is_better o.side o.price.0 x.price.0) (int_eq o.price.0 x.price.0 && nat_lt h g)
+      (both_true (int_eq o.price.0 x.price.0) (nat_lt h g) (equal_price o.price.0 x.price.0 e.0) (later_is h g e.1))
 ]
 
 -- a twin that ranks before another outranks it

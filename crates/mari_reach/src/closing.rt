@@ -67,18 +67,17 @@ fn mark_opened(opened: &mut Marks, market: &Market, twins: &Twins, decision: &De
     }
 }
 
-/// The gates that decisions open.
-pub(crate) fn opened_by(market: &Market, twins: &Twins, decisions: &[Decision]) -> Marks
+/// Marks the gates that decisions open, and no others.
+pub(crate) fn set_opened(opened: &mut Marks, market: &Market, twins: &Twins, decisions: &[Decision])
     requires market { IsValid market.now }
     requires twins { IsTwinsOf market.now twins.now }
     requires decisions { AreDecisions market.now decisions.now }
-    ensures { HasOpened market.now decisions.now result }
+    ensures { HasOpened market.now decisions.now opened.new }
 {
-    let mut opened = Marks::none();
+    opened.clear();
     for decision in decisions {
-        mark_opened(&mut opened, market, twins, decision);
+        mark_opened(opened, market, twins, decision);
     }
-    opened
 }
 
 /// Marks the gates that a decision closes: one that it decides as closed, and the twins before which it ranks.
@@ -169,28 +168,28 @@ fn mark_rivals(marks: &mut Marks, gates: &[GateInfo], opened: &Marks)
     }
 }
 
-/// The gates that are closed themselves.
-pub(crate) fn shut_themselves(
+/// Marks the gates that are closed themselves, and no others.
+pub(crate) fn set_shut(
+    shut: &mut Marks,
     market: &Market,
     orders: &[Order],
     twins: &Twins,
     decisions: &[Decision],
     opened: &Marks,
     prices: &PriceBox,
-) -> Marks
+)
     requires market { IsValid market.now }
     requires twins { IsTwinsOf market.now twins.now }
     requires orders { SpeaksFor market.now orders.now }
     requires decisions { AreDecisions market.now decisions.now }
     requires opened { HasOpened market.now decisions.now opened.now }
     requires prices { HasPrices market.now decisions.now prices.now }
-    ensures { (g : ℕ) → g < length market.now.gates → opens_in result g ≡ is_shut market.now decisions.now g }
+    ensures { (g : ℕ) → g < length market.now.gates → opens_in shut.new g ≡ is_shut market.now decisions.now g }
 {
-    let mut shut = Marks::none();
-    mark_closed(&mut shut, market, twins, decisions);
-    mark_rivals(&mut shut, market.gates.as_slice(), opened);
-    mark_losses(&mut shut, prices, orders);
-    shut
+    shut.clear();
+    mark_closed(shut, market, twins, decisions);
+    mark_rivals(shut, market.gates.as_slice(), opened);
+    mark_losses(shut, prices, orders);
 }
 
 /// Marks a gate whose parent is marked.
@@ -203,15 +202,13 @@ fn close_below(closed: &mut Marks, gates: &[GateInfo], gate: usize)
     closed.mark_if(gate as u32, is_below);
 }
 
-/// The gates in whose line one is closed itself.
-pub(crate) fn shut_by(gates: &[GateInfo], shut: Marks) -> Marks
+/// Marks the gates in whose line one is marked.
+pub(crate) fn close_all_below(closed: &mut Marks, gates: &[GateInfo])
     requires few { length gates.now ≤ MOST_GATES }
     requires earlier { ParentsEarlier gates.now }
-    ensures { (g : ℕ) → g < length gates.now → opens_in result g ≡ list_any (opens_in shut) (line_of gates.now g) }
+    ensures { (g : ℕ) → g < length gates.now → opens_in closed.new g ≡ list_any (opens_in closed.old) (line_of gates.now g) }
 {
-    let mut closed = shut;
     for gate in 0..gates.len() {
-        close_below(&mut closed, gates, gate);
+        close_below(closed, gates, gate);
     }
-    closed
 }

@@ -314,7 +314,8 @@ impl Ladder {
     fn put_at(&self, cut: CutSide, side: Side, prices: &PriceBox, zones: &[u32], zone: u32) -> i64
         requires ladder { IsLadder self.now }
         requires zone { zone < length self.now.starts.items }
-        ensures value { result ≡ int_sum (up_to (mw_in zones.now zone) zone (rung_of side (cut_level cut side (int_at prices.now.low zone) (int_at prices.now.high zone)))) self.now.offers.items }
+        ensures value { result ≡ int_sum (up_to (mw_in zones.now zone) zone
+            (rung_of side (cut_level cut side (int_at prices.now.low zone) (int_at prices.now.high zone)))) self.now.offers.items }
         ensures least { pos 0 ≤ℤ result }
         ensures most { result ≤ℤ pos (MOST_MW * MOST_ORDERS) }
     {

@@ -198,7 +198,8 @@ pub fn check_leaf(
     // No activation that the state reaches is better than the cutoff; and one whose gate word comes before the word is
     // worse.
     ensures bounds { IsTrue result → (a : Activation) (ps : List Cents) → IsReached market.now decisions.now a ps → welfare_of market.now a ≤ℤ cutoff.0 }
-    ensures earlier { IsTrue result → (a : Activation) (ps : List Cents) → IsReached market.now decisions.now a ps → ComesBefore (gate_word_of market.now a) (word_of word.now) → welfare_of market.now a ≤ℤ (cutoff.0 -ℤ pos 1) }
+    ensures earlier { IsTrue result → (a : Activation) (ps : List Cents) → IsReached market.now decisions.now a ps
+        → ComesBefore (gate_word_of market.now a) (word_of word.now) → welfare_of market.now a ≤ℤ (cutoff.0 -ℤ pos 1) }
 {
     let state = state_of(market, decisions);
     check_leaf_by(market, None, decisions, &state, leaf, cutoff, word)

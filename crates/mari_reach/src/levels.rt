@@ -104,7 +104,8 @@ impl Levels {
     /// The quantity at which a plain order is worth most.
     fn quantity(&self, order: &Order) -> u32
         requires { order.now.zone < MOST_ZONES }
-        ensures value { result ≡ (if runs_at order.now.side order.now.price.0 (int_at self.now.injects order.now.zone) (int_at self.now.withdraws order.now.zone) then order.now.greatest else 0) }
+        ensures value { result ≡ (if runs_at order.now.side order.now.price.0 (int_at self.now.injects order.now.zone)
+            (int_at self.now.withdraws order.now.zone) then order.now.greatest else 0) }
         ensures most { result ≤ order.now.greatest }
     {
         let runs = match order.side {

@@ -43,6 +43,13 @@ impl Marks {
         }
     }
 
+    /// Takes all marks away.
+    pub(crate) fn clear(&mut self)
+        ensures { (g : ℕ) → opens_in self.new g ≡ false }
+    {
+        self.marks = [false; MOST_GATES];
+    }
+
     /// Marks a gate.
     pub fn mark(&mut self, gate: u32)
         requires { gate < MOST_GATES }

@@ -33,16 +33,22 @@ fn next_price(price: Cents) -> Cents
 
 impl PriceBox {
     /// Every price within the cap.
-    fn whole() -> PriceBox
-        ensures low { (z : ℕ) → z < MOST_ZONES → int_at result.low z ≡ neg_ℤ CAP }
-        ensures high { (z : ℕ) → z < MOST_ZONES → int_at result.high z ≡ CAP }
-        ensures low_kept { (z : ℕ) → neg_ℤ CAP ≤ℤ int_at result.low z }
-        ensures high_kept { (z : ℕ) → int_at result.high z ≤ℤ CAP }
-    {
+    pub(crate) fn whole() -> PriceBox {
         PriceBox {
             low: [-CAP; MOST_ZONES],
             high: [CAP; MOST_ZONES],
         }
+    }
+
+    /// Leaves every price within the cap.
+    fn widen(&mut self)
+        ensures low { (z : ℕ) → z < MOST_ZONES → int_at self.new.low z ≡ neg_ℤ CAP }
+        ensures high { (z : ℕ) → z < MOST_ZONES → int_at self.new.high z ≡ CAP }
+        ensures low_kept { (z : ℕ) → neg_ℤ CAP ≤ℤ int_at self.new.low z }
+        ensures high_kept { (z : ℕ) → int_at self.new.high z ≤ℤ CAP }
+    {
+        self.low = [-CAP; MOST_ZONES];
+        self.high = [CAP; MOST_ZONES];
     }
 
     /// Leaves out the prices at which an order of an open gate would lose.
@@ -101,40 +107,39 @@ impl PriceBox {
         }
     }
 
-    /// The prices that decisions allow.
-    fn said(market: &Market, decisions: &[Decision]) -> PriceBox
+    /// Leaves the prices that decisions allow.
+    fn heed_all(&mut self, market: &Market, decisions: &[Decision])
         requires market { IsValid market.now }
         requires decisions { AreDecisions market.now decisions.now }
-        ensures low { (z : ℕ) → z < MOST_ZONES → int_at result.low z ≡ low_said decisions.now z }
-        ensures high { (z : ℕ) → z < MOST_ZONES → int_at result.high z ≡ high_said decisions.now z }
-        ensures low_kept { (z : ℕ) → neg_ℤ CAP ≤ℤ int_at result.low z }
-        ensures high_kept { (z : ℕ) → int_at result.high z ≤ℤ CAP }
+        ensures low { (z : ℕ) → z < MOST_ZONES → int_at self.new.low z ≡ low_said decisions.now z }
+        ensures high { (z : ℕ) → z < MOST_ZONES → int_at self.new.high z ≡ high_said decisions.now z }
+        ensures low_kept { (z : ℕ) → neg_ℤ CAP ≤ℤ int_at self.new.low z }
+        ensures high_kept { (z : ℕ) → int_at self.new.high z ≤ℤ CAP }
     {
-        let mut prices = PriceBox::whole();
+        self.widen();
         for decision in decisions {
-            prices.heed(market, decision);
+            self.heed(market, decision);
         }
-        prices
     }
 
-    /// The prices that decisions allow and at which no order of an open gate would lose.
-    pub(crate) fn of(
+    /// Leaves the prices that decisions allow and at which no order of an open gate would lose.
+    pub(crate) fn set(
+        &mut self,
         market: &Market,
         opened: &Marks,
         decisions: &[Decision],
         orders: &[Order],
-    ) -> PriceBox
+    )
         requires market { IsValid market.now }
         requires decisions { AreDecisions market.now decisions.now }
         requires orders { All (λ o. o.zone < MOST_ZONES) orders.now }
-        ensures low { (z : ℕ) → z < MOST_ZONES → int_at result.low z ≡ low_by (opens_in opened.now) decisions.now orders.now z }
-        ensures high { (z : ℕ) → z < MOST_ZONES → int_at result.high z ≡ high_by (opens_in opened.now) decisions.now orders.now z }
+        ensures low { (z : ℕ) → z < MOST_ZONES → int_at self.new.low z ≡ low_by (opens_in opened.now) decisions.now orders.now z }
+        ensures high { (z : ℕ) → z < MOST_ZONES → int_at self.new.high z ≡ high_by (opens_in opened.now) decisions.now orders.now z }
     {
-        let mut prices = PriceBox::said(market, decisions);
+        self.heed_all(market, decisions);
         for order in orders {
-            prices.narrow(opened, order);
+            self.narrow(opened, order);
         }
-        prices
     }
 
     /// Whether an order gains at all prices of its zone.

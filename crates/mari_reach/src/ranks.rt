@@ -109,7 +109,8 @@ impl Lone {
     /// Takes an order as its gate's only one, or takes away what was taken as that.
     fn add_to(&mut self, seen: &mut Marks, gate: u32, order: &Order)
         requires { gate < MOST_GATES }
-        ensures orders { (g : ℕ) → lone_in self.new g ≡ (if is_gate g (Some gate) then (if opens_in seen.old gate then None else Some order.now) else lone_in self.old g) }
+        ensures orders { (g : ℕ)
+            → lone_in self.new g ≡ (if is_gate g (Some gate) then (if opens_in seen.old gate then None else Some order.now) else lone_in self.old g) }
         ensures seen { (g : ℕ) → opens_in seen.new g ≡ (opens_in seen.old g || is_gate g (Some gate)) }
     {
         self.orders[gate as usize] = if seen.has(gate) { None } else { Some(*order) };
@@ -119,7 +120,8 @@ impl Lone {
     /// Does the same with an order of any gate or of none.
     fn add(&mut self, seen: &mut Marks, order: &Order)
         requires { IsValidOrder MOST_ZONES MOST_GATES order.now }
-        ensures orders { (g : ℕ) → lone_in self.new g ≡ (if is_gate g order.now.gate then (if opens_in seen.old g then None else Some order.now) else lone_in self.old g) }
+        ensures orders { (g : ℕ)
+            → lone_in self.new g ≡ (if is_gate g order.now.gate then (if opens_in seen.old g then None else Some order.now) else lone_in self.old g) }
         ensures seen { (g : ℕ) → opens_in seen.new g ≡ (opens_in seen.old g || is_gate g order.now.gate) }
     {
         if let Some(gate) = order.gate {

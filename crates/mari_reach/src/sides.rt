@@ -47,7 +47,8 @@ impl Ladders {
         requires ladders { AreLaddersOf market.now self.now }
         requires one_each { length potentials.now ≡ market.now.zones }
         requires potentials { All IsCapped potentials.now }
-        ensures value { (r : StateRecord) → HasLevels r potentials.now levels.now → result ≡ int_sum (best_order (span_in r) potentials.now) (filter is_plain market.now.orders) }
+        ensures value { (r : StateRecord) → HasLevels r potentials.now levels.now
+            → result ≡ int_sum (best_order (span_in r) potentials.now) (filter is_plain market.now.orders) }
         ensures low { neg_ℤ (pos (4 * (MOST_WORTH * MOST_ORDERS) * MOST_ZONES)) ≤ℤ result }
         ensures high { result ≤ℤ pos (4 * (MOST_WORTH * MOST_ORDERS) * MOST_ZONES) }
     {

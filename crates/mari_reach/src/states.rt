@@ -11,7 +11,7 @@ ghost use Rattle.mari_reach.specs.State.{bounds_in, flows_in, gate_span, plain_s
 ghost use Rattle.mari_reach.specs.Values.{is_void_by};
 ghost use Rattle.mari_reach.specs.Tables.{IsStateOf, IsTwinsOf, SpeaksFor, falls_in, flow_in, is_priceless, is_torn, rises_in, span_in, state_in};
 
-use crate::closing::{opened_by, shut_by, shut_themselves};
+use crate::closing::{close_all_below, set_opened, set_shut};
 use crate::decisions::Decision;
 use crate::marks::Marks;
 use crate::prices::PriceBox;
@@ -30,28 +30,42 @@ pub struct State {
     pub prices: PriceBox,
 }
 
-/// What decisions leave, by orders among which are all of a gate, and by the market's twins.
-pub(crate) fn state_by(
-    market: &Market,
-    orders: &[Order],
-    twins: &Twins,
-    decisions: &[Decision],
-) -> State
-    requires market { IsValid market.now }
-    requires orders { SpeaksFor market.now orders.now }
-    requires twins { IsTwinsOf market.now twins.now }
-    requires decisions { AreDecisions market.now decisions.now }
-    ensures { IsStateOf market.now decisions.now result }
-{
-    let gates = market.gates.as_slice();
-    let opened = opened_by(market, twins, decisions);
-    let prices = PriceBox::of(market, &opened, decisions, orders);
-    let own = shut_themselves(market, orders, twins, decisions, &opened, &prices);
-    let shut = shut_by(gates, own);
-    State {
-        opened,
-        shut,
-        prices,
+impl State {
+    /// Every gate free and every price left, whatever the market.
+    pub(crate) fn whole() -> State {
+        State {
+            opened: Marks::none(),
+            shut: Marks::none(),
+            prices: PriceBox::whole(),
+        }
+    }
+
+    /// Makes it what decisions leave, by orders among which are all of a gate, and by the market's twins.
+    pub(crate) fn set(
+        &mut self,
+        market: &Market,
+        orders: &[Order],
+        twins: &Twins,
+        decisions: &[Decision],
+    )
+        requires market { IsValid market.now }
+        requires orders { SpeaksFor market.now orders.now }
+        requires twins { IsTwinsOf market.now twins.now }
+        requires decisions { AreDecisions market.now decisions.now }
+        ensures { IsStateOf market.now decisions.now self.new }
+    {
+        set_opened(&mut self.opened, market, twins, decisions);
+        self.prices.set(market, &self.opened, decisions, orders);
+        set_shut(
+            &mut self.shut,
+            market,
+            orders,
+            twins,
+            decisions,
+            &self.opened,
+            &self.prices,
+        );
+        close_all_below(&mut self.shut, market.gates.as_slice());
     }
 }
 
@@ -62,7 +76,9 @@ pub fn state_of(market: &Market, decisions: &[Decision]) -> State
     ensures { IsStateOf market.now decisions.now result }
 {
     let twins = Twins::of_few_states(market);
-    state_by(market, market.orders.as_slice(), &twins, decisions)
+    let mut state = State::whole();
+    state.set(market, market.orders.as_slice(), &twins, decisions);
+    state
 }
 
 /// A plain order's least and greatest quantity, in MW.
@@ -100,8 +116,10 @@ impl State {
         ensures greatest { result.1 ≡ (span_in self.now order.now).hi }
 
         // They are the order's bounds in the state that the tables are of.
-        ensures least_there { (m : Market) (ds : List Decision) → IsStateOf m ds self.now → IsValidOrder m.zones (length m.gates) order.now → result.0 ≡ (bounds_in m ds order.now).lo }
-        ensures greatest_there { (m : Market) (ds : List Decision) → IsStateOf m ds self.now → IsValidOrder m.zones (length m.gates) order.now → result.1 ≡ (bounds_in m ds order.now).hi }
+        ensures least_there { (m : Market) (ds : List Decision) → IsStateOf m ds self.now
+            → IsValidOrder m.zones (length m.gates) order.now → result.0 ≡ (bounds_in m ds order.now).lo }
+        ensures greatest_there { (m : Market) (ds : List Decision) → IsStateOf m ds self.now
+            → IsValidOrder m.zones (length m.gates) order.now → result.1 ≡ (bounds_in m ds order.now).hi }
     {
         let gains = self.prices.gains(order);
         match order.gate {
@@ -186,8 +204,10 @@ impl State {
         ensures back { result.1 ≡ (flow_in self.now border.now).back }
 
         // They are the border's bounds in the state that the tables are of.
-        ensures limit_there { (m : Market) (ds : List Decision) → IsStateOf m ds self.now → IsValidBorder m.zones border.now → result.0 ≡ (flows_in m ds border.now).limit }
-        ensures back_there { (m : Market) (ds : List Decision) → IsStateOf m ds self.now → IsValidBorder m.zones border.now → result.1 ≡ (flows_in m ds border.now).back }
+        ensures limit_there { (m : Market) (ds : List Decision) → IsStateOf m ds self.now → IsValidBorder m.zones border.now
+            → result.0 ≡ (flows_in m ds border.now).limit }
+        ensures back_there { (m : Market) (ds : List Decision) → IsStateOf m ds self.now → IsValidBorder m.zones border.now
+            → result.1 ≡ (flows_in m ds border.now).back }
 
         // They are small enough to be summed.
         ensures low { neg_ℤ (pos MOST_FLOW) ≤ℤ result.0 }

@@ -9,7 +9,7 @@ use crate::decisions::Decision;
 use crate::gated::gated_orders;
 use crate::ranks::Twins;
 use crate::sides::Ladders;
-use crate::states::{State, state_by};
+use crate::states::State;
 use mari_market::{Market, Order};
 use mari_proofs::FEW_ITEMS;
 use mari_units::Memory;
@@ -18,9 +18,11 @@ use std::alloc::Global;
 /// The orders of a market's gates, the others by ladders, and which gates are twins.
 #[derive(Drop)]
 pub(crate) struct Survey {
+    /// The orders of gates.
     pub(crate) gated: Vec<Order>,
-    /// None where few leaves are tested, which pays for no ladders.
+    /// The ladders of the other orders, if so many items are tested that they save more than they cost.
     pub(crate) ladders: Option<Ladders>,
+    /// Which gates are twins.
     pub(crate) twins: Twins,
 }
 
@@ -51,13 +53,13 @@ impl Survey {
         })
     }
 
-    /// What decisions leave.
-    pub(crate) fn state(&self, market: &Market, decisions: &[Decision]) -> State
+    /// Makes a state what decisions leave.
+    pub(crate) fn set(&self, state: &mut State, market: &Market, decisions: &[Decision])
         requires market { IsValid market.now }
         requires survey { IsSurveyOf market.now self.now }
         requires decisions { AreDecisions market.now decisions.now }
-        ensures { IsStateOf market.now decisions.now result }
+        ensures { IsStateOf market.now decisions.now state.new }
     {
-        state_by(market, self.gated.as_slice(), &self.twins, decisions)
+        state.set(market, self.gated.as_slice(), &self.twins, decisions);
     }
 }

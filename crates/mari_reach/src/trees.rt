@@ -12,6 +12,7 @@ ghost use Rattle.mari_reach.specs.Places.{IsReachVerdict};
 ghost use Rattle.mari_reach.specs.Tree.{HasShape, ReachHolds};
 
 use crate::decisions::ReachItem;
+use crate::states::State;
 use crate::survey::Survey;
 use crate::walk::Walk;
 use mari_market::{Market, Prefix};
@@ -34,10 +35,14 @@ fn walk(
 {
     let survey = Survey::of(alloc, market, tree.len())?;
     let mut walk = Walk::start(alloc);
+    let mut state = State::whole();
     let mut false_leaf = None;
     for (place, item) in tree.iter().enumerate() {
-        false_leaf = walk.first_false(market, &survey, false_leaf, place, item, cutoff, word);
-        if !walk.take(market, &survey, item)? {
+        survey.set(&mut state, market, walk.path.as_slice());
+        false_leaf = walk.first_false(
+            market, &survey, &state, false_leaf, place, item, cutoff, word,
+        );
+        if !walk.take(market, &state, item)? {
             return Ok(TreeVerdict::BadShape(place));
         }
     }
@@ -74,12 +79,15 @@ pub fn check_tree(
 
     // A tree that holds bounds every admissible welfare, so that an activation which reaches the cutoff is optimal.
     ensures bounds { result ≡ Ok TreeVerdict.Holds → (a : Activation) → IsAdmissible market.now a → welfare_of market.now a ≤ℤ cutoff.0 }
-    ensures optimal { result ≡ Ok TreeVerdict.Holds → (a : Activation) → IsAdmissible market.now a → welfare_of market.now a ≡ cutoff.0 → IsOptimal market.now a }
+    ensures optimal { result ≡ Ok TreeVerdict.Holds → (a : Activation) → IsAdmissible market.now a
+        → welfare_of market.now a ≡ cutoff.0 → IsOptimal market.now a }
 
     // Gate words that come before the word have less welfare, so an activation of the word which reaches the cutoff is
     // the first.
-    ensures earlier { result ≡ Ok TreeVerdict.Holds → (a : Activation) → IsAdmissible market.now a → ComesBefore (gate_word_of market.now a) (word_of word.now) → welfare_of market.now a ≤ℤ (cutoff.0 -ℤ pos 1) }
-    ensures first { result ≡ Ok TreeVerdict.Holds → (a : Activation) → IsAdmissible market.now a → welfare_of market.now a ≡ cutoff.0 → gate_word_of market.now a ≡ word_of word.now → IsFirst market.now a }
+    ensures earlier { result ≡ Ok TreeVerdict.Holds → (a : Activation) → IsAdmissible market.now a
+        → ComesBefore (gate_word_of market.now a) (word_of word.now) → welfare_of market.now a ≤ℤ (cutoff.0 -ℤ pos 1) }
+    ensures first { result ≡ Ok TreeVerdict.Holds → (a : Activation) → IsAdmissible market.now a
+        → welfare_of market.now a ≡ cutoff.0 → gate_word_of market.now a ≡ word_of word.now → IsFirst market.now a }
 {
     walk(alloc, market, tree, cutoff, word)
 }

@@ -105,24 +105,26 @@ impl Walk {
         &self,
         market: &Market,
         survey: &Survey,
+        state: &State,
         item: &ReachItem,
         cutoff: Quarters,
         word: &Prefix,
     ) -> bool
         requires market { IsValid market.now }
         requires survey { IsSurveyOf market.now survey.now }
-        requires decisions { AreDecisions market.now self.now.path.items }
+        requires state { IsStateOf market.now self.now.path.items state.now }
         requires full { word.now.length ≡ length market.now.gates }
-        ensures fails { IsTrue result → LeafFails market.now (ReachLeafHolds market.now cutoff.0 (word_of word.now)) (states_left self.now.is_left self.now.path.items) (item.now ∷ []) }
-        ensures fits { result ≡ false → LeafFits market.now (ReachLeafHolds market.now cutoff.0 (word_of word.now)) (states_left self.now.is_left self.now.path.items) (item.now ∷ []) }
+        ensures fails { IsTrue result
+            → LeafFails market.now (ReachLeafHolds market.now cutoff.0 (word_of word.now)) (states_left self.now.is_left self.now.path.items) (item.now ∷ []) }
+        ensures fits { result ≡ false
+            → LeafFits market.now (ReachLeafHolds market.now cutoff.0 (word_of word.now)) (states_left self.now.is_left self.now.path.items) (item.now ∷ []) }
     {
         match item {
             ReachItem::Branch(_) => false,
             ReachItem::Leaf(leaf) => {
                 let decisions = self.path.as_slice();
-                let state = survey.state(market, decisions);
                 self.is_left
-                    && !check_leaf_by(market, Some(survey), decisions, &state, leaf, cutoff, word)
+                    && !check_leaf_by(market, Some(survey), decisions, state, leaf, cutoff, word)
             }
         }
     }
@@ -132,6 +134,7 @@ impl Walk {
         &self,
         market: &Market,
         survey: &Survey,
+        state: &State,
         found: Option<usize>,
         place: usize,
         item: &ReachItem,
@@ -140,15 +143,18 @@ impl Walk {
     ) -> Option<usize>
         requires market { IsValid market.now }
         requires survey { IsSurveyOf market.now survey.now }
-        requires decisions { AreDecisions market.now self.now.path.items }
+        requires state { IsStateOf market.now self.now.path.items state.now }
         requires full { word.now.length ≡ length market.now.gates }
         ensures kept { IfSome found (λ p. result ≡ Some p) }
-        ensures looked { found ≡ None → MatchOption result (LeafFits market.now (ReachLeafHolds market.now cutoff.0 (word_of word.now)) (states_left self.now.is_left self.now.path.items) (item.now ∷ [])) (λ p. (p ≡ place) × LeafFails market.now (ReachLeafHolds market.now cutoff.0 (word_of word.now)) (states_left self.now.is_left self.now.path.items) (item.now ∷ [])) }
+        ensures looked { found ≡ None → MatchOption result
+            (LeafFits market.now (ReachLeafHolds market.now cutoff.0 (word_of word.now)) (states_left self.now.is_left self.now.path.items) (item.now ∷ []))
+            (λ p. (p ≡ place) × LeafFails market.now (ReachLeafHolds market.now cutoff.0 (word_of word.now))
+            (states_left self.now.is_left self.now.path.items) (item.now ∷ [])) }
     {
         if found.is_some() {
             return found;
         }
-        if self.is_false(market, survey, item, cutoff, word) {
+        if self.is_false(market, survey, state, item, cutoff, word) {
             Some(place)
         } else {
             None
@@ -159,20 +165,19 @@ impl Walk {
     fn take_branch(
         &mut self,
         market: &Market,
-        survey: &Survey,
+        state: &State,
         choice: Choice,
     ) -> Result<bool, Memory>
         requires market { IsValid market.now }
-        requires survey { IsSurveyOf market.now survey.now }
+        requires state { IsStateOf market.now self.old.path.items state.now }
         requires decisions { AreDecisions market.now self.old.path.items }
         requires left { IsTrue self.old.is_left }
-        ensures fits { IfOk result (λ b. IsTrue b → LeavesStates market.now AnyLeaf (states_left self.old.is_left self.old.path.items) (ReachItem.Branch choice ∷ []) (states_left self.new.is_left self.new.path.items)) }
+        ensures fits { IfOk result (λ b. IsTrue b → LeavesStates market.now AnyLeaf
+            (states_left self.old.is_left self.old.path.items) (ReachItem.Branch choice ∷ []) (states_left self.new.is_left self.new.path.items)) }
         ensures fails { IfOk result (λ b. b ≡ false → ShapeFails market.now (states_left self.old.is_left self.old.path.items) (ReachItem.Branch choice ∷ [])) }
         ensures decisions { OnOk result (AreDecisions market.now self.new.path.items) }
     {
-        let decisions = self.path.as_slice();
-        let state = survey.state(market, decisions);
-        if !may_branch(market, decisions, &state, choice) {
+        if !may_branch(market, self.path.as_slice(), state, choice) {
             return Ok(false);
         }
         self.path.push(choice.first())?;
@@ -184,13 +189,14 @@ impl Walk {
     pub(crate) fn take(
         &mut self,
         market: &Market,
-        survey: &Survey,
+        state: &State,
         item: &ReachItem,
     ) -> Result<bool, Memory>
         requires market { IsValid market.now }
-        requires survey { IsSurveyOf market.now survey.now }
+        requires state { IsStateOf market.now self.old.path.items state.now }
         requires decisions { AreDecisions market.now self.old.path.items }
-        ensures fits { IfOk result (λ b. IsTrue b → LeavesStates market.now AnyLeaf (states_left self.old.is_left self.old.path.items) (item.now ∷ []) (states_left self.new.is_left self.new.path.items)) }
+        ensures fits { IfOk result (λ b. IsTrue b → LeavesStates market.now AnyLeaf
+            (states_left self.old.is_left self.old.path.items) (item.now ∷ []) (states_left self.new.is_left self.new.path.items)) }
         ensures fails { IfOk result (λ b. b ≡ false → ShapeFails market.now (states_left self.old.is_left self.old.path.items) (item.now ∷ [])) }
         ensures decisions { OnOk result (AreDecisions market.now self.new.path.items) }
     {
@@ -198,7 +204,7 @@ impl Walk {
             return Ok(false);
         }
         match item {
-            ReachItem::Branch(choice) => self.take_branch(market, survey, *choice),
+            ReachItem::Branch(choice) => self.take_branch(market, state, *choice),
             ReachItem::Leaf(_) => {
                 self.is_left = go_on(&mut self.path)?;
                 Ok(true)

@@ -11,7 +11,8 @@ returns-then-not-may_have c = λ g l.
     let m = c.args.market.now in
     let t = c.args.twins.now in
     stays (opens_in c.args.marks.now g) (outranks m g c.args.gate)
-    (sym (same_outranks m t.lone g c.args.gate c.requires.twins.lone l c.requires.there) ∙ none_above m t g c.args.gate c.requires.twins l c.requires.there (sym c.may_have.ensures ∙ c.if-not-may_have.true))
+    (sym (same_outranks m t.lone g c.args.gate c.requires.twins.lone l c.requires.there)
+    ∙ none_above m t g c.args.gate c.requires.twins l c.requires.there (sym c.may_have.ensures ∙ c.if-not-may_have.true))
 
 pub loop-other-preserved : goal.loop-other-preserved
 loop-other-preserved c = record {

@@ -11,7 +11,8 @@ returns-then-not-may_have c = λ g l.
     let m = c.args.market.now in
     let t = c.args.twins.now in
     stays (opens_in c.args.marks.now g) (outranks m c.args.gate g)
-    (sym (same_outranks m t.lone c.args.gate g c.requires.twins.lone c.requires.there l) ∙ none_below m t c.args.gate g c.requires.twins c.requires.there l (sym c.may_have.ensures ∙ c.if-not-may_have.true))
+    (sym (same_outranks m t.lone c.args.gate g c.requires.twins.lone c.requires.there l)
+    ∙ none_below m t c.args.gate g c.requires.twins c.requires.there l (sym c.may_have.ensures ∙ c.if-not-may_have.true))
 
 pub loop-other-preserved : goal.loop-other-preserved
 loop-other-preserved c = record {

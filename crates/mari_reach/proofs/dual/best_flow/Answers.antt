@@ -17,5 +17,6 @@ returns-then-falls-clause-value c =
     let gap_fits : FitsSigned w64 c.excess-then-falls.result = search rules in
     let fits : FitsSigned w64 c.amount-then-falls.result = search rules in
     to_z-of_z fits
-    ∙ earns_falling c.args.state.now c.args.potentials.now c.args.border.now c.amount-then-falls.result c.excess-then-falls.result (sym c.rises.ensures ∙ c.if-rises.false) (sym c.falls.ensures ∙ c.if-falls.true)
+    ∙ earns_falling c.args.state.now c.args.potentials.now c.args.border.now c.amount-then-falls.result c.excess-then-falls.result (sym c.rises.ensures ∙ c.if-rises.false)
+    (sym c.falls.ensures ∙ c.if-falls.true)
     (omega (arith, ints, c.excess-then-falls.ensures.value, c.potential_at-from.ensures.value, c.potential_at-to.ensures.value)) (rw (to_z-of_z gap_fits) at c.amount-then-falls.ensures.value)

@@ -7,7 +7,8 @@ use Rattle.mari_reach.proofs.dual.borders_value.Goals as goal
 
 pub loop-border-preserved : goal.loop-border-preserved
 loop-border-preserved c = record {
-  sum = sum_step (best_flow (flow_in c.args.state.now) c.args.potentials.now) c.args.borders.now c.loop-border.border-index _ _ _ _ c.loop-border-test.true c.loop-border.invariant.sum c.best_flow-total.ensures.value (omega (arith, ints));
+  sum = sum_step (best_flow (flow_in c.args.state.now) c.args.potentials.now) c.args.borders.now c.loop-border.border-index _ _ _ _ c.loop-border-test.true
+      c.loop-border.invariant.sum c.best_flow-total.ensures.value (omega (arith, ints));
   low = omega (arith, ints);
   high = omega (arith, ints);
 }

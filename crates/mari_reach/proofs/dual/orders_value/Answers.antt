@@ -7,7 +7,8 @@ use Rattle.mari_reach.proofs.dual.orders_value.Goals as goal
 
 pub loop-order-preserved : goal.loop-order-preserved
 loop-order-preserved c = record {
-  sum = sum_step (best_order (span_in c.args.state.now) c.args.potentials.now) c.args.orders.now c.loop-order.order-index _ _ _ _ c.loop-order-test.true c.loop-order.invariant.sum c.order_value-total.ensures.value (omega (arith, ints));
+  sum = sum_step (best_order (span_in c.args.state.now) c.args.potentials.now) c.args.orders.now c.loop-order.order-index _ _ _ _ c.loop-order-test.true c.loop-order.invariant.sum
+      c.order_value-total.ensures.value (omega (arith, ints));
   low = omega (arith, ints);
   high = omega (arith, ints);
 }

@@ -29,5 +29,7 @@ returns c =
     let b = c.borders_value.result in
     let plain : p ≡ int_sum f (filter is_plain m.orders) = c.gain.ensures.value c.args.state.now c.of-levels.ensures in
     let sum : p +ℤ g ≡ int_sum f m.orders = split_sum f m.orders (filter is_plain m.orders) c.args.gated.now p g refl c.requires.gated plain c.orders_value.ensures.value in
-    let borders : b ≡ int_sum (best_flow (flow_in c.args.state.now) c.args.potentials.now) m.borders = c.borders_value.ensures.value ∙ ap (int_sum (best_flow (flow_in c.args.state.now) c.args.potentials.now)) c.as_slice.ensures in
-    sum_of_three p g b (int_sum f m.orders) (int_sum (best_flow (flow_in c.args.state.now) c.args.potentials.now) m.borders) c.gain.ensures.low c.gain.ensures.high c.orders_value.ensures.low c.orders_value.ensures.high c.borders_value.ensures.low c.borders_value.ensures.high sum borders
+    let borders : b ≡ int_sum (best_flow (flow_in c.args.state.now) c.args.potentials.now) m.borders = c.borders_value.ensures.value
+    ∙ ap (int_sum (best_flow (flow_in c.args.state.now) c.args.potentials.now)) c.as_slice.ensures in
+    sum_of_three p g b (int_sum f m.orders) (int_sum (best_flow (flow_in c.args.state.now) c.args.potentials.now) m.borders) c.gain.ensures.low c.gain.ensures.high
+    c.orders_value.ensures.low c.orders_value.ensures.high c.borders_value.ensures.low c.borders_value.ensures.high sum borders

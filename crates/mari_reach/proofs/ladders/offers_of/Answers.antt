@@ -19,11 +19,13 @@ loop-order-preserved c = elim c.match-offer_of.branch [
       let is : offer_of c.args.side (get_or c.args.market.now.orders c.loop-order.order-index no_order) ≡ Some w.in-Some.offer = sym read ∙ sym c.offer_of.ensures ∙ w.in-Some.is in
       let new : c.match-offer_of.offers.items ≡ c.loop-order.offers.items ++ w.in-Some.offer ∷ [] = ap (λ (v : Vec Offer Global). v.items) w.offers-is ∙ w.in_ok-push.ensures.items in
       let fine : IsOffer c.args.market.now.zones w.in-Some.offer =
-      is_offer c.args.market.now.zones (length c.args.market.now.gates) c.args.side (get_or c.args.market.now.orders c.loop-order.order-index no_order) w.in-Some.offer (c.requires.market.orders c.loop-order.order-index no_order there) is in
+      is_offer c.args.market.now.zones (length c.args.market.now.gates) c.args.side (get_or c.args.market.now.orders c.loop-order.order-index no_order) w.in-Some.offer
+      (c.requires.market.orders c.loop-order.order-index no_order there) is in
       record {
         few = omega (arith, c.loop-order.invariant.few, ap length new, length-append c.loop-order.offers.items (w.in-Some.offer ∷ []));
         offers = subst (All (IsOffer c.args.market.now.zones)) (sym new) (All-push (IsOffer c.args.market.now.zones) c.loop-order.offers.items w.in-Some.offer c.loop-order.invariant.offers fine);
-        once = offers_take c.args.side c.args.market.now.orders c.loop-order.order-index no_order c.loop-order.offers.items c.match-offer_of.offers.items w.in-Some.offer there is new c.loop-order.invariant.once;
+        once = offers_take c.args.side c.args.market.now.orders c.loop-order.order-index no_order c.loop-order.offers.items c.match-offer_of.offers.items w.in-Some.offer there is
+            new c.loop-order.invariant.once;
       }
   | in_default w ↦
       let there : c.loop-order.order-index < length c.args.market.now.orders = omega (arith, c.loop-order-test.true, ap (λ (os : List Order). length os) c.as_slice-order-items.ensures) in

@@ -21,5 +21,6 @@ loop-offer-preserved c =
     record {
       long = omega (arith, ap (λ (s : List Sums). length s) pushed, length-append old (c.with-last.result ∷ []), c.loop-offer.invariant.long);
       last = last;
-      sums = λ k d l. subst (λ (s : List Sums). AreSumsOf (take k xs) (get_or s k d)) (sym pushed) (sums_push xs i old c.with-last.result c.loop-offer.invariant.long last c.loop-offer.invariant.sums k d l);
+      sums = λ k d l. subst (λ (s : List Sums). AreSumsOf (take k xs) (get_or s k d)) (sym pushed)
+          (sums_push xs i old c.with-last.result c.loop-offer.invariant.long last c.loop-offer.invariant.sums k d l);
     }

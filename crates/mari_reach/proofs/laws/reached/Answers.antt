@@ -27,4 +27,5 @@ returns-clause-cut c = λ ds a ps cut r h.
     cut_has_none (bounds_in c.args.market.now ds) (flows_in c.args.market.now ds) c.args.market.now a cut.side cut.zones c.requires (within_bounds c.args.market.now ds a ps r) h.side
 
 pub returns-clause-dual : goal.returns-clause-dual
-returns-clause-dual c = λ ds a ps potentials r. weak_duality_within (bounds_in c.args.market.now ds) (flows_in c.args.market.now ds) c.args.market.now a potentials c.requires (within_bounds c.args.market.now ds a ps r)
+returns-clause-dual c = λ ds a ps potentials r. weak_duality_within (bounds_in c.args.market.now ds) (flows_in c.args.market.now ds) c.args.market.now a potentials c.requires
+    (within_bounds c.args.market.now ds a ps r)

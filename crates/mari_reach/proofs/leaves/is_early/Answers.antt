@@ -14,7 +14,8 @@ returns-then-needed-opens c =
     let here : c.loop-gate.gate < x.length = c.loop-gate-test.true in
     differs_at (needed_in m r ps) (word_of x) c.loop-gate.gate c.is_needed-needed.result c.opens.result _
     (λ g l. table_at m r ps g (omega (arith, c.requires.full)) ∙ c.loop-gate.invariant g l ∙ sym (prefix_at x x.length g refl (omega arith)))
-    (table_at m r ps c.loop-gate.gate (omega (arith, c.requires.full)) ∙ sym (c.is_needed-needed.ensures ∙ ap (λ (x : ℤ). opens_in r.opened c.loop-gate.gate || lt_z (pos 0) x) (c.of-gains.ensures c.loop-gate.gate)))
+    (table_at m r ps c.loop-gate.gate (omega (arith, c.requires.full))
+    ∙ sym (c.is_needed-needed.ensures ∙ ap (λ (x : ℤ). opens_in r.opened c.loop-gate.gate || lt_z (pos 0) x) (c.of-gains.ensures c.loop-gate.gate)))
     (prefix_at x x.length c.loop-gate.gate refl here ∙ sym c.opens.ensures) c.if-needed-opens.true refl
 
 pub returns : goal.returns

@@ -4,7 +4,11 @@ use Rattle.mari_reach.proofs.walk.may_branch.Goals as goal
 
 pub returns-then-not-is_void : goal.returns-then-not-is_void
 returns-then-not-is_void c = (
-  λ yes. record { live = (live_by c.args.market.now c.args.decisions.now c.args.state.now c.requires.state).0 (sym c.is_void.ensures.by_tables ∙ c.if-not-is_void.true); left = c.is_left.ensures.0 yes },
+  λ yes. record {
+    live = (live_by c.args.market.now c.args.decisions.now c.args.state.now c.requires.state).0
+        (sym c.is_void.ensures.by_tables ∙ c.if-not-is_void.true);
+    left = c.is_left.ensures.0 yes;
+  },
   λ b. c.is_left.ensures.1 b.left,
 )
 

@@ -24,7 +24,8 @@ loop-zone-preserved c =
     let new : to_z w64 (of_z w64 (to_z w64 c.loop-zone.total-bits +ℤ to_z w64 (of_z w64 c.gain_at-total.result))) ≡ to_z w64 c.loop-zone.total-bits +ℤ c.gain_at-total.result =
     omega (arith, ints, few, c.loop-zone.invariant.low, c.loop-zone.invariant.high, c.gain_at-total.ensures.low, c.gain_at-total.ensures.high) in
     record {
-      sum = below_step (λ (z : ℕ). int_sum (up_to (gain_at (level_of side (price_at ps z))) z (rung_of side (level_at levels side z))) xs) zone (to_z w64 c.loop-zone.total-bits) c.gain_at-total.result _
+      sum = below_step (λ (z : ℕ). int_sum (up_to (gain_at (level_of side (price_at ps z))) z (rung_of side (level_at levels side z))) xs) zone
+          (to_z w64 c.loop-zone.total-bits) c.gain_at-total.result _
           c.loop-zone.invariant.sum
           (c.gain_at-total.ensures.value
           ∙ ap (λ (x : ℤ). int_sum (up_to (gain_at (to_z w64 (of_z w64 c.price_on.result))) zone x) xs) level

@@ -17,7 +17,13 @@ sums_of-requires-clause-offers c = wide c.args.market.now.zones MOST_ZONES c.as_
 
 pub returns : goal.returns
 returns c =
-    let few : length c.as_slice.result.now ≤ MOST_ORDERS = omega (arith, c.in_ok-offers.ensures.few, ap (λ (xs : List Offer). length xs) c.as_slice.ensures.value, length_permutation _ _ c.sort_offers.ensures.same) in
+    let few : length c.as_slice.result.now ≤ MOST_ORDERS = omega (
+      arith,
+      c.in_ok-offers.ensures.few,
+      ap
+          (λ (xs : List Offer). length xs) c.as_slice.ensures.value,
+      length_permutation _ _ c.sort_offers.ensures.same,
+    ) in
     let fine : All (IsOffer c.args.market.now.zones) c.as_slice.result.now =
     subst (All (IsOffer c.args.market.now.zones)) (sym c.as_slice.ensures.value) (All-permutation (IsOffer c.args.market.now.zones) _ _ c.sort_offers.ensures.same c.in_ok-offers.ensures.offers) in
     ladder_is c.args.market.now c.args.side c.as_slice.result.now c.as_slice-2.result.now c.as_slice-3.result.now _

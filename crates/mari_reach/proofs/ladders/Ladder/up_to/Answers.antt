@@ -23,7 +23,8 @@ returns c =
     let level : FitsSigned w64 c.args.level = search rules in
     let fits : FitsSigned w64 c.place_of-place.result = search rules in
     let place : AreSumsBefore xs (place_of c.args.zone c.args.level) c.sums_before-sums.result =
-    sums_at xs c.as_slice.result.now _ _ c.sums_before-sums.result c.as_slice.ensures.value (to_z-of_z fits ∙ c.place_of-place.ensures ∙ ap (place_of c.args.zone) (to_z-of_z level)) c.sums_before-sums.ensures in
+    sums_at xs c.as_slice.result.now _ _ c.sums_before-sums.result c.as_slice.ensures.value
+    (to_z-of_z fits ∙ c.place_of-place.ensures ∙ ap (place_of c.args.zone) (to_z-of_z level)) c.sums_before-sums.ensures in
     let start : AreSumsBefore xs (place_of c.args.zone (neg_ℤ CAP)) c.index.result.now =
     subst (AreSumsBefore xs (place_of c.args.zone (neg_ℤ CAP))) (sym c.index.ensures) (l.starts c.args.zone c.index.result.now c.requires.zone) in
     let sums : AreSumsUpTo xs c.args.zone c.args.level c.without.result =

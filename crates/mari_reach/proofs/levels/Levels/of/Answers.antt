@@ -14,5 +14,6 @@ loop-zone-preserved c =
       injects = set_more (λ z. inject_below (price_at ps z) (int_at box.low z) (int_at box.high z)) (int_at c.loop-zone.levels.injects) (int_at c.set.new.self.injects) zone
           c.loop-zone.invariant.injects (c.set.ensures.injects ∙ ap (λ (p : ℤ). inject_below p (int_at box.low zone) (int_at box.high zone)) c.potential_at.ensures.value) c.set.ensures.other_injects;
       withdraws = set_more (λ z. withdraw_above (price_at ps z) (int_at box.low z) (int_at box.high z)) (int_at c.loop-zone.levels.withdraws) (int_at c.set.new.self.withdraws) zone
-          c.loop-zone.invariant.withdraws (c.set.ensures.withdraws ∙ ap (λ (p : ℤ). withdraw_above p (int_at box.low zone) (int_at box.high zone)) c.potential_at.ensures.value) c.set.ensures.other_withdraws;
+          c.loop-zone.invariant.withdraws (c.set.ensures.withdraws ∙ ap (λ (p : ℤ). withdraw_above p (int_at box.low zone) (int_at box.high zone)) c.potential_at.ensures.value)
+          c.set.ensures.other_withdraws;
     }

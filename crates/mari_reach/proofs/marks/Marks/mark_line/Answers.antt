@@ -10,6 +10,7 @@ pub loop-step-preserved : goal.loop-step-preserved
 loop-step-preserved c =
     let there : c.in-Some.at < length c.args.gates.now = some_there _ _ _ c.in-Some.is c.loop-step.invariant.there in
     record {
-      rest = λ g. marks_step c.args.gates.now (λ h. h == g) _ _ (opens_in c.args.self.now g) _ c.loop-step.step c.in-Some.at _ _ c.loop-step-test.true there c.in-Some.is (c.loop-step.invariant.rest g) (c.mark.ensures g);
+      rest = λ g. marks_step c.args.gates.now (λ h. h == g) _ _ (opens_in c.args.self.now g) _ c.loop-step.step c.in-Some.at _ _ c.loop-step-test.true there c.in-Some.is
+          (c.loop-step.invariant.rest g) (c.mark.ensures g);
       there = parent_there c.args.gates.now c.in-Some.at _ c.requires.earlier there;
     }

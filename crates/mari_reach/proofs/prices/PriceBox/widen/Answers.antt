@@ -2,7 +2,7 @@ use Rattle.std.proofs.Common.{arith, neg_ℤ}
 use Rattle.std.proofs.lemmas.Int.{ints}
 use Rattle.mari_units.specs.declared.numbers.TheConstants.{CAP}
 use Rattle.mari_reach.proofs.Ranges.{all_from, all_one, all_to}
-use Rattle.mari_reach.proofs.prices.PriceBox.whole.Goals as goal
+use Rattle.mari_reach.proofs.prices.PriceBox.widen.Goals as goal
 
 pub returns-clause-low : goal.returns-clause-low
 returns-clause-low c = λ z l. all_one 64 z (neg_ℤ CAP) l

@@ -12,7 +12,7 @@ use Rattle.mari_market.specs.declared.market.Market.{Market}
 use Rattle.mari_market.specs.Prefix.{children, may_open, child_words}
 use Rattle.mari_market.specs.SearchTree.{IsPromising, AreNodes}
 use Rattle.mari_core.specs.declared.node.NodeState.{NodeState}
-use Rattle.mari_core.specs.declared.node.NodeState.TheVariants.{Untaken, Taken, Branched, Closed}
+use Rattle.mari_core.specs.declared.node.NodeState.TheVariants.{Branched}
 use Rattle.mari_core.specs.Nodes.{TreeNode, new_node, in_state, words_of, state_at, child_numbers, numbers_below, children_of, branch_of}
 use Rattle.mari_core.specs.Preorder.{HasPreorder, occurs}
 use Rattle.mari_core.specs.Growth.{Grown, with_state, branched, is_branched, IsGrowth, IsCrowded, HasChildren, HasParent, HoldsAtCutoff}
@@ -28,12 +28,10 @@ abbrev own_numbers : ℕ → Bool → List ℕ
 own_numbers first may = first ∷ (if may then (first + 1) ∷ [] else [])
 
 numbers_made : (first : ℕ) (w : List Bool) (may : Bool) → child_numbers (branch_of first (child_words w may)) ≡ own_numbers first may
-numbers_made first w true = refl
-numbers_made first w false = refl
+numbers_made first w may = grind arith
 
 branches : (first : ℕ) (w : List Bool) (may : Bool) → is_branched (branch_of first (child_words w may)) ≡ true
-branches first w true = refl
-branches first w false = refl
+branches first w may = grind arith
 
 -- the nodes where the children of node x are made
 abbrev pub grown_by : List TreeNode → ℕ → List Bool → Bool → List TreeNode
@@ -58,15 +56,12 @@ length-grown_by nodes x w may =
 -- ---- children and parents
 
 get_first : {X : Type 0} (xs : List X) (y : X) (ys : List X) (k : ℕ) → k ≡ length xs → slice_get (xs ++ y ∷ ys) k ≡ Some y
-get_first [] y ys zero e = refl
-get_first [] y ys (suc k) e = absurd (omega arith)
-get_first (x ∷ xs) y ys zero e = absurd (omega arith)
 get_first (x ∷ xs) y ys (suc k) e = get_first xs y ys k (omega arith)
+get_first _ y ys _ e = grind arith
 
 get_second : {X : Type 0} (xs : List X) (y z : X) (k : ℕ) → k ≡ length xs + 1 → slice_get (xs ++ y ∷ z ∷ []) k ≡ Some z
-get_second [] y z k e = let one : k ≡ 1 = omega arith in ap (λ (i : ℕ). slice_get (y ∷ z ∷ []) i) one
-get_second (x ∷ xs) y z zero e = absurd (omega arith)
 get_second (x ∷ xs) y z (suc k) e = get_second xs y z k (omega arith)
+get_second _ y z _ e = grind arith
 
 made_children : (m : Market) (words : List (List Bool)) (w : List Bool) (first : ℕ) (may : Bool)
     → may_open m.gates w (length w) ≡ may → first ≡ length words → length w < length m.gates
@@ -86,20 +81,17 @@ made_children m words w first false e l u = (
 more_words : (words more : List (List Bool)) (numbers : List ℕ) (kids : List (List Bool))
     → map (λ x. slice_get words x) numbers ≡ map (λ v. Some v) kids
     → map (λ x. slice_get (words ++ more) x) numbers ≡ map (λ v. Some v) kids
-more_words words more [] kids e = e
-more_words words more (x ∷ xs) [] e = absurd (cc)
 more_words words more (x ∷ xs) (v ∷ vs) e =
     let here : slice_get words x ≡ Some v = cc in
     let rest : map (λ y. slice_get words y) xs ≡ map (λ u. Some u) vs = cc in
     let front : slice_get (words ++ more) x ≡ Some v = get_front words more x (slice_get_within words x v here) ∙ here in
     let back : map (λ y. slice_get (words ++ more) y) xs ≡ map (λ u. Some u) vs = more_words words more xs vs rest in
     cc
+more_words words more _ _ e = grind arith
 
 more_children : (m : Market) (words more : List (List Bool)) (w : List Bool) (s : NodeState) → HasChildren m words w s → HasChildren m (words ++ more) w s
-more_children m words more w Untaken h = tt
-more_children m words more w (Taken k) h = tt
 more_children m words more w (Branched closed opened) h = (h.0, more_words words more (child_numbers (Branched closed opened)) (children m.gates w) h.1)
-more_children m words more w (Closed leaf cutoff) h = tt
+more_children m words more w _ h = tt
 
 more_parents : (nodes more : List TreeNode) (w : List Bool) → (w ≡ []) ⊎ HasParent nodes w → (w ≡ []) ⊎ HasParent (nodes ++ more) w
 more_parents nodes more w (inl root) = inl root
@@ -119,9 +111,8 @@ all_new P w true h = All-cons P (new_node (w ++ false ∷ [])) (new_node (w ++ t
 -- ---- the preorder
 
 new_are_leaves : (ws : List (List Bool)) (k : ℕ) → numbers_below (state_at (map new_node ws) k) ≡ []
-new_are_leaves [] k = refl
-new_are_leaves (w ∷ ws) zero = refl
 new_are_leaves (w ∷ ws) (suc k) = new_are_leaves ws k
+new_are_leaves _ _ = refl
 
 option_of : (nodes : List TreeNode) (x : ℕ) (o : Option TreeNode) → slice_get nodes x ≡ o → children_of nodes x ≡ numbers_below (option_map (λ (n : TreeNode). n.state) o)
 option_of nodes x o e = ap (λ (p : Option TreeNode). numbers_below (option_map (λ (n : TreeNode). n.state) p)) e
@@ -164,12 +155,10 @@ new_leaves nodes x n w true e =
     )
 
 counted : (z first : ℕ) (w : List Bool) (may : Bool) → (if nat_lt z first then 1 else 0) + occurs z (own_numbers first may) ≡ (if nat_lt z (first + length (child_words w may)) then 1 else 0)
-counted z first w false = grind (arith, nat_tests)
-counted z first w true = grind (arith, nat_tests)
+counted z first w may = grind (arith, nat_tests)
 
 length-own_numbers : (first : ℕ) (w : List Bool) (may : Bool) → length (own_numbers first may) ≡ length (child_words w may)
-length-own_numbers first w true = refl
-length-own_numbers first w false = refl
+length-own_numbers first w may = grind arith
 
 is_there : (x n : ℕ) → x < n → suc zero ≡ (if nat_lt x n then 1 else 0)
 is_there x n l = grind (arith, nat_tests)
@@ -197,8 +186,7 @@ abbrev made_state : Grown → TreeNode → Bool → NodeState
 made_state g n may = branch_of (length g.nodes) (child_words n.word may)
 
 no_cutoff : (m : Market) (word : List Bool) (first : ℕ) (w : List Bool) (may : Bool) → HoldsAtCutoff m word (branch_of first (child_words w may))
-no_cutoff m word first w true = tt
-no_cutoff m word first w false = tt
+no_cutoff m word first w may = grind arith
 
 -- a node that could branch, but for the budget, isn't one that branches within it
 still_crowded : (g : Grown) (x : ℕ) (n : TreeNode) (may : Bool) → may_open g.market.gates n.word (length n.word) ≡ may

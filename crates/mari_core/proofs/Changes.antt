@@ -1,10 +1,9 @@
 -- What changes where a node gets another state.
-use Rattle.std.proofs.Common.{◌≡◌, ◌≢◌, ◌⊎◌, inl, inr, false, ℕ, List, [], length, Option, Some, None, refl, sym, ap, ◌∙◌}
+use Rattle.std.proofs.Common.{◌≡◌, ◌≢◌, ◌⊎◌, inl, inr, false, ℕ, List, [], length, Option, Some, refl, sym, ap, ◌∙◌, arith}
 use Rattle.std.specs.Prelude.{slice_get}
 use Rattle.std.specs.Option.{option_map}
 use Rattle.std.proofs.lemmas.Bool.{cases_eq}
 use Rattle.mari_core.specs.declared.node.NodeState.{NodeState}
-use Rattle.mari_core.specs.declared.node.NodeState.TheVariants.{Untaken, Taken, Branched, Closed}
 use Rattle.mari_core.specs.Nodes.{TreeNode, in_state, words_of, word_in, word_at, state_at, child_numbers, numbers_below, children_of}
 use Rattle.mari_core.specs.Growth.{with_state, is_branched}
 use Rattle.mari_core.proofs.Lists.{length-changed, map-changed, changed_same, changed_other}
@@ -25,8 +24,7 @@ pub node_at : (nodes : List TreeNode) (x : ℕ) (s : NodeState) → state_at nod
 node_at nodes x s e = by_node (slice_get nodes x) refl e
   where
     by_node : (o : Option TreeNode) → slice_get nodes x ≡ o → option_map (λ (n : TreeNode). n.state) o ≡ Some s → IsAt nodes x s
-    by_node None same h = absurd (cc)
-    by_node (Some n) same h = record { node = n; there = same; state_is = cc }
+    by_node o same h = grind arith
 
 pub state_of_node : (nodes : List TreeNode) (x : ℕ) (n : TreeNode) → slice_get nodes x ≡ Some n → state_at nodes x ≡ Some n.state
 state_of_node nodes x n e = ap (λ (o : Option TreeNode). option_map (λ (k : TreeNode). k.state) o) e
@@ -41,10 +39,7 @@ pub state_other : (s : NodeState) (nodes : List TreeNode) (x y : ℕ) → y ≢ 
 state_other s nodes x y n = ap (λ (o : Option TreeNode). option_map (λ (k : TreeNode). k.state) o) (changed_other (in_state s) nodes x y n)
 
 pub leaf_has_none : (s : NodeState) → is_branched s ≡ false → child_numbers s ≡ []
-leaf_has_none Untaken e = refl
-leaf_has_none (Taken k) e = refl
-leaf_has_none (Branched closed opened) e = absurd (cc)
-leaf_has_none (Closed leaf cutoff) e = refl
+leaf_has_none s e = grind arith
 
 -- a leaf that stays a leaf leaves all children as they were
 pub children_stay : (s : NodeState) (nodes : List TreeNode) (x : ℕ) (n : TreeNode) → slice_get nodes x ≡ Some n

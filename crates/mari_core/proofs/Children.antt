@@ -1,5 +1,5 @@
 -- The children of a leaf are new nodes of the search tree.
-use Rattle.std.proofs.Common.{◌≡◌, ◌≢◌, ◌⊎◌, inl, inr, Bool, true, false, ℕ, zero, suc, ◌<◌, ◌≤◌, List, [], ◌∷◌, ◌++◌, length, take, get_or, Option, Some, None, arith, refl, sym, ap, subst, ◌∙◌, append_assoc, length-append}
+use Rattle.std.proofs.Common.{◌≡◌, ◌≢◌, ◌⊎◌, inl, inr, Bool, true, false, ℕ, suc, ◌<◌, ◌≤◌, List, [], ◌∷◌, ◌++◌, length, take, get_or, Option, Some, None, arith, refl, sym, ap, subst, ◌∙◌, append_assoc, length-append}
 use Rattle.std.specs.Prelude.{slice_get, AllPairs}
 use Rattle.std.specs.List.{All}
 use Rattle.std.specs.Option.{option_map}
@@ -102,10 +102,8 @@ abbrev Distinct : List (List Bool) → Type 0
 Distinct words = AllPairs (λ (x y : List Bool). x ≢ y) words
 
 get_last : (xs : List (List Bool)) (y : List Bool) (k : ℕ) (e : List Bool) → k ≡ length xs → get_or (xs ++ y ∷ []) k e ≡ y
-get_last [] y zero e h = refl
-get_last [] y (suc k) e h = absurd (omega arith)
-get_last (x ∷ xs) y zero e h = absurd (omega arith)
 get_last (x ∷ xs) y (suc k) e h = get_last xs y k e (omega arith)
+get_last _ y _ e h = grind arith
 
 -- distinct words with the children of one of them, of which none is there yet
 distinct_with : (words : List (List Bool)) (w : List Bool) (may : Bool) → Distinct words

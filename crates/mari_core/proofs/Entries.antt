@@ -1,5 +1,5 @@
 -- Each entry that is allowed keeps what a growth keeps, and the least node that waits.
-use Rattle.std.proofs.Common.{◌≡◌, inl, inr, Bool, true, false, ℕ, zero, suc, ◌+◌, ◌<◌, ◌≤◌, ◌==◌, min, pos, if◌then◌else◌, List, [], ◌∷◌, ◌++◌, length, map, get_or, Option, Some, None, arith, refl, sym, ap, subst, ◌∙◌, length-append, append_assoc}
+use Rattle.std.proofs.Common.{◌≡◌, inl, inr, Bool, true, false, ℕ, suc, ◌+◌, ◌<◌, ◌≤◌, ◌==◌, min, pos, if◌then◌else◌, List, [], ◌∷◌, ◌++◌, length, map, get_or, Option, Some, None, arith, refl, sym, ap, subst, ◌∙◌, length-append, append_assoc}
 use Rattle.std.specs.Prelude.{nat_le}
 use Rattle.mari_market.specs.declared.prefix.Prefix.{Prefix}
 use Rattle.mari_core.specs.Growth.{settling_by}
@@ -29,22 +29,15 @@ use Rattle.mari_core.proofs.Branching.{branch_kept}
 -- ---- why a check lets pass
 
 pub take_passes : (o : Option NodeState) → take_refused o ≡ None → o ≡ Some Untaken
-take_passes None e = absurd (cc)
-take_passes (Some Untaken) e = refl
-take_passes (Some (Taken k)) e = absurd (cc)
-take_passes (Some (Branched closed opened)) e = absurd (cc)
-take_passes (Some (Closed leaf cutoff)) e = absurd (cc)
+take_passes o e = grind arith
 
 pub return_passes : (k : ℕ) (o : Option NodeState) → return_refused k o ≡ None → o ≡ Some (Taken k)
-return_passes k None e = absurd (cc)
-return_passes k (Some Untaken) e = absurd (cc)
 return_passes k (Some (Taken j)) e = by_test (j == k) refl e
   where
     by_test : (b : Bool) → (j == k) ≡ b → (if b then None else Some NotTaken) ≡ None → Some (Taken j) ≡ Some (Taken k)
     by_test true same h = ap (λ (i : ℕ). Some (Taken i)) (eqb-true j k same)
-    by_test false same h = absurd (cc)
-return_passes k (Some (Branched closed opened)) e = absurd (cc)
-return_passes k (Some (Closed leaf cutoff)) e = absurd (cc)
+    by_test false same h = absurd cc
+return_passes k _ e = grind arith
 
 -- ---- the growth is kept
 
@@ -144,16 +137,14 @@ next_back nodes x next least l e h = elim (cases_lt next x) [
 ]
 
 first_new : (w : List Bool) (may : Bool) → state_at (map new_node (child_words w may)) 0 ≡ Some Untaken
-first_new w true = refl
-first_new w false = refl
+first_new w may = refl
 
 state_front : (xs ys : List TreeNode) (k : ℕ) → k < length xs → state_at (xs ++ ys) k ≡ state_at xs k
 state_front xs ys k l = ap (λ (o : Option TreeNode). option_map (λ (n : TreeNode). n.state) o) (get_front xs ys k l)
 
 state_back : (xs ys : List TreeNode) (k : ℕ) → k ≡ length xs → state_at (xs ++ ys) k ≡ state_at ys 0
-state_back [] ys k e = ap (state_at ys) e
-state_back (x ∷ xs) ys zero e = absurd (omega arith)
 state_back (x ∷ xs) ys (suc k) e = state_back xs ys k (omega arith)
+state_back _ ys _ e = grind arith
 
 -- where new nodes wait after the others, the next is the same
 pub next_with_new : (nodes : List TreeNode) (w : List Bool) (may : Bool) (next : ℕ) → IsNext nodes next → IsNext (nodes ++ map new_node (child_words w may)) next
@@ -181,8 +172,7 @@ pub record BranchKept (g : Grown) (x next : ℕ) (items : List TreeNode) : Type 
   pub nodes_are : items ≡ branched g x
 
 branch_waits : (first : ℕ) (w : List Bool) (may : Bool) → branch_of first (child_words w may) ≡ Untaken → ⊥
-branch_waits first w true e = absurd (cc)
-branch_waits first w false e = absurd (cc)
+branch_waits first w may e = grind arith
 
 pub branch_entry : (g : Grown) (x next : ℕ) (w : List Bool) (may : Bool) (items : List TreeNode) → IsGrowth g
     → IsNext g.nodes next → CanBranch g x → children_at g x ≡ child_words w may

@@ -1,5 +1,5 @@
 -- What every event and every entry keeps, for all of them at once.
-use Rattle.std.proofs.Common.{◌≡◌, Bool, true, false, ℕ, ◌+◌, ◌<◌, ◌≤◌, max, if◌then◌else◌, List, [], ◌∷◌, length, Option, Some, None, Ok, arith, refl, sym, ap, subst}
+use Rattle.std.proofs.Common.{◌≡◌, Bool, true, ℕ, ◌+◌, ◌<◌, ◌≤◌, max, if◌then◌else◌, List, [], ◌∷◌, length, Option, Some, None, Ok, arith, refl, sym, ap, subst}
 use Rattle.std.specs.Prelude.{slice_get, nat_le, IfSome}
 use Rattle.std.proofs.lemmas.Bool.Decides.{nat_tests}
 use Rattle.std.proofs.lemmas.Option.{slice_get_within}
@@ -36,8 +36,7 @@ pub settle_allowed : (g : Grown) (k x cutoff : ℕ) (finding : Finding) → IsGr
 settle_allowed g k x cutoff finding grows above h taken = by_leaf (closing_leaf cutoff finding) refl
   where
     by_test : (b : Bool) → nat_le (length g.nodes + length (children_at g x)) g.budget ≡ b → MayBranch g k x cutoff → IsAllowed g (if b then Branch k x cutoff else Full k x cutoff)
-    by_test true e may = (may, le_by_test (length g.nodes + length (children_at g x)) g.budget e)
-    by_test false e may = (may, gt_by_test (length g.nodes + length (children_at g x)) g.budget e)
+    by_test b e may = grind (arith, le_by_test, gt_by_test)
 
     by_leaf : (o : Option Leaf) → closing_leaf cutoff finding ≡ o → IsAllowed g (settling_by g k x cutoff o)
     by_leaf (Some leaf) e = may_close g k x cutoff finding leaf grows above h taken e
@@ -56,8 +55,7 @@ record Passes (o : Option Actor) (fault : Option StepFault) : Type 0 where
   pub none : fault ≡ None
 
 passes : (o : Option Actor) (fault : Option StepFault) → by_actor o fault ≡ None → Passes o fault
-passes None fault e = absurd (cc)
-passes (Some a) fault e = record { actor = a; there = refl; none = e }
+passes o fault e = grind arith
 
 -- an event that is an entry of the tree
 entry_event : (s : Machine) (e : Entry) → KeepsFacts s → IsAllowed s.tree e → IsEntryCutAt s.incumbent e → KeepsFacts (record s { tree = grown s.tree e })
@@ -95,12 +93,10 @@ event_kept s (GiveBack k x) h proper r =
 -- ---- lists of events
 
 here_none : (place : ℕ) (o : Option StepFault) (later : Option ReplayFault) → refused_or place o later ≡ None → o ≡ None
-here_none place None later e = refl
-here_none place (Some f) later e = absurd (cc)
+here_none place o later e = grind arith
 
 later_none : (place : ℕ) (o : Option StepFault) (later : Option ReplayFault) → refused_or place o later ≡ None → later ≡ None
-later_none place None later e = e
-later_none place (Some f) later e = absurd (cc)
+later_none place o later e = grind arith
 
 -- and so does each list of them
 pub events_kept : (n : ℕ) (s : Machine) (events : List Event) → KeepsFacts s → AreProper s events → first_refusal n s events ≡ None → KeepsFacts (after_all s events)

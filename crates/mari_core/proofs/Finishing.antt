@@ -1,5 +1,5 @@
 -- Certificates of the nodes in preorder.
-use Rattle.std.proofs.Common.{◌≡◌, true, false, ℕ, zero, suc, ◌+◌, ◌<◌, ◌≤◌, List, [], ◌∷◌, ◌++◌, length, map, take, drop, get_or, Some, arith, refl, sym, ap, subst, ◌∙◌}
+use Rattle.std.proofs.Common.{◌≡◌, true, false, ℕ, suc, ◌+◌, ◌<◌, ◌≤◌, List, [], ◌∷◌, ◌++◌, length, map, take, drop, get_or, Some, arith, sym, ap, subst, ◌∙◌}
 use Rattle.std.specs.List.{All}
 use Rattle.std.proofs.lemmas.List.{take_more, take_all, map_more}
 use Rattle.std.proofs.lemmas.List.Elements.{All-append, All-cons, All-nil}
@@ -41,9 +41,8 @@ all_visited nodes items ns i v p l = record {
 }
 
 split_at : (ns : List ℕ) (i d : ℕ) → i < length ns → ns ≡ take i ns ++ get_or ns i d ∷ drop (suc i) ns
-split_at [] i d l = absurd (omega arith)
-split_at (n ∷ ns) zero d l = refl
 split_at (n ∷ ns) (suc i) d l = ap (λ (ms : List ℕ). n ∷ ms) (split_at ns i d (omega arith))
+split_at _ _ d l = grind arith
 
 -- the next is the first leaf that isn't closed
 pub first_open : (nodes : List TreeNode) (items : List TreeItem) (ns : List ℕ) (i d : ℕ) (s : NodeState)

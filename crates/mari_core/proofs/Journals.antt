@@ -7,15 +7,10 @@ use Rattle.mari_market.specs.declared.market.Market.{Market}
 use Rattle.mari_core.specs.declared.journal.JournalEntry.{JournalEntry}
 use Rattle.mari_core.specs.Nodes.{TreeNode, new_node}
 use Rattle.mari_core.specs.Growth.{Grown, Entry, seed, grown, grown_by, in_journal, AreAllowed, IsAllowed, IsEntryCutAt, IsCutAt, AreCutAt, JournalLeadsTo}
-use Rattle.mari_core.specs.Growth.Entry.{Take, Close, Branch, Full, GiveBack}
 use Rattle.mari_core.proofs.Machines.{entry_cut, grown_market}
 
 pub grown_budget : (g : Grown) (e : Entry) → (grown g e).budget ≡ g.budget
-grown_budget g (Take k x) = refl
-grown_budget g (Close k x leaf cutoff) = refl
-grown_budget g (Branch k x cutoff) = refl
-grown_budget g (Full k x cutoff) = refl
-grown_budget g (GiveBack k x) = refl
+grown_budget g e = grind arith
 
 pub grown_more : (g : Grown) (es : List Entry) (e : Entry) → grown_by g (es ++ e ∷ []) ≡ grown (grown_by g es) e
 grown_more g [] e = refl
@@ -26,11 +21,7 @@ allowed_more g [] e a h = (h, tt)
 allowed_more g (d ∷ es) e a h = (a.0, allowed_more (grown g d) es e a.1 h)
 
 cut_above : (v w : ℕ) (e : Entry) → v ≤ w → IsEntryCutAt v e → IsEntryCutAt w e
-cut_above v w (Take k x) l h = tt
-cut_above v w (Close k x leaf cutoff) l h = omega arith
-cut_above v w (Branch k x cutoff) l h = omega arith
-cut_above v w (Full k x cutoff) l h = omega arith
-cut_above v w (GiveBack k x) l h = tt
+cut_above v w e l h = grind arith
 
 -- the same, where more is seen
 pub leads_above : (j : List JournalEntry) (v w : ℕ) (g : Grown) → v ≤ w → JournalLeadsTo j v g → JournalLeadsTo j w g

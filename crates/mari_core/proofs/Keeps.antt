@@ -6,7 +6,6 @@ use Rattle.mari_market.specs.declared.market.Market.{Market}
 use Rattle.mari_market.specs.Prefix.{children}
 use Rattle.mari_market.specs.SearchTree.{AreNodes}
 use Rattle.mari_core.specs.declared.node.NodeState.{NodeState}
-use Rattle.mari_core.specs.declared.node.NodeState.TheVariants.{Untaken, Taken, Branched, Closed}
 use Rattle.mari_core.specs.Nodes.{TreeNode, in_state, words_of, children_of}
 use Rattle.mari_core.specs.Preorder.{IsWalk, HasPreorder}
 use Rattle.mari_core.specs.Growth.{Grown, with_state, is_branched, IsGrowth, IsCrowded, HasChildren, HasParent, HoldsAtCutoff}
@@ -15,11 +14,9 @@ use Rattle.mari_core.proofs.Changes.{words-with_state, length-with_state, childr
 
 -- a walk rests on the children alone
 pub same_walk : (nodes nodes' : List TreeNode) → ((x : ℕ) → children_of nodes' x ≡ children_of nodes x) → (waiting xs : List ℕ) → IsWalk nodes waiting xs → IsWalk nodes' waiting xs
-same_walk nodes nodes' h [] [] w = tt
-same_walk nodes nodes' h [] (x ∷ xs) w = absurd w
-same_walk nodes nodes' h (v ∷ waiting) [] w = absurd w
 same_walk nodes nodes' h (v ∷ waiting) (x ∷ xs) w =
     (w.0, subst (λ (ys : List ℕ). IsWalk nodes' (ys ++ waiting) xs) (sym (h x)) (same_walk nodes nodes' h (children_of nodes x ++ waiting) xs w.1))
+same_walk nodes nodes' h _ _ w = grind arith
 
 same_preorder : (nodes nodes' : List TreeNode) → ((x : ℕ) → children_of nodes' x ≡ children_of nodes x) → length nodes' ≡ length nodes → HasPreorder nodes → HasPreorder nodes'
 same_preorder nodes nodes' h l p = record {
@@ -32,10 +29,7 @@ same_preorder nodes nodes' h l p = record {
 }
 
 children_of_leaf : (m : Market) (words : List (List Bool)) (word : List Bool) (s : NodeState) → is_branched s ≡ false → HasChildren m words word s
-children_of_leaf m words word Untaken e = tt
-children_of_leaf m words word (Taken k) e = tt
-children_of_leaf m words word (Branched closed opened) e = absurd (cc)
-children_of_leaf m words word (Closed leaf cutoff) e = tt
+children_of_leaf m words word s e = grind arith
 
 -- a parent is branched, so it is another node than a leaf
 pub parent_stays : (s : NodeState) (nodes : List TreeNode) (x : ℕ) (n : TreeNode) → slice_get nodes x ≡ Some n

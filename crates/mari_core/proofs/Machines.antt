@@ -1,6 +1,6 @@
 -- What each event of the search machine keeps.
-use Rattle.std.proofs.Common.{◌≡◌, Bool, true, false, ℕ, zero, suc, ◌+◌, ◌<◌, ◌≤◌, ◌==◌, ℤ, pos, max, if◌then◌else◌, nat_lt, List, [], ◌∷◌, length, map, get_or, replicate, Option, Some, None, Result, Ok, Err, arith, refl, sym, ap, subst, ◌∙◌}
-use Rattle.std.specs.Prelude.{slice_get, nat_le, IfOk, IfErr, IfSome, MatchOption}
+use Rattle.std.proofs.Common.{◌≡◌, Bool, true, false, ℕ, zero, suc, ◌<◌, ◌≤◌, ◌==◌, ℤ, pos, max, if◌then◌else◌, nat_lt, List, [], ◌∷◌, length, map, get_or, replicate, Option, Some, Result, Ok, Err, arith, refl, sym, ap, subst, ◌∙◌}
+use Rattle.std.specs.Prelude.{slice_get, IfOk, IfErr, IfSome, MatchOption}
 use Rattle.std.specs.List.{All}
 use Rattle.std.proofs.lemmas.Int.{ints}
 use Rattle.std.proofs.lemmas.Bool.Decides.{nat_tests}
@@ -18,10 +18,9 @@ use Rattle.mari_core.specs.declared.search.Actor.{Actor}
 use Rattle.mari_core.specs.declared.event.StepFault.{StepFault}
 use Rattle.mari_core.specs.declared.event.StepFault.TheVariants.{Memory}
 use Rattle.mari_core.specs.declared.node.NodeState.{NodeState}
-use Rattle.mari_core.specs.declared.node.NodeState.TheVariants.{Untaken, Taken, Branched, Closed}
 use Rattle.mari_core.specs.Nodes.{TreeNode, new_node, in_state, changed, branch_of}
 use Rattle.mari_core.specs.Growth.{Grown, Entry, MaySettle, grown, settling, settling_by, closing_leaf, children_at, IsGrowth, AreCutAt, IsCutAt, IsEntryCutAt, IsCutoff, IsRefusal}
-use Rattle.mari_core.specs.Growth.Entry.{Take, Close, Branch, Full, GiveBack}
+use Rattle.mari_core.specs.Growth.Entry.{Branch, Full}
 use Rattle.mari_core.specs.Machine.{Machine, started, new_actor, seeing, offering, by_actor, seen_by, after, IsProper, KeepsFacts, IsActor, IsBest, best_or, best_of}
 use Rattle.mari_market.specs.declared.clearing.Clearing.{Clearing}
 use Rattle.mari_market.specs.Activation.{welfare_of}
@@ -46,9 +45,8 @@ pub record IsSomeActor (actors : List Actor) (k : ℕ) : Type 0 where
 greatest_same : (f : Actor → Actor) → ((a : Actor) → (f a).offered ≡ a.offered)
     → (w : ℕ) (actors : List Actor) (k : ℕ)
     → greatest_by (λ (x : Actor). x.offered) w (changed f actors k) ≡ greatest_by (λ (x : Actor). x.offered) w actors
-greatest_same f h w [] k = refl
-greatest_same f h w (a ∷ others) zero = ap (λ (o : ℕ). max o (greatest_by (λ (x : Actor). x.offered) w others)) (h a)
 greatest_same f h w (a ∷ others) (suc k) = ap (λ (g : ℕ). max a.offered g) (greatest_same f h w others k)
+greatest_same f h w _ _ = omega arith
 
 pub greatest_above : (w : ℕ) (actors : List Actor) → w ≤ greatest_by (λ (x : Actor). x.offered) w actors
 greatest_above w [] = omega arith
@@ -57,18 +55,10 @@ greatest_above w (a ∷ others) = omega (arith, greatest_above w others)
 abbrev chosen : Bool → ℕ → Attained → Actor → Actor
 chosen b incumbent attained a = if b then record { seen = incumbent; offered = attained.welfare; best = Some attained } else record { seen = incumbent; offered = a.offered; best = a.best }
 
-offered_is : (incumbent : ℕ) (attained : Attained) (a : Actor) → (offering incumbent attained a).offered ≡ max a.offered attained.welfare
-offered_is incumbent attained a = by_test (nat_lt a.offered attained.welfare) refl
-  where
-    by_test : (b : Bool) → nat_lt a.offered attained.welfare ≡ b → (chosen b incumbent attained a).offered ≡ max a.offered attained.welfare
-    by_test true e = grind (arith, nat_tests)
-    by_test false e = grind (arith, nat_tests)
-
 greatest_offered : (incumbent : ℕ) (attained : Attained) (w : ℕ) (actors : List Actor) (k : ℕ) → k < length actors
     → greatest_by (λ (x : Actor). x.offered) w (changed (offering incumbent attained) actors k) ≡ max (greatest_by (λ (x : Actor). x.offered) w actors) attained.welfare
-greatest_offered incumbent attained w [] k l = absurd (omega arith)
-greatest_offered incumbent attained w (a ∷ others) zero l = omega (arith, offered_is incumbent attained a)
 greatest_offered incumbent attained w (a ∷ others) (suc k) l = omega (arith, greatest_offered incumbent attained w others k (omega arith))
+greatest_offered incumbent attained w _ _ l = grind arith
 
 -- an actor looks
 pub look_kept : (s : Machine) (k : ℕ) (actors : List Actor) → KeepsFacts s → actors ≡ changed (seeing s.incumbent) s.actors k → KeepsFacts (record s { actors = actors })
@@ -86,17 +76,13 @@ look_kept s k actors h e = subst (λ (others : List Actor). KeepsFacts (record s
 
 -- cutoffs of at most a number are at most every greater one
 cut_rises : (w v : ℕ) → w ≤ v → (s : NodeState) → IsCutAt w s → IsCutAt v s
-cut_rises w v l Untaken c = tt
-cut_rises w v l (Taken k) c = tt
-cut_rises w v l (Branched closed opened) c = tt
-cut_rises w v l (Closed leaf cutoff) c = omega (arith, l, c)
+cut_rises w v l s c = grind arith
 
 pub cuts_rise : (w v : ℕ) → w ≤ v → (nodes : List TreeNode) → AreCutAt w nodes → AreCutAt v nodes
 cuts_rise w v l nodes a = λ i d h. cut_rises w v l (get_or nodes i d).state (a i d h)
 
 best_above : (m : Market) (w offered : ℕ) (best : Option Attained) → IsBest m w offered best → w ≤ offered
-best_above m w offered None h = omega (arith, h)
-best_above m w offered (Some b) h = omega (arith, h.2)
+best_above m w offered best h = grind arith
 
 -- what an actor has after an offer
 offered_actor : (m : Market) (w incumbent incumbent' : ℕ) (attained : Attained) (a : Actor) → w ≤ incumbent'
@@ -133,40 +119,29 @@ cut_changed : (w : ℕ) (s : NodeState) (nodes : List TreeNode) (x : ℕ) → Is
 cut_changed w s nodes x c a = all_changed (λ (n : TreeNode). IsCutAt w n.state) (λ (n : TreeNode). IsCutAt w n.state) (in_state s) nodes x a (λ j n d there i. i) (λ n there i. c)
 
 branch_cut : (w first : ℕ) (kids : List (List Bool)) → IsCutAt w (branch_of first kids)
-branch_cut w first [] = tt
-branch_cut w first (c ∷ []) = tt
-branch_cut w first (c ∷ o ∷ rest) = tt
+branch_cut w first kids = grind arith
 
 new_cut : (w : ℕ) (kids : List (List Bool)) → AreCutAt w (map new_node kids)
 new_cut w [] = All-nil (λ (n : TreeNode). IsCutAt w n.state)
 new_cut w (v ∷ kids) = All-cons (λ (n : TreeNode). IsCutAt w n.state) (new_node v) (map new_node kids) tt (new_cut w kids)
 
 pub entry_cut : (g : Grown) (e : Entry) (w : ℕ) → IsEntryCutAt w e → AreCutAt w g.nodes → AreCutAt w (grown g e).nodes
-entry_cut g (Take k x) w c a = cut_changed w (Taken k) g.nodes x tt a
-entry_cut g (Close k x leaf cutoff) w c a = cut_changed w (Closed leaf cutoff) g.nodes x c a
 entry_cut g (Branch k x cutoff) w c a = All-append (λ (n : TreeNode). IsCutAt w n.state) (changed (in_state (branch_of (length g.nodes) (children_at g x))) g.nodes x) (map new_node (children_at g x))
     (cut_changed w (branch_of (length g.nodes) (children_at g x)) g.nodes x (branch_cut w (length g.nodes) (children_at g x)) a) (new_cut w (children_at g x))
-entry_cut g (Full k x cutoff) w c a = cut_changed w Untaken g.nodes x tt a
-entry_cut g (GiveBack k x) w c a = cut_changed w Untaken g.nodes x tt a
+entry_cut g _ w c a = grind (arith, cut_changed)
 
 pub grown_market : (g : Grown) (e : Entry) → (grown g e).market ≡ g.market
-grown_market g (Take k x) = refl
-grown_market g (Close k x leaf cutoff) = refl
-grown_market g (Branch k x cutoff) = refl
-grown_market g (Full k x cutoff) = refl
-grown_market g (GiveBack k x) = refl
+grown_market g e = grind arith
 
 -- a settle closes at its own cutoff
 pub settling_cut : (g : Grown) (k x cutoff w : ℕ) (finding : Finding) → cutoff ≤ w → IsEntryCutAt w (settling g k x cutoff finding)
 settling_cut g k x cutoff w finding l = by_leaf (closing_leaf cutoff finding)
   where
     by_test : (b : Bool) → IsEntryCutAt w (if b then Branch k x cutoff else Full k x cutoff)
-    by_test true = l
-    by_test false = l
+    by_test b = grind arith
 
     by_leaf : (o : Option Leaf) → IsEntryCutAt w (settling_by g k x cutoff o)
-    by_leaf (Some leaf) = l
-    by_leaf None = by_test (nat_le (length g.nodes + length (children_at g x)) g.budget)
+    by_leaf o = grind arith
 
 tree_kept : (s : Machine) (tree : Grown) → KeepsFacts s → IsGrowth tree → tree.market ≡ s.tree.market → AreCutAt s.incumbent tree.nodes → KeepsFacts (record s { tree = tree })
 tree_kept s tree h grows m cut = record {
@@ -254,8 +229,7 @@ pub record IsBestOf (m : Market) (incumbent : ℕ) (a : Attained) : Type 0 where
 best_of_actor : (m : Market) (incumbent : ℕ) (first : Attained) (offered : ℕ) (best : Option Attained)
     → IsBestOf m first.welfare first → offered ≡ incumbent → IsBest m first.welfare offered best
     → IsBestOf m incumbent (best_or first best)
-best_of_actor m incumbent first offered None f e h = record { attained = f.attained; welfare_is = omega (arith, e, h) }
-best_of_actor m incumbent first offered (Some b) f e h = record { attained = h.0; welfare_is = h.1 ∙ e }
+best_of_actor m incumbent first offered best f e h = grind arith
 
 other_by_test : (a b : ℕ) → (a == b) ≡ false → a ≡ b → ⊥
 other_by_test a b e h = grind (arith, nat_tests)
@@ -282,8 +256,7 @@ best_is s h = best_among s.tree.market s.incumbent s.incumbent s.first s.actors 
 first_of_actor : (m : Market) (incumbent : ℕ) (first : Attained) (offered : ℕ) (best : Option Attained)
     → incumbent ≡ first.welfare → offered ≡ incumbent → IsBest m first.welfare offered best
     → best_or first best ≡ first
-first_of_actor m incumbent first offered None e o h = refl
-first_of_actor m incumbent first offered (Some b) e o h = absurd (omega (arith, e, o, h.2))
+first_of_actor m incumbent first offered best e o h = grind arith
 
 first_among : (m : Market) (incumbent seen : ℕ) (first : Attained) (actors : List Actor) → incumbent ≡ first.welfare
     → All (IsActor m first.welfare seen) actors → best_of incumbent first actors ≡ first

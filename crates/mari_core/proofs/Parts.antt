@@ -1,5 +1,5 @@
 -- What the nodes in preorder are: a part of the search tree, and a certificate tree where each is done.
-use Rattle.std.proofs.Common.{◌≡◌, inl, inr, Bool, true, false, ℕ, zero, suc, ◌<◌, ◌≤◌, pos, List, [], ◌∷◌, ◌++◌, length, map, get_or, nat_lt, if◌then◌else◌, Option, Some, None, arith, refl, sym, ap, subst, ◌∙◌}
+use Rattle.std.proofs.Common.{◌≡◌, inl, inr, Bool, true, false, ℕ, suc, ◌<◌, ◌≤◌, pos, List, [], ◌∷◌, ◌++◌, length, map, get_or, nat_lt, if◌then◌else◌, Option, Some, arith, refl, sym, ap, subst, ◌∙◌}
 use Rattle.std.specs.Prelude.{slice_get, Contains}
 use Rattle.std.specs.List.{All}
 use Rattle.std.proofs.lemmas.Int.{ints}
@@ -18,7 +18,7 @@ use Rattle.mari_market.specs.SearchTree.{IsNode}
 use Rattle.mari_market.specs.Tree.{AreParts, LeafHolds, TreeHolds}
 use Rattle.mari_market.proofs.Search.{parts_rise}
 use Rattle.mari_core.specs.declared.node.NodeState.{NodeState}
-use Rattle.mari_core.specs.declared.node.NodeState.TheVariants.{Untaken, Taken, Branched, Closed}
+use Rattle.mari_core.specs.declared.node.NodeState.TheVariants.{Untaken, Branched, Closed}
 use Rattle.mari_core.specs.Nodes.{TreeNode, words_of, word_at, state_at, child_numbers, numbers_below, children_of}
 use Rattle.mari_core.specs.Preorder.{IsWalk, IsPreorder, IsPart, IsTree, occurs, is_done, part_item, tree_item, shape_of}
 use Rattle.mari_core.specs.Growth.{Grown, IsGrowth, IsCrowded, HasChildren, HoldsAtCutoff, is_branched, AreCutAt, IsCutAt}
@@ -34,20 +34,18 @@ abbrev words_at : List TreeNode → List ℕ → List (List Bool)
 words_at nodes ns = map (word_at nodes) ns
 
 read_word : (nodes : List TreeNode) (x : ℕ) (w : List Bool) → slice_get (words_of nodes) x ≡ Some w → word_at nodes x ≡ w
-read_word [] x w e = absurd (cc)
-read_word (n ∷ nodes) zero w e = cc
 read_word (n ∷ nodes) (suc x) w e = read_word nodes x w e
+read_word _ _ w e = grind arith
 
 read_words : (nodes : List TreeNode) (ns : List ℕ) (ws : List (List Bool)) → map (λ x. slice_get (words_of nodes) x) ns ≡ map (λ w. Some w) ws → words_at nodes ns ≡ ws
 read_words nodes [] [] e = refl
-read_words nodes [] (w ∷ ws) e = absurd (cc)
-read_words nodes (n ∷ ns) [] e = absurd (cc)
 read_words nodes (n ∷ ns) (w ∷ ws) e =
     let here : slice_get (words_of nodes) n ≡ Some w = cc in
     let rest : map (λ x. slice_get (words_of nodes) x) ns ≡ map (λ v. Some v) ws = cc in
     let one : word_at nodes n ≡ w = read_word nodes n w here in
     let more : words_at nodes ns ≡ ws = read_words nodes ns ws rest in
     cc
+read_words nodes _ _ e = grind arith
 
 -- the node of a number
 record NodeAt (g : Grown) (x : ℕ) : Type 0 where
@@ -88,11 +86,9 @@ part_step : (m : Market) (nodes : List TreeNode) (s : NodeState) (word : List Bo
     → IsNode m word → HasChildren m (words_of nodes) word s
     → ArePartsOfSearch m (words_at nodes (child_numbers s) ++ words) items
     → ArePartsOfSearch m (word ∷ words) (part_item (Some s) ∷ items)
-part_step m nodes Untaken word words items n h a = (n, a)
-part_step m nodes (Taken k) word words items n h a = (n, a)
 part_step m nodes (Branched closed opened) word words items n h a =
     (n, h.0, subst (λ (ws : List (List Bool)). ArePartsOfSearch m (ws ++ words) items) (read_words nodes (child_numbers (Branched closed opened)) (children m.gates word) h.1) a)
-part_step m nodes (Closed leaf cutoff) word words items n h a = (n, a)
+part_step m nodes _ word words items n h a = (n, a)
 
 walk_parts : (g : Grown) → IsGrowth g → (waiting ns : List ℕ) → AreWithin g.nodes ns → IsWalk g.nodes waiting ns
     → ArePartsOfSearch g.market (words_at g.nodes waiting) (map (λ x. part_item (state_at g.nodes x)) ns)
@@ -134,28 +130,21 @@ contains_tail w v ws c = (suc c.0, omega (arith, c.1), c.2)
 
 leaf_here : (m : Market) (s : NodeState) (word : List Bool) (words : List (List Bool)) (items : List PartItem)
     → is_branched s ≡ false → Contains (leaves_of m (word ∷ words) (part_item (Some s) ∷ items)) word
-leaf_here m Untaken word words items e = contains_head word (leaves_of m words items)
-leaf_here m (Taken k) word words items e = contains_head word (leaves_of m words items)
-leaf_here m (Branched closed opened) word words items e = absurd (cc)
-leaf_here m (Closed leaf cutoff) word words items e = contains_head word (leaves_of m words items)
+leaf_here m s word words items e = grind arith
 
 leaf_later : (m : Market) (nodes : List TreeNode) (s : NodeState) (word : List Bool) (words : List (List Bool)) (items : List PartItem) (leaf : List Bool)
     → HasChildren m (words_of nodes) word s
     → Contains (leaves_of m (words_at nodes (child_numbers s) ++ words) items) leaf
     → Contains (leaves_of m (word ∷ words) (part_item (Some s) ∷ items)) leaf
-leaf_later m nodes Untaken word words items leaf h c = contains_tail leaf word (leaves_of m words items) c
-leaf_later m nodes (Taken k) word words items leaf h c = contains_tail leaf word (leaves_of m words items) c
 leaf_later m nodes (Branched closed opened) word words items leaf h c =
     subst (λ (ws : List (List Bool)). Contains (leaves_of m (ws ++ words) items) leaf)
     (read_words nodes (child_numbers (Branched closed opened)) (children m.gates word) h.1) c
-leaf_later m nodes (Closed l cutoff) word words items leaf h c = contains_tail leaf word (leaves_of m words items) c
+leaf_later m nodes _ word words items leaf h c = contains_tail leaf word (leaves_of m words items) c
 
 walk_leaf : (g : Grown) → IsGrowth g → (z : ℕ) (n : TreeNode) → slice_get g.nodes z ≡ Some n
     → is_branched n.state ≡ false → (waiting ns : List ℕ) → 1 ≤ occurs z ns → AreWithin g.nodes ns
     → IsWalk g.nodes waiting ns
     → Contains (leaves_of g.market (words_at g.nodes waiting) (map (λ x. part_item (state_at g.nodes x)) ns)) n.word
-walk_leaf g k z n e leaf waiting [] o within w = absurd (omega arith)
-walk_leaf g k z n e leaf [] (x ∷ xs) o within w = absurd w
 walk_leaf g k z n e leaf (v ∷ waiting) (x ∷ xs) o within w =
     let at : NodeAt g x = node_of g x k (All-head (λ y. y < length g.nodes) x xs within) in
     let items : List PartItem = map (λ y. part_item (state_at g.nodes y)) xs in
@@ -173,6 +162,7 @@ walk_leaf g k z n e leaf (v ∷ waiting) (x ∷ xs) o within w =
           (map-append (word_at g.nodes) (children_of g.nodes x) waiting ∙ ap (λ (o : Option NodeState). words_at g.nodes (numbers_below o) ++ words_at g.nodes waiting) at.state)
           (walk_leaf g k z n e leaf (children_of g.nodes x ++ waiting) xs (omega (arith, o, occurs_later z x xs other)) (All-tail (λ y. y < length g.nodes) x xs within) w.1))
     ]))
+walk_leaf g k z n e leaf _ _ o within w = grind arith
 
 is_one : (x n : ℕ) → x < n → (k : ℕ) → k ≡ (if nat_lt x n then 1 else 0) → 1 ≤ k
 is_one x n l k e = grind (arith, nat_tests)
@@ -202,11 +192,10 @@ tree_step : (m : Market) (nodes : List TreeNode) (cutoff : ℕ) (s : NodeState) 
     → IsCutAt cutoff s → HasChildren m (words_of nodes) word s → HoldsAtCutoff m word s → is_done (Some s) ≡ true
     → AreParts m (LeafHolds m (pos cutoff)) (words_at nodes (child_numbers s) ++ words) items
     → AreParts m (LeafHolds m (pos cutoff)) (word ∷ words) (tree_item (Some s) ∷ items)
-tree_step m nodes cutoff Untaken word words items c h l d a = absurd (cc)
-tree_step m nodes cutoff (Taken k) word words items c h l d a = absurd (cc)
 tree_step m nodes cutoff (Branched closed opened) word words items c h l d a =
     (h.0, subst (λ (ws : List (List Bool)). AreParts m (LeafHolds m (pos cutoff)) (ws ++ words) items) (read_words nodes (child_numbers (Branched closed opened)) (children m.gates word) h.1) a)
 tree_step m nodes cutoff (Closed leaf own) word words items c h l d a = ((parts_rise m (pos own) (pos cutoff) (omega (arith, ints, c)) (word ∷ []) (Leaf leaf ∷ []) (l, tt)).0, a)
+tree_step m nodes cutoff _ word words items c h l d a = grind arith
 
 walk_tree : (g : Grown) (cutoff : ℕ) → IsGrowth g → AreCutAt cutoff g.nodes → (waiting ns : List ℕ)
     → AreWithin g.nodes ns → All (λ x. is_done (state_at g.nodes x) ≡ true) ns → IsWalk g.nodes waiting ns
@@ -236,11 +225,7 @@ tree_holds g items cutoff k t cut =
     (walk_tree g cutoff k cut (0 ∷ []) t.numbers (are_within g.nodes t.numbers t.preorder) t.done t.preorder.walk))
 
 shape_done : (o : Option NodeState) → is_done o ≡ true → shape_of (tree_item o) ≡ part_item o
-shape_done None e = absurd (cc)
-shape_done (Some Untaken) e = absurd (cc)
-shape_done (Some (Taken k)) e = absurd (cc)
-shape_done (Some (Branched closed opened)) e = refl
-shape_done (Some (Closed leaf cutoff)) e = refl
+shape_done o e = grind arith
 
 shapes_done : (nodes : List TreeNode) (ns : List ℕ) → All (λ x. is_done (state_at nodes x) ≡ true) ns
     → map shape_of (map (λ x. tree_item (state_at nodes x)) ns) ≡ map (λ x. part_item (state_at nodes x)) ns

@@ -1,5 +1,5 @@
 -- A growth at its start, and one whose mark is on.
-use Rattle.std.proofs.Common.{◌≡◌, ◌≢◌, ◌⊎◌, inl, Bool, false, ℕ, zero, suc, ◌<◌, ◌≤◌, nat_lt, if◌then◌else◌, List, [], ◌∷◌, ◌++◌, length, take, get_or, arith, refl, sym, subst, length-append}
+use Rattle.std.proofs.Common.{◌≡◌, ◌≢◌, ◌⊎◌, inl, Bool, false, ℕ, suc, ◌<◌, ◌≤◌, nat_lt, if◌then◌else◌, List, [], ◌∷◌, ◌++◌, length, take, get_or, arith, refl, sym, subst, length-append}
 use Rattle.std.specs.Prelude.{AllPairs}
 use Rattle.std.specs.List.{All}
 use Rattle.std.proofs.lemmas.Bool.Decides.{nat_tests}
@@ -25,8 +25,7 @@ empty_node m = record {
 }
 
 one_counted : (z : ℕ) → occurs z (0 ∷ []) ≡ (if nat_lt z 1 then 1 else 0)
-one_counted zero = refl
-one_counted (suc z) = grind (arith, nat_tests)
+one_counted z = grind (arith, nat_tests)
 
 -- the empty word alone is a growth
 pub seed_grows : (m : Market) (budget : ℕ) → IsValid m → IsBudget budget → IsGrowth (seed m budget)

@@ -1,5 +1,5 @@
 -- A walk through the nodes in preorder, with a stack of the numbers that wait.
-use Rattle.std.proofs.Common.{◌≡◌, ℕ, zero, suc, ◌<◌, ◌≤◌, if◌then◌else◌, nat_lt, List, [], ◌∷◌, ◌++◌, length, map, take, get_or, reverse, Option, Some, arith, sym, ap, subst, ◌∙◌, append_assoc}
+use Rattle.std.proofs.Common.{◌≡◌, ℕ, suc, ◌<◌, ◌≤◌, if◌then◌else◌, nat_lt, List, [], ◌∷◌, ◌++◌, length, map, take, get_or, reverse, Option, Some, arith, sym, ap, subst, ◌∙◌, append_assoc}
 use Rattle.std.proofs.lemmas.Bool.Decides.{nat_tests}
 use Rattle.std.proofs.lemmas.List.{reverse-append, reverse-reverse, take_all}
 use Rattle.mari_core.specs.declared.node.NodeState.{NodeState}
@@ -52,9 +52,8 @@ walk_goes nodes front order x s a e = record {
 -- ---- the items of a preorder
 
 pub occurs_at : (ns : List ℕ) (i d : ℕ) → i < length ns → 1 ≤ occurs (get_or ns i d) ns
-occurs_at [] i d l = absurd (omega arith)
-occurs_at (n ∷ ns) zero d l = omega (arith, occurs_here n ns)
 occurs_at (n ∷ ns) (suc i) d l = omega (arith, occurs_at ns i d (omega arith))
+occurs_at _ _ d l = grind arith
 
 pub item_within : (nodes : List TreeNode) (ns : List ℕ) (i d : ℕ) → IsPreorder nodes ns → i < length ns → get_or ns i d < length nodes
 item_within nodes ns i d p l = test_lt (get_or ns i d) (length nodes) (occurs (get_or ns i d) ns) (occurs_at ns i d l) (p.once (get_or ns i d))

@@ -1,4 +1,4 @@
-use Rattle.std.proofs.Common.{◌≡◌, Bool, true, false, refl, ℕ, ◌<◌, Some, length, arith, ap, sym, ◌∙◌}
+use Rattle.std.proofs.Common.{◌≡◌, Bool, true, refl, ℕ, ◌<◌, Some, length, arith, ap, sym, ◌∙◌}
 use mathlib.Core.Bool.{not, beq}
 use Rattle.std.specs.Prelude.{slice_get}
 use Rattle.mari_market.specs.Prefix.{bit_of, word_of}
@@ -7,10 +7,7 @@ use Rattle.mari_gates.specs.Prefixes.{decisions}
 use Rattle.mari_core.proofs.node.same_word.Goals as goal
 
 unequal : (a b : Bool) → not (beq a b) ≡ true → a ≡ b → ⊥
-unequal true true t e = absurd (cc)
-unequal true false t e = absurd (cc)
-unequal false true t e = absurd (cc)
-unequal false false t e = absurd (cc)
+unequal a b t e = grind arith
 
 pub returns-then-one-other : goal.returns-then-one-other
 returns-then-one-other c = (

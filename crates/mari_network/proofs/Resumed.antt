@@ -11,7 +11,7 @@ use Rattle.mari_network.specs.declared.chain.Hop.{Hop}
 use Rattle.mari_network.specs.declared.margins.Margin.{Margin}
 use Rattle.mari_network.specs.declared.network.Network.{Network}
 use Rattle.mari_network.specs.declared.slots.Slot.{Slot}
-use Rattle.mari_network.specs.declared.search.Search.{Search}
+use Rattle.mari_network.specs.declared.search.ChainSearch.{ChainSearch}
 use Rattle.mari_network.specs.Slots.{slot_at, zone_of, price_of, CanLess}
 use Rattle.mari_network.specs.Network.{no_border, border_at}
 use Rattle.mari_network.specs.Chain.{tail_of, head_of, room_of, hop_at, IsImproving}
@@ -25,7 +25,7 @@ use Rattle.mari_network.proofs.Marginal.{below_some}
 use Rattle.mari_network.proofs.Marks.{marked_or, none_count, not_both}
 
 -- nothing is marked at first
-pub levels_fresh : (n : Network) (xs fs : List ℤ) (s : Search) → HasZones (length n.meeting.now) s → IsFresh s → length fs ≡ length n.borders.now → HasLevels n xs fs s
+pub levels_fresh : (n : Network) (xs fs : List ℤ) (s : ChainSearch) → HasZones (length n.meeting.now) s → IsFresh s → length fs ≡ length n.borders.now → HasLevels n xs fs s
 levels_fresh n xs fs s zones fresh long = record {
   zones = zones;
   levels = levels_none n.slots.now n.borders.now xs fs s.marked.items (int_at s.prices.items) (sym long) fresh.none;

@@ -6,8 +6,8 @@ use Rattle.std.specs.List.{All, AllZip}
 use Rattle.std.proofs.lemmas.List.Elements.{All-contains}
 use Rattle.mari_market.specs.declared.market.Border.{Border}
 use Rattle.mari_network.specs.declared.chain.Hop.{Hop}
-use Rattle.mari_network.specs.declared.network.Way.{Way}
-use Rattle.mari_network.specs.Network.{no_border, border_at, way_of, AreMeeting}
+use Rattle.mari_network.specs.declared.network.Crossing.{Crossing}
+use Rattle.mari_network.specs.Network.{no_border, border_at, crossing_of, AreMeeting}
 use Rattle.mari_market.specs.Sums.{int_at}
 use Rattle.mari_network.proofs.Lists.{zip_of}
 use Rattle.mari_network.specs.Chain.{no_hop, hop_at, tail_of, head_of, hop_room, room_of, IsHop, HasRoom}
@@ -202,12 +202,12 @@ closed_all marked (b ∷ bs) (f ∷ fs) ends all = (
 )
 closed_all marked _ _ ends all = grind arith
 
--- where energy can come along the way, the zone that it comes from is marked
-abbrev pub Leads : List Border → List ℤ → List Bool → Way → Type 0
+-- where energy can come over the crossing, the zone that it comes from is marked
+abbrev pub Leads : List Border → List ℤ → List Bool → Crossing → Type 0
 Leads bs fs marked w = pos 0 <ℤ room_of w.forth (border_at bs w.border) (int_at fs w.border) → is_marked marked w.from ≡ true
 
--- it is enough to look along the ways into a zone
-pub all_into : (bs : List Border) (fs : List ℤ) (marked : List Bool) (y : ℕ) (ways : List Way) → length bs ≡ length fs
-    → AreMeeting bs y ways → All (Leads bs fs marked) ways → AllZip (MarkedInto marked y) bs fs
-all_into bs fs marked y ways e m a = zip_of (MarkedInto marked y) bs fs no_border (pos 0) e
-    (λ k l forth r h. All-contains (Leads bs fs marked) ways (way_of bs k forth) a (m.all k forth l h) r)
+-- it is enough to look along the crossings into a zone
+pub all_into : (bs : List Border) (fs : List ℤ) (marked : List Bool) (y : ℕ) (crossings : List Crossing) → length bs ≡ length fs
+    → AreMeeting bs y crossings → All (Leads bs fs marked) crossings → AllZip (MarkedInto marked y) bs fs
+all_into bs fs marked y crossings e m a = zip_of (MarkedInto marked y) bs fs no_border (pos 0) e
+    (λ k l forth r h. All-contains (Leads bs fs marked) crossings (crossing_of bs k forth) a (m.all k forth l h) r)

@@ -1,4 +1,4 @@
--- Networks: slots and borders between zones, and for each zone its slots by price and the ways into it.
+-- Networks: slots and borders between zones, and for each zone its slots by price and the crossings into it.
 use Rattle.std.specs.Prelude.{◌≡◌, Bool, true, false, ℕ, zero, suc, ◌+◌, ◌<◌, ◌≤◌, ℤ, pos, ◌+ℤ◌, List, length, slice_index_or}
 use Rattle.std.specs.List.{All, Contains}
 use Rattle.mari_market.specs.declared.market.Border.{Border}
@@ -9,7 +9,7 @@ use Rattle.mari_network.specs.declared.slots.Slot.{Slot}
 use Rattle.mari_network.specs.declared.network.Network.{Network}
 use Rattle.mari_network.specs.declared.network.Places.{Places}
 use Rattle.mari_network.specs.declared.network.Rung.{Rung}
-use Rattle.mari_network.specs.declared.network.Way.{Way}
+use Rattle.mari_network.specs.declared.network.Crossing.{Crossing}
 use Rattle.mari_network.specs.Slots.{at_zone, price_of, zone_of, IsSmallSlot, IsRunning}
 
 -- what is read past the end of a list of borders: limits of 0 MW
@@ -30,20 +30,20 @@ abbrev pub head_of : Bool → Border → ℕ
 head_of true b = b.to
 head_of false b = b.from
 
--- the way over a border
-abbrev pub way_of : List Border → ℕ → Bool → Way
-way_of bs border forth = record { from = tail_of forth (border_at bs border); border = border; forth = forth }
+-- the crossing of a border
+abbrev pub crossing_of : List Border → ℕ → Bool → Crossing
+crossing_of bs border forth = record { from = tail_of forth (border_at bs border); border = border; forth = forth }
 
--- the way leads over a border into the zone
-pub record IsWay (bs : List Border) (z : ℕ) (w : Way) : Type 0 where
+-- the crossing leads over a border into the zone
+pub record IsCrossing (bs : List Border) (z : ℕ) (w : Crossing) : Type 0 where
   pub there : w.border < length bs
   pub from : w.from ≡ tail_of w.forth (border_at bs w.border)
   pub to : head_of w.forth (border_at bs w.border) ≡ z
 
--- the ways into the zone
-pub record AreMeeting (bs : List Border) (z : ℕ) (ways : List Way) : Type 0 where
-  pub each : All (IsWay bs z) ways
-  pub all : (i : ℕ) (forth : Bool) → i < length bs → head_of forth (border_at bs i) ≡ z → Contains ways (way_of bs i forth)
+-- the crossings into the zone
+pub record AreMeeting (bs : List Border) (z : ℕ) (crossings : List Crossing) : Type 0 where
+  pub each : All (IsCrossing bs z) crossings
+  pub all : (i : ℕ) (forth : Bool) → i < length bs → head_of forth (border_at bs i) ≡ z → Contains crossings (crossing_of bs i forth)
 
 -- what is read past the end of a ladder
 abbrev pub no_rung : Rung
@@ -84,7 +84,7 @@ pub record IsLadder (slots : List Slot) (n z : ℕ) (ladder : List Rung) : Type 
 abbrev pub AreInOrder : ℕ → List Slot → Type 0
 AreInOrder n slots = (k : ℕ) → n ≤ k → k < length slots → k ≡ n + zone_of slots k
 
--- for each of the zones its ladder, and the ways into it
+-- for each of the zones its ladder, and the crossings into it
 pub record ArePlaces (zones : ℕ) (slots : List Slot) (bs : List Border) (p : Places) : Type 0 where
   pub ladders_long : length p.ladders.items ≡ zones
   pub meeting_long : length p.meeting.items ≡ zones

@@ -3,7 +3,7 @@ use Rattle.std.specs.Prelude.{◌≡◌, ◌⊎◌, Bool, false, not, ℕ, ◌<�
 use Rattle.mari_market.specs.declared.market.Border.{Border}
 use Rattle.mari_network.specs.declared.chain.Hop.{Hop}
 use Rattle.mari_network.specs.declared.network.Network.{Network as NetworkRecord}
-use Rattle.mari_network.specs.declared.search.Search.{Search}
+use Rattle.mari_network.specs.declared.search.ChainSearch.{ChainSearch}
 use Rattle.mari_network.specs.declared.slots.TheConstants.{BEYOND}
 use Rattle.mari_market.specs.Sums.{int_at}
 use Rattle.mari_network.specs.declared.slots.Slot.{Slot}
@@ -20,17 +20,17 @@ pub record AreTightPrices (n : NetworkRecord) (xs fs prices : List ℤ) : Type 0
   pub tight : AreTight n.slots.now n.borders.now xs fs (int_at prices)
 
 -- a mark and a price for each zone
-pub record HasZones (zones : ℕ) (s : Search) : Type 0 where
+pub record HasZones (zones : ℕ) (s : ChainSearch) : Type 0 where
   pub marks : length s.marked.items ≡ zones
   pub prices : length s.prices.items ≡ zones
 
 -- no zone is marked
-pub record IsFresh (s : Search) : Type 0 where
+pub record IsFresh (s : ChainSearch) : Type 0 where
   pub none : (z : ℕ) → is_marked s.marked.items z ≡ false
   pub left : s.left ≡ length s.marked.items
 
 -- the zones that are marked have their prices, and the others are counted
-pub record HasLevels (n : NetworkRecord) (xs fs : List ℤ) (s : Search) : Type 0 where
+pub record HasLevels (n : NetworkRecord) (xs fs : List ℤ) (s : ChainSearch) : Type 0 where
   pub zones : HasZones (length n.meeting.now) s
   pub levels : AreLevels n.slots.now n.borders.now xs fs s.marked.items (int_at s.prices.items)
   pub left : s.left ≡ count_by not s.marked.items

@@ -5,7 +5,7 @@ ghost use Rattle.std.specs.List.{All, AllZip};
 ghost use Rattle.std.specs.List.Sorted.{IsPermutation};
 ghost use Rattle.mari_market.specs.Market.{IsValid, IsBetween};
 ghost use Rattle.mari_network.specs.Fits.{IsNetworkSlot};
-ghost use Rattle.mari_network.specs.Network.{tail_of, way_of, AreInOrder, AreMeeting, ArePlaces, AreRungs, IsLadder, IsNetwork, IsRising};
+ghost use Rattle.mari_network.specs.Network.{crossing_of, tail_of, AreInOrder, AreMeeting, ArePlaces, AreRungs, IsLadder, IsNetwork, IsRising};
 ghost use Rattle.mari_network.specs.Orders.{CanPut};
 ghost use Rattle.mari_network.specs.Slots.{IsSmallSlot};
 ghost use Rattle.mari_network.specs.Solving.{IsNetworkOf};
@@ -25,9 +25,9 @@ pub struct Rung {
     pub place: usize,
 }
 
-/// A way over a border into a zone.
+/// A crossing of a border into a zone.
 #[derive(Clone, Copy, Drop)]
-pub struct Way {
+pub struct Crossing {
     /// The zone from which it leads.
     pub from: u32,
     /// The place of the border.
@@ -47,8 +47,8 @@ pub struct Network<'a> {
     pub ladders: &'a [Vec<Rung>],
     /// How many slots stand on ladders. After them stands one for each zone, in order of the zones, or none.
     pub on_ladders: usize,
-    /// For each zone the ways into it.
-    pub meeting: &'a [Vec<Way>],
+    /// For each zone the crossings into it.
+    pub meeting: &'a [Vec<Crossing>],
 }
 
 /// For each zone the places of its slots and borders, which a network lends.
@@ -58,8 +58,8 @@ pub struct Places {
     pub ladders: Vec<Vec<Rung>>,
     /// How many slots stand on ladders: the first.
     pub on_ladders: usize,
-    /// For each zone the ways into it.
-    pub meeting: Vec<Vec<Way>>,
+    /// For each zone the crossings into it.
+    pub meeting: Vec<Vec<Crossing>>,
 }
 
 /// An empty list for each zone, with room for `room` items.
@@ -93,24 +93,24 @@ fn tail(border: &Border, forth: bool) -> u32
     if forth { border.from } else { border.to }
 }
 
-/// The way over a border.
-fn way_over(borders: &[Border], border: usize, forth: bool) -> Way
+/// The crossing of a border.
+fn crossing_over(borders: &[Border], border: usize, forth: bool) -> Crossing
     requires { border < length borders.now }
-    ensures { result ≡ way_of borders.now border forth }
+    ensures { result ≡ crossing_of borders.now border forth }
 {
-    Way {
+    Crossing {
         from: tail(&borders[border], forth),
         border,
         forth,
     }
 }
 
-/// For each zone the ways into it.
+/// For each zone the crossings into it.
 fn meeting_borders(
     alloc: Global,
     borders: &[Border],
     zones: usize,
-) -> Result<Vec<Vec<Way>>, AllocError>
+) -> Result<Vec<Vec<Crossing>>, AllocError>
     requires ends { All (IsBetween zones) borders.now }
     ensures long { IfOk result (λ v. length v.items ≡ zones) }
     ensures meeting { IfOk result (λ v. (z : ℕ) (d : _) → z < zones → AreMeeting borders.now z (slice_index_or v.items z d).items) }
@@ -120,9 +120,13 @@ fn meeting_borders(
         add_to(
             &mut meeting,
             border.from as usize,
-            way_over(borders, i, false),
+            crossing_over(borders, i, false),
         )?;
-        add_to(&mut meeting, border.to as usize, way_over(borders, i, true))?;
+        add_to(
+            &mut meeting,
+            border.to as usize,
+            crossing_over(borders, i, true),
+        )?;
     }
     Ok(meeting)
 }
@@ -272,8 +276,8 @@ pub fn ladder_at<'a>(network: &'a Network, zone: usize) -> &'a [Rung]
     network.ladders[zone].as_slice()
 }
 
-/// The ways into a zone.
-pub fn meeting_at<'a>(network: &'a Network, zone: u32) -> &'a [Way]
+/// The crossings into a zone.
+pub fn meeting_at<'a>(network: &'a Network, zone: u32) -> &'a [Crossing]
     requires network { IsNetwork network.now }
     requires zone { zone < length network.now.meeting.now }
     ensures { AreMeeting network.now.borders.now zone result.now }

@@ -4,7 +4,7 @@ ghost use Rattle.std.specs.Prelude.{◌≡◌, ℕ, ℤ, pos, ◌<ℤ◌, ◌+�
 ghost use Rattle.std.specs.List.{All, AllZip};
 ghost use Rattle.mari_market.specs.Activation.{IsWithinLimits};
 ghost use Rattle.mari_market.specs.Sums.{int_at};
-ghost use Rattle.mari_network.specs.Network.{border_at, IsNetwork, IsWay, Runs};
+ghost use Rattle.mari_network.specs.Network.{border_at, IsCrossing, IsNetwork, Runs};
 ghost use Rattle.mari_market.specs.declared.market.Border.{Border as TheBorder};
 ghost use Rattle.mari_market.specs.Market.{IsBetween};
 ghost use Rattle.mari_network.specs.Chain.{hop_at, room_of, IsImproving};
@@ -16,7 +16,7 @@ ghost use Rattle.mari_network.specs.Searching.{AreTightPrices, AreUnmarked, HasL
 
 use crate::chain::{Chain, Hop, room_over};
 use crate::margins::{Margin, cheapest, dearest};
-use crate::network::{Network, Way, meeting_at};
+use crate::network::{Crossing, Network, meeting_at};
 use crate::slots::{BEYOND, Slot};
 use mari_market::Border;
 use std::alloc::{AllocError, Global};
@@ -24,7 +24,7 @@ use std::mem;
 
 /// What searches work on, kept from one to the next.
 #[derive(Drop)]
-pub struct Search {
+pub struct ChainSearch {
     /// Whether each zone is marked.
     pub marked: Vec<bool>,
     /// How many zones aren't marked.
@@ -36,14 +36,14 @@ pub struct Search {
 }
 
 /// What searches of a network with this number of zones work on.
-pub fn search_of(alloc: Global, zones: usize) -> Result<Search, AllocError>
+pub fn search_of(alloc: Global, zones: usize) -> Result<ChainSearch, AllocError>
     ensures zones { IfOk result (HasZones zones) }
     ensures fresh { IfOk result IsFresh }
 {
     let marked = vec![in alloc; false; zones]?;
     let prices = vec![in alloc; 0i64; zones]?;
     let hops = Vec::with_capacity(alloc, zones)?;
-    Ok(Search {
+    Ok(ChainSearch {
         marked,
         left: zones,
         prices,
@@ -51,18 +51,18 @@ pub fn search_of(alloc: Global, zones: usize) -> Result<Search, AllocError>
     })
 }
 
-/// Marks the zone that a way leads from and adds a hop, where energy can come along the way and the zone is not marked.
+/// Marks the zone that a crossing leads from and adds a hop, where energy can come over it and the zone is not marked.
 fn reach_over(
     borders: &[Border],
     flows: &[i64],
     marked: &mut [bool],
     hops: &mut Vec<Hop>,
-    way: Way,
+    crossing: Crossing,
     before: usize,
 ) -> Result<(), AllocError>
-    // A way into the zone of a hop that was found.
+    // A crossing into the zone of a hop that was found.
     requires before { before < length hops.old.items }
-    requires way { IsWay borders.now (hop_at hops.old.items before).zone way }
+    requires crossing { IsCrossing borders.now (hop_at hops.old.items before).zone crossing }
 
     // Flows that may be, between zones that can be marked.
     requires flows { length flows.now ≡ length borders.now }
@@ -78,21 +78,22 @@ fn reach_over(
     ensures stay { (k : ℕ) → k < length hops.old.items → hop_at hops.new.items k ≡ hop_at hops.old.items k }
     ensures more { length hops.old.items ≤ length hops.new.items }
 
-    // Along this way nothing comes from a zone that isn't marked.
-    ensures into { OnOk result
-        (pos 0 <ℤ room_of way.forth (border_at borders.now way.border) (int_at flows.now way.border) → is_marked marked.new way.from ≡ true) }
+    // Over this crossing nothing comes from a zone that isn't marked.
+    ensures into { OnOk result (pos 0 <ℤ room_of crossing.forth (border_at borders.now crossing.border) (int_at flows.now crossing.border)
+        → is_marked marked.new crossing.from ≡ true) }
 {
-    if marked[way.from as usize] {
+    if marked[crossing.from as usize] {
         return Ok(());
     }
-    if room_over(&borders[way.border], flows[way.border], way.forth) <= 0 {
+    let border = crossing.border;
+    if room_over(&borders[border], flows[border], crossing.forth) <= 0 {
         return Ok(());
     }
-    marked[way.from as usize] = true;
+    marked[crossing.from as usize] = true;
     hops.push(Hop {
-        zone: way.from,
-        border: way.border,
-        forth: way.forth,
+        zone: crossing.from,
+        border,
+        forth: crossing.forth,
         before,
     })?;
     Ok(())
@@ -128,9 +129,9 @@ fn look(
     // By no border anything comes to its zone from one that isn't marked.
     ensures into { OnOk result (AllZip (MarkedInto marked.new (hop_at hops.old.items at).zone) network.now.borders.now flows.now) }
 {
-    let ways = meeting_at(network, hops[at].zone);
-    for way in ways {
-        reach_over(network.borders, flows, marked, hops, *way, at)?;
+    let crossings = meeting_at(network, hops[at].zone);
+    for crossing in crossings {
+        reach_over(network.borders, flows, marked, hops, *crossing, at)?;
     }
     Ok(())
 }
@@ -211,7 +212,7 @@ fn unmark(marked: &mut [bool])
 }
 
 /// Takes all marks of a search back.
-fn begin_anew(search: &mut Search)
+fn begin_anew(search: &mut ChainSearch)
     ensures zones { (zones : ℕ) → HasZones zones search.old → HasZones zones search.new }
     ensures fresh { IsFresh search.new }
 {
@@ -325,7 +326,7 @@ pub fn next_chain(
     amounts: &[i64],
     flows: &[i64],
     margins: &[Margin],
-    search: &mut Search,
+    search: &mut ChainSearch,
 ) -> Result<Option<Chain>, AllocError>
     requires network { IsNetwork network.now }
     requires margins { AreMargins network.now.slots.now amounts.now (length network.now.meeting.now) (length network.now.slots.now) margins.now }
@@ -357,7 +358,7 @@ pub fn find_chain(
     amounts: &[i64],
     flows: &[i64],
     margins: &[Margin],
-    search: &mut Search,
+    search: &mut ChainSearch,
 ) -> Result<Option<Chain>, AllocError>
     requires network { IsNetwork network.now }
     requires margins { AreMargins network.now.slots.now amounts.now (length network.now.meeting.now) (length network.now.slots.now) margins.now }

@@ -3,14 +3,15 @@ use Rattle.std.specs.List.{All}
 use Rattle.mari_market.specs.declared.market.Border.{Border}
 use Rattle.mari_market.specs.Market.{IsBetween}
 use Rattle.mari_network.specs.declared.network.Rung.{Rung}
-use Rattle.mari_network.specs.declared.network.Way.{Way}
+use Rattle.mari_network.specs.declared.network.Crossing.{Crossing}
 use Rattle.mari_network.specs.Network.{AreMeeting, IsLadder}
 use Rattle.mari_network.proofs.network.network_of.Goals as goal
 
 pub returns-clause-network : goal.returns-clause-network
 returns-clause-network c =
     let places = c.requires.places in
-    let zones : length c.as_slice-meeting.result.now ≡ c.args.market.now.zones = ap (λ (vs : List (Vec Way Global)). length vs) c.as_slice-meeting.ensures.value ∙ c.requires.places.meeting_long in
+    let zones : length c.as_slice-meeting.result.now ≡ c.args.market.now.zones =
+    ap (λ (vs : List (Vec Crossing Global)). length vs) c.as_slice-meeting.ensures.value ∙ c.requires.places.meeting_long in
     record {
       small = λ k d l. (c.requires.slots k d l).small;
       zones = λ k d l. subst (λ (n : ℕ). (get_or c.args.slots.now k d).zone < n) (sym zones) (c.requires.slots k d l).zone;
@@ -22,13 +23,13 @@ returns-clause-network c =
       ladders = λ z v l. subst (λ (vs : List (Vec Rung Global)). IsLadder c.args.slots.now c.args.places.now.on_ladders z (get_or vs z v).items) (sym c.as_slice-ladders.ensures.value)
           (places.ladders z v (subst (λ (n : ℕ). z < n) zones l));
       meeting = λ z v l. subst (λ (bs : List Border). AreMeeting bs z (get_or c.as_slice-meeting.result.now z v).items) (sym c.as_slice-borders.ensures)
-          (subst (λ (vs : List (Vec Way Global)). AreMeeting c.args.market.now.borders z (get_or vs z v).items) (sym c.as_slice-meeting.ensures.value)
+          (subst (λ (vs : List (Vec Crossing Global)). AreMeeting c.args.market.now.borders z (get_or vs z v).items) (sym c.as_slice-meeting.ensures.value)
           (places.meeting z v (subst (λ (n : ℕ). z < n) zones l)));
     }
 
 pub returns-clause-same : goal.returns-clause-same
 returns-clause-same c = record {
-  zones = ap (λ (vs : List (Vec Way Global)). length vs) c.as_slice-meeting.ensures.value ∙ c.requires.places.meeting_long;
+  zones = ap (λ (vs : List (Vec Crossing Global)). length vs) c.as_slice-meeting.ensures.value ∙ c.requires.places.meeting_long;
   borders = c.as_slice-borders.ensures;
   orders = c.requires.sides;
 }

@@ -20,7 +20,7 @@ use crate::gates::quantity;
 use mari_market::Market;
 use mari_network::{Rung, rungs_to};
 use mari_paths::{Optimum, Places};
-use mari_prices::{Bounds, End};
+use mari_prices::{End, PriceBounds};
 use mari_units::CAP;
 use std::alloc::{AllocError, Global};
 
@@ -123,7 +123,7 @@ fn plain_bounds(
     market: &Market,
     places: &Places,
     optimum: &Optimum,
-) -> Result<Bounds, AllocError>
+) -> Result<PriceBounds, AllocError>
     requires valid { IsValid market.now }
     requires ladders { AreOrderLadders market.now places.now }
     requires fits { FitsOrders market.now optimum.now }
@@ -141,7 +141,7 @@ fn plain_bounds(
         least.push(lower)?;
         greatest.push(upper)?;
     }
-    Ok(Bounds { least, greatest })
+    Ok(PriceBounds { least, greatest })
 }
 
 /// Each zone's tightest bounds at both ends. `gated` has the places of the orders of gates.
@@ -151,7 +151,7 @@ pub(crate) fn bounds_from(
     places: &Places,
     gated: &[usize],
     optimum: &Optimum,
-) -> Result<Bounds, AllocError>
+) -> Result<PriceBounds, AllocError>
     // The market, with its orders by price and those of gates.
     requires valid { IsValid market.now }
     requires ladders { AreOrderLadders market.now places.now }

@@ -8,7 +8,7 @@ use Rattle.mari_market.specs.Optimal.{IsFeasible}
 use Rattle.mari_market.specs.Price.{IsPrice, price_at}
 use Rattle.mari_market.specs.declared.along.Along.{Along}
 use Rattle.mari_market.specs.declared.along.Along.TheVariants.{Rising, Falling}
-use Rattle.mari_prices.specs.declared.bounds.Bounds.{Bounds}
+use Rattle.mari_prices.specs.declared.bounds.PriceBounds.{PriceBounds}
 use Rattle.mari_prices.specs.declared.bounds.End.{End}
 use Rattle.mari_prices.specs.declared.bounds.End.TheVariants.{Least, Greatest}
 use Rattle.mari_prices.specs.declared.spread.SettledZone.{SettledZone}
@@ -34,14 +34,14 @@ pub record IsBoundedAt (end : End) (m : Market) (flow bounds : List ℤ) (a : Ac
   pub own : AreTightest end m.orders a.mw m.zones bounds
 
 -- the same at both ends
-pub record IsBoundedBy (m : Market) (flow : List ℤ) (b : Bounds) (a : Activation) : Type 0 where
+pub record IsBoundedBy (m : Market) (flow : List ℤ) (b : PriceBounds) (a : Activation) : Type 0 where
   pub feasible : IsFeasible m a
   pub flows : a.flow ≡ flow
   pub least : AreTightest Least m.orders a.mw m.zones b.least.items
   pub greatest : AreTightest Greatest m.orders a.mw m.zones b.greatest.items
 
 -- a feasible activation's tightest bounds at both ends, and what those at the least end become
-pub record AreEnds (m : Market) (a : Activation) (b : Bounds) (xs : List (Option SettledZone)) : Type 0 where
+pub record AreEnds (m : Market) (a : Activation) (b : PriceBounds) (xs : List (Option SettledZone)) : Type 0 where
   pub feasible : IsFeasible m a
   pub least : IsEnd Least m a b.least.items xs
   pub greatest : AreTightest Greatest m.orders a.mw m.zones b.greatest.items

@@ -63,14 +63,14 @@ fn raise(bounds: &mut [i64], order: &Order, mw: u32, end: End)
 
 /// A bound of each zone's price at both ends.
 #[derive(Drop)]
-pub struct Bounds {
+pub struct PriceBounds {
     /// Those at the least end.
     pub least: Vec<i64>,
     /// Those at the greatest end, with their signs turned.
     pub greatest: Vec<i64>,
 }
 
-impl Bounds {
+impl PriceBounds {
     /// Raises the bounds of an order's zone to what the order sets at both ends, where it runs `mw` MW.
     pub fn raise(&mut self, order: &Order, mw: u32)
         // The zone is there at both ends, and the price within the cap.
@@ -95,7 +95,7 @@ pub(crate) fn tightest(
     zones: u32,
     orders: &[Order],
     mw: &[u32],
-) -> Result<Bounds, AllocError>
+) -> Result<PriceBounds, AllocError>
     requires lengths { length mw.now ≡ length orders.now }
     requires zones { All (λ o. o.zone < zones) orders.now }
     requires prices { All (λ o. IsPrice o.price.0) orders.now }
@@ -104,7 +104,7 @@ pub(crate) fn tightest(
 {
     let least = vec![in alloc; -CAP; zones as usize]?;
     let greatest = vec![in alloc; -CAP; zones as usize]?;
-    let mut bounds = Bounds { least, greatest };
+    let mut bounds = PriceBounds { least, greatest };
     for (i, order) in orders.iter().enumerate() {
         bounds.raise(order, mw[i]);
     }

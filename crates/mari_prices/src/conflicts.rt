@@ -8,7 +8,7 @@ ghost use Rattle.mari_market.specs.Market.{IsValid};
 ghost use Rattle.mari_market.specs.Optimal.{IsAdmissible, IsFeasible};
 ghost use Rattle.mari_prices.specs.Ends.{AreEnds, AreUncontradicted, IsBoundedBy};
 
-use crate::bounds::{Bounds, End};
+use crate::bounds::{End, PriceBounds};
 use crate::ends::{bounds_of, chain_to, contradicted, spread_of};
 use crate::spread::SettledZone;
 use mari_market::{Activation, Market};
@@ -19,7 +19,7 @@ use std::alloc::{AllocError, Global};
 pub(crate) fn chain_by(
     alloc: Global,
     market: &Market,
-    bounds: &Bounds,
+    bounds: &PriceBounds,
     least: &[Option<SettledZone>],
 ) -> Result<Option<Items<u32>>, AllocError>
     // Bounds at both ends, and what those at the least end become.
@@ -47,7 +47,7 @@ pub fn contradiction_between(
     alloc: Global,
     market: &Market,
     flow: &[i64],
-    bounds: &Bounds,
+    bounds: &PriceBounds,
 ) -> Result<Option<Items<u32>>, AllocError>
     requires valid { IsValid market.now }
     requires bounded { (a : TheActivation) × IsBoundedBy market.now flow.now bounds.now a }

@@ -11,7 +11,7 @@ ghost use Rattle.mari_prices.specs.Spread.{entry_at};
 ghost use Rattle.mari_prices.specs.Tightest.{AreTightest, signed};
 ghost use Rattle.mari_prices.specs.declared.spread.SettledZone.{SettledZone};
 
-use crate::bounds::{Bounds, End, tightest};
+use crate::bounds::{End, PriceBounds, tightest};
 use crate::spread::{SettledZone, spread};
 use mari_market::{Activation, Along, Market, Prices};
 use mari_units::{Cents, Items, MOST_ZONES};
@@ -45,7 +45,7 @@ pub(crate) fn bounds_of(
     alloc: Global,
     market: &Market,
     activation: &Activation,
-) -> Result<Bounds, AllocError>
+) -> Result<PriceBounds, AllocError>
     requires valid { IsValid market.now }
     requires feasible { IsFeasible market.now activation.now }
     ensures least { IfOk result (λ b. AreTightest End.Least market.now.orders activation.now.mw market.now.zones b.least.items) }

@@ -10,7 +10,7 @@ mod numbering;
 mod published;
 mod spread;
 
-pub use bounds::{Bounds, End};
+pub use bounds::{End, PriceBounds};
 pub use conflicts::{contradiction, contradiction_between};
 pub use intervals::{Intervals, PriceFault, price_test};
 pub use numbering::areas;

@@ -4,7 +4,7 @@ use Rattle.mari_market.specs.declared.market.Market.{Market}
 use Rattle.mari_market.specs.declared.activation.Activation.{Activation}
 use Rattle.mari_market.specs.Conflict.{IsContradictoryChain}
 use Rattle.mari_market.specs.Optimal.{IsAdmissible, IsFeasible}
-use Rattle.mari_prices.specs.declared.bounds.Bounds.{Bounds}
+use Rattle.mari_prices.specs.declared.bounds.PriceBounds.{PriceBounds}
 use Rattle.mari_prices.specs.declared.bounds.End.{End}
 use Rattle.mari_prices.specs.declared.bounds.End.TheVariants.{Least, Greatest}
 use Rattle.mari_prices.specs.declared.spread.SettledZone.{SettledZone}
@@ -19,7 +19,7 @@ end_read : (end : End) (m : Market) (a : Activation) (flow slice bounds : List �
 end_read end m a flow slice bounds xs f same e own h =
     subst (λ (us : List ℤ). IsEnd end m a us xs) e (h a (record { feasible = f; flows = sym same; own = subst (AreTightest end m.orders a.mw m.zones) (sym e) own }))
 
-ends_read : (m : Market) (a : Activation) (b : Bounds) (xs xs' : List (Option SettledZone)) → xs' ≡ xs → IsFeasible m a → IsEnd Least m a b.least.items xs
+ends_read : (m : Market) (a : Activation) (b : PriceBounds) (xs xs' : List (Option SettledZone)) → xs' ≡ xs → IsFeasible m a → IsEnd Least m a b.least.items xs
     → AreTightest Greatest m.orders a.mw m.zones b.greatest.items → AreEnds m a b xs'
 ends_read m a b xs xs' same f e g = record { feasible = f; least = subst (IsEnd Least m a b.least.items) (sym same) e; greatest = g }
 

@@ -15,7 +15,7 @@ use Rattle.mari_network.specs.declared.slots.TheConstants.{BEYOND}
 use Rattle.mari_network.specs.Network.{IsRising}
 use Rattle.mari_network.specs.Slots.{at_zone, price_of, slot_at, zone_of}
 use Rattle.mari_paths.specs.declared.curves.Curve.{Curve}
-use Rattle.mari_paths.specs.declared.curves.Step.{Step}
+use Rattle.mari_paths.specs.declared.curves.CurveStep.{CurveStep}
 use Rattle.mari_paths.specs.declared.merit.Reach.{Reach}
 use Rattle.mari_paths.specs.Starts.{IsNear}
 use Rattle.mari_units.specs.declared.limits.TheConstants.{MOST_MW}
@@ -71,12 +71,12 @@ abbrev pub supply_of_all : List Slot → ℤ → ℤ
 supply_of_all slots p = int_sum (run_at p) slots
 
 -- no step is dearer than a later one
-abbrev pub AreRising : List Step → Type 0
-AreRising steps = RisesBy (λ (s : Step). s.price) steps
+abbrev pub AreRising : List CurveStep → Type 0
+AreRising steps = RisesBy (λ (s : CurveStep). s.price) steps
 
 -- how much more is put in at the last step that costs less than the price, or `before` if there is none
-abbrev pub more_below : ℤ → ℤ → List Step → ℤ
-more_below p before steps = last_below (λ (s : Step). s.price) (λ (s : Step). s.more) p before steps
+abbrev pub more_below : ℤ → ℤ → List CurveStep → ℤ
+more_below p before steps = last_below (λ (s : CurveStep). s.price) (λ (s : CurveStep). s.more) p before steps
 
 -- what a zone puts in at a price, by its supply curve
 abbrev pub supplied : ℤ → Curve → ℤ
@@ -89,7 +89,7 @@ supplied_by_all curves p = int_sum (supplied p) curves
 -- small numbers, the cheapest step first
 pub record IsCurve (c : Curve) : Type 0 where
   pub least : IsNear most_supplied c.least
-  pub steps : All (λ (s : Step). IsNear most_supplied s.more) c.steps.items
+  pub steps : All (λ (s : CurveStep). IsNear most_supplied s.more) c.steps.items
   pub rising : AreRising c.steps.items
 
 -- the curve says what the slots of the ladder put in

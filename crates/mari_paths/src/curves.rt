@@ -3,7 +3,7 @@
 ghost use Rattle.std.specs.Prelude.{◌≡◌, ◌<◌, ◌≤◌, ◌≤ℤ◌, ◌<ℤ◌, ℕ, neg_ℤ, length, slice_index_or, IfOk};
 ghost use Rattle.std.specs.List.{All};
 ghost use Rattle.mari_network.specs.declared.slots.TheConstants.{BEYOND};
-ghost use Rattle.mari_paths.specs.declared.curves.Step.{Step as StepRecord};
+ghost use Rattle.mari_paths.specs.declared.curves.CurveStep.{CurveStep as StepRecord};
 ghost use Rattle.mari_paths.specs.Merit.{supplied, supplied_by_all, AreRising, IsBalancing, IsCurve, IsCurveOf, IsMeritOrder, IsOrderRange};
 ghost use Rattle.mari_paths.specs.Starts.{most_stood_in, IsNear};
 
@@ -13,7 +13,7 @@ use std::alloc::{AllocError, Global};
 
 /// A step of a supply curve.
 #[derive(Clone, Copy, Drop)]
-pub struct Step {
+pub struct CurveStep {
     /// The price of a slot, in cents per MWh.
     pub price: i64,
     /// How much more than their least this slot and those before it put in where they run whole, in MW.
@@ -26,7 +26,7 @@ pub struct Curve {
     /// What they put in where each puts in its least, in MW.
     pub least: i64,
     /// A step for each slot, the cheapest first.
-    pub steps: Vec<Step>,
+    pub steps: Vec<CurveStep>,
 }
 
 /// The supply curve of the slots on a ladder.
@@ -44,13 +44,13 @@ pub fn curve_of(alloc: Global, slots: &[Slot], ladder: &[Rung]) -> Result<Curve,
         least += slot.low;
         more += slot.high - slot.low;
         let price = rung.price;
-        steps.push(Step { price, more })?;
+        steps.push(CurveStep { price, more })?;
     }
     Ok(Curve { least, steps })
 }
 
 /// How many of a supply curve's steps cost less than this: the first.
-fn steps_below(steps: &[Step], price: i64) -> usize
+fn steps_below(steps: &[CurveStep], price: i64) -> usize
     requires { AreRising steps.now }
     ensures few { result ≤ length steps.now }
     ensures below { (k : ℕ) (d : StepRecord) → k < result → (slice_index_or steps.now k d).price <ℤ price }

@@ -6,7 +6,7 @@ use Rattle.std.proofs.lemmas.List.Elements.{All-push}
 use Rattle.mari_network.specs.declared.network.Rung.{Rung}
 use Rattle.mari_network.specs.Network.{no_rung, rung_at}
 use Rattle.mari_network.specs.Slots.{no_slot, slot_at}
-use Rattle.mari_paths.specs.declared.curves.Step.{Step}
+use Rattle.mari_paths.specs.declared.curves.CurveStep.{CurveStep}
 use Rattle.mari_paths.specs.Merit.{IsOrderRange}
 use Rattle.mari_paths.specs.Starts.{IsNear}
 use Rattle.mari_paths.proofs.Shortages.{near_more, near_wider}
@@ -47,8 +47,8 @@ loop-rung-preserved c =
     record {
       least_near = near_more (99999 * at) 99999 (99999 * (at + 1)) (to_z w64 c.loop-rung.least-bits) _ _ c.loop-rung.invariant.least_near low least_is (omega arith);
       more_near = more;
-      small = subst (λ (ss : List Step). All (λ (s : Step). IsNear 1000000000 s.more) ss) (sym c.in_ok-push.ensures.items)
-          (All-push (λ (s : Step). IsNear 1000000000 s.more) c.loop-rung.steps.items _ c.loop-rung.invariant.small (near_wider (199998 * (at + 1)) 1000000000 _ more (omega (arith, few))));
+      small = subst (λ (ss : List CurveStep). All (λ (s : CurveStep). IsNear 1000000000 s.more) ss) (sym c.in_ok-push.ensures.items)
+          (All-push (λ (s : CurveStep). IsNear 1000000000 s.more) c.loop-rung.steps.items _ c.loop-rung.invariant.small (near_wider (199998 * (at + 1)) 1000000000 _ more (omega (arith, few))));
       steps =
           steps_more_at c.args.slots.now c.args.ladder.now c.loop-rung.rung-index (to_z w64 c.loop-rung.least-bits) (to_z w64 c.loop-rung.more-bits) _ c.loop-rung.steps.items _ _
           c.loop-rung-test.true c.requires.ladder (to_z-of_z price_fits) c.in_ok-push.ensures.items least_is more_is c.loop-rung.invariant.steps;

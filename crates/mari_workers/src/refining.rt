@@ -112,8 +112,8 @@ impl Walk {
         Ok(Turn::On)
     }
 
-    /// Settles the leaf of the next prefix.
-    fn settle(
+    /// Decides the leaf of the next prefix: it stays, it branches, or an activation comes of it.
+    fn decide_leaf(
         &mut self,
         alloc: Global,
         market: &Market,
@@ -171,7 +171,7 @@ impl Walk {
                 Ok(Turn::On)
             }
             Some(TreeItem::Leaf(leaf)) => {
-                self.settle(alloc, market, prefix, leaf, aim, table, bounds, root)
+                self.decide_leaf(alloc, market, prefix, leaf, aim, table, bounds, root)
             }
         }
     }

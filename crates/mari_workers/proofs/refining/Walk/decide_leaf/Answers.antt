@@ -2,7 +2,7 @@ use Rattle.std.proofs.Common.{subst}
 use Rattle.mari_market.specs.Prefix.{word_of}
 use Rattle.mari_workers.specs.Refine.{IsFate}
 use Rattle.mari_workers.proofs.Turns.{turned_leaf}
-use Rattle.mari_workers.proofs.refining.Walk.settle.Goals as goal
+use Rattle.mari_workers.proofs.refining.Walk.decide_leaf.Goals as goal
 
 pub returns-in_ok-push-in-Stays : goal.returns-in_ok-push-in-Stays
 returns-in_ok-push-in-Stays c =

@@ -6,7 +6,7 @@ ghost use Rattle.mari_reach_text.specs.Texts.{NamedFits};
 ghost use Rattle.mari_reach_feed.specs.Texts.{IsReachLine, ReachPartFits, named_lines_text, named_rest_text};
 ghost use Rattle.mari_reach_feed.specs.Values.{named_block_value, reach_json_of};
 
-use crate::tree::{Branching, Gap};
+use crate::tree::{ClaimGap, PrintedItem};
 use mari_feed::{
     Kind, put_head, put_ledger, put_market, put_next, put_next_list, put_outcome, put_totals,
 };
@@ -20,7 +20,7 @@ fn put_lines(text: &mut Vec<u8>, block: &NamedBlock) -> Result<(), Memory>
     ensures { OnOk result (text.new.items ≡ text.old.items ++ named_lines_text block.now) }
 {
     put_market(text, &block.block)?;
-    put_next::<Gap>(text, "gap", &block.claim)?;
+    put_next::<ClaimGap>(text, "gap", &block.claim)?;
     put_next::<Kind>(text, "kind", &block.block.heading.direct)
 }
 
@@ -29,7 +29,7 @@ fn put_rest(text: &mut Vec<u8>, block: &NamedBlock) -> Result<(), Memory>
     requires { NamedFits block.now }
     ensures { OnOk result (text.new.items ≡ text.old.items ++ named_rest_text block.now) }
 {
-    put_next_list::<Branching>(text, "tree", block.tree.as_slice())?;
+    put_next_list::<PrintedItem>(text, "tree", block.tree.as_slice())?;
     put_outcome(text, &block.block)
 }
 

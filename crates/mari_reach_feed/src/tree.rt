@@ -16,9 +16,9 @@ use mari_reach_text::NamedItem;
 use mari_units::{Cents, Memory, Name, Quarters, put};
 
 /// The gap of a block, or null.
-pub struct Gap;
+pub struct ClaimGap;
 
-impl Printed for Gap {
+impl Printed for ClaimGap {
     type Item = Claim;
 
     ghost written = { gap_value };
@@ -54,9 +54,9 @@ fn put_price(text: &mut Vec<u8>, zone: &Name, price: &Cents) -> Result<(), Memor
 }
 
 /// An item of a tree.
-pub struct Branching;
+pub struct PrintedItem;
 
-impl Printed for Branching {
+impl Printed for PrintedItem {
     type Item = NamedItem;
 
     ghost written = { named_value };

@@ -16,9 +16,8 @@ use Rattle.mari_progress.proofs.Lists.{each-more}
 use Rattle.mari_check.specs.declared.fault.Fault.{Fault}
 use Rattle.mari_check.specs.declared.fault.Fault.TheVariants as fault
 use Rattle.mari_check.specs.Faults.{IsLeast, fault_number}
-use Rattle.mari_reach_lines.specs.declared.line.Claim.{Claim}
-use Rattle.mari_reach_lines.specs.declared.line.Claim.TheVariants.{First, Within}
-use Rattle.mari_reach_text.specs.Claims.{first_among, one_if_first, one_if_within, within_among}
+use Rattle.mari_reach_text.specs.Claims.{first_among, one_if_first}
+use Rattle.mari_reach_text.proofs.Accepted.{at_most_one}
 use Rattle.mari_reach_text.specs.declared.named.NamedBlock.{NamedBlock}
 use Rattle.mari_reach_check.specs.declared.day.ReachDayCheck.{ReachDayCheck}
 use Rattle.mari_reach_check.specs.declared.day.Tested.{Tested}
@@ -33,26 +32,13 @@ all_published [] = refl
 all_published (b ∷ bs) = ap (λ n. n + 1) (all_published bs) ∙ omega arith
 
 -- and counted once
-pub at_most : (claim : Claim) → one_if_first claim ≤ 1
-at_most First = omega arith
-at_most (Within gap) = omega arith
-
 pub first_more : (blocks : List NamedBlock) (b : NamedBlock) → first_among (blocks ++ b ∷ []) ≡ first_among blocks + one_if_first b.claim
 first_more [] b = omega arith
 first_more (x ∷ xs) b = omega (arith, first_more xs b)
 
 pub first_few : (blocks : List NamedBlock) → first_among blocks ≤ length blocks
 first_few [] = omega arith
-first_few (b ∷ bs) = omega (arith, at_most b.claim, first_few bs)
-
--- each is of one claim
-one_claim : (claim : Claim) → one_if_first claim + one_if_within claim ≡ 1
-one_claim First = refl
-one_claim (Within gap) = refl
-
-pub both_claims : (blocks : List NamedBlock) → first_among blocks + within_among blocks ≡ length blocks
-both_claims [] = refl
-both_claims (b ∷ bs) = omega (arith, one_claim b.claim, both_claims bs)
+first_few (b ∷ bs) = omega (arith, at_most_one b.claim, first_few bs)
 
 printed_more : (blocks : List NamedBlock) (b : NamedBlock) → all_printed (blocks ++ b ∷ []) ≡ all_printed blocks ++ block.Published b.block ∷ []
 printed_more blocks b = map-append printed blocks (b ∷ [])

@@ -8,15 +8,13 @@ ghost use Rattle.mari_check.specs.Faults.{Finds};
 ghost use Rattle.mari_reach_lines.specs.Ranges.{IsClaim};
 ghost use Rattle.mari_reach_check.specs.Day.{EndsAs, IsReachChecked, IsReachFreeIn, all_printed};
 ghost use Rattle.mari_reach_check.specs.Tested.{HeadStates, TestsReach};
-ghost use Rattle.mari_reach_text.specs.Claims.{one_if_first};
 ghost use Rattle.mari_reach_text.specs.declared.named.NamedBlock.{NamedBlock as TheBlock};
 
 use crate::block::examine_block;
 use mari_check::{Examined, Fault, has_totals};
 use mari_progress::{Progress, SettledRun, run_count};
 use mari_publish::{AmountLine, MoneyLine};
-use mari_reach_lines::Claim;
-use mari_reach_text::NamedBlock;
+use mari_reach_text::{NamedBlock, one_if_first};
 use mari_remain::Books;
 use mari_units::{MOST_RUNS, Memory, Name};
 use std::alloc::Global;
@@ -50,16 +48,6 @@ pub struct ReachDayCheck {
     pub progress: Progress,
     /// How many of the blocks so far state the first activation.
     pub first: u32,
-}
-
-/// 1 where a block states the first activation, and else 0.
-fn count_of(claim: Claim) -> u32
-    ensures { result ≡ one_if_first claim }
-{
-    match claim {
-        Claim::First => 1,
-        Claim::Within(_) => 0,
-    }
 }
 
 impl ReachDayCheck {
@@ -156,7 +144,7 @@ impl ReachDayCheck {
             drop(block);
             return Ok(Some(Fault::Heading));
         }
-        let count = count_of(block.claim);
+        let count = one_if_first(block.claim);
         match self.test(alloc, books, run, block)? {
             Tested::Faulty(fault) => Ok(Some(fault)),
             Tested::Sound(settled) => {

@@ -1,24 +1,16 @@
 -- How many blocks of either kind there are.
-use Rattle.std.proofs.Common.{◌≡◌, ◌+◌, ◌≤◌, List, [], ◌∷◌, ◌++◌, length, refl, arith}
-use Rattle.mari_reach_lines.specs.declared.line.Claim.{Claim}
-use Rattle.mari_reach_lines.specs.declared.line.Claim.TheVariants.{First, Within}
-use Rattle.mari_reach_text.specs.Claims.{one_if_first, one_if_within}
+use Rattle.std.proofs.Common.{◌≡◌, ◌+◌, List, [], ◌∷◌, ◌++◌, length, refl, arith}
+use Rattle.mari_reach_text.specs.Claims.{one_if_first}
+use Rattle.mari_reach_text.proofs.Accepted.{one_of_both}
 use Rattle.mari_reach_day.specs.declared.block.ReachBlock.{ReachBlock}
 use Rattle.mari_reach_day.specs.Reach.{first_in, within_in}
-
-either : (c : Claim) → one_if_first c + one_if_within c ≡ 1
-either First = refl
-either (Within gap) = refl
 
 -- each block is of one kind
 pub both_kinds : (blocks : List ReachBlock) → first_in blocks + within_in blocks ≡ length blocks
 both_kinds [] = refl
-both_kinds (r ∷ rs) = omega (arith, either r.claim, both_kinds rs)
+both_kinds (r ∷ rs) = omega (arith, one_of_both r.claim, both_kinds rs)
 
 -- with one block more
 pub first_more : (blocks : List ReachBlock) (r : ReachBlock) → first_in (blocks ++ r ∷ []) ≡ first_in blocks + one_if_first r.claim
 first_more [] r = omega arith
 first_more (b ∷ bs) r = omega (arith, first_more bs r)
-
-pub at_most_one : (c : Claim) → one_if_first c ≤ 1
-at_most_one c = omega (arith, either c)

@@ -5,7 +5,6 @@ ghost use Rattle.mari_io.specs.Outside.{Counts};
 ghost use Rattle.mari_market.specs.Clearing.{IsBudget};
 ghost use Rattle.mari_remain.specs.Accepted.{IsAccepted};
 ghost use Rattle.mari_day.specs.Dated.{IsDated};
-ghost use Rattle.mari_reach_text.specs.Claims.{one_if_first as one_for};
 ghost use Rattle.mari_reach_day.specs.Days.{EndsReach};
 
 use crate::block::ReachBlock;
@@ -14,7 +13,7 @@ use crate::text::{block_text, head_text};
 use mari_day::{DaySoFar, Stop, end_text, write_day};
 use mari_io::Sink;
 use mari_progress::{Progress, run_count};
-use mari_reach_lines::Claim;
+use mari_reach_text::one_if_first;
 use mari_remain::Books;
 use mari_units::Memory;
 use std::alloc::Global;
@@ -33,16 +32,6 @@ pub enum ReachEnd {
     WriteFault,
     /// Out of memory.
     Memory,
-}
-
-/// 1 for a block that states the first activation of its market, and 0 for another.
-fn one_if_first(claim: Claim) -> u32
-    ensures { result ≡ one_for claim }
-{
-    match claim {
-        Claim::First => 1,
-        Claim::Within(_) => 0,
-    }
 }
 
 /// What is kept of such a day between its blocks.

@@ -74,9 +74,12 @@ first_has_text p h =
     }
 
 -- each block states the first activation or one within a gap
-one_of_both : (c : Claim) → one_if_first c + one_if_within c ≡ 1
+pub one_of_both : (c : Claim) → one_if_first c + one_if_within c ≡ 1
 one_of_both claims.First = refl
 one_of_both (claims.Within gap) = refl
+
+pub at_most_one : (c : Claim) → one_if_first c ≤ 1
+at_most_one c = omega (arith, one_of_both c)
 
 pub both_claims : (bs : List NamedBlock) → first_among bs + within_among bs ≡ length bs
 both_claims [] = refl

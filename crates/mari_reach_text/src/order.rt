@@ -5,10 +5,10 @@ ghost use Rattle.mari_lines.specs.Ranges.{InRange};
 ghost use Rattle.mari_publish.specs.Order.{HasRoom};
 ghost use Rattle.mari_reach_lines.specs.Ranges.{ReachInRange};
 ghost use Rattle.mari_reach_lines.specs.declared.line.ReachLine.TheVariants as reach;
-ghost use Rattle.mari_reach_text.specs.Claims.{one_if_first as one_for};
 ghost use Rattle.mari_reach_text.specs.Order.{FollowsReach, after_both, given, kept_beside, line_of, noted, said};
 ghost use Rattle.mari_reach_text.specs.Order.{counts_right as counts, without_tree as tree_left_out};
 
+use crate::claims::one_if_first;
 use crate::kept::{ReachKept, ReachPart, Said};
 use crate::named::{NamedBlock, NamedItem};
 use mari_lines::{FormFault, Line};
@@ -80,16 +80,6 @@ fn push(alloc: Global, tree: &mut Items<NamedItem>, item: NamedItem) -> Result<(
     let pushed = list.push(item).is_ok();
     *tree = Items::of(list);
     if pushed { Ok(()) } else { Err(Memory) }
-}
-
-/// 1 for the first activation.
-fn one_if_first(claim: Claim) -> u32
-    ensures { result ≡ one_for claim }
-{
-    match claim {
-        Claim::First => 1,
-        Claim::Within(_) => 0,
-    }
 }
 
 /// Keeps what a line says besides.

@@ -1,7 +1,8 @@
 use Rattle.std.proofs.Common.{◌+◌, arith, refl, ap}
 use Rattle.mari_reach_check.specs.declared.day.Tested.TheVariants.{Faulty, Sound}
 use Rattle.mari_reach_check.specs.Day.{all_printed}
-use Rattle.mari_reach_check.proofs.Days.{after_is, as_many, at_most, few_runs, first_few, next-run, one_more, past_last, tested-as}
+use Rattle.mari_reach_text.proofs.Accepted.{at_most_one}
+use Rattle.mari_reach_check.proofs.Days.{after_is, as_many, few_runs, first_few, next-run, one_more, past_last, tested-as}
 use Rattle.mari_reach_check.proofs.day.ReachDayCheck.block.Goals as goal
 
 pub next_run-run-requires : goal.next_run-run-requires
@@ -31,8 +32,8 @@ overflow_add-self c =
       first_few s.0,
       as_many c.args.books.now c.requires.accepted s.0 c.args.self.now s.1,
       few_runs c.args.books.now c.requires.accepted s.0 c.args.self.now s.1,
-      c.count_of-count.ensures,
-      at_most c.args.block.claim,
+      c.one_if_first-count.ensures,
+      at_most_one c.args.block.claim,
     )
 
 pub returns-in-Faulty-clause-finds : goal.returns-in-Faulty-clause-finds
@@ -51,4 +52,4 @@ returns-in-Sound-clause-stands c = λ blocks checked none.
     let is = after_is c.args.books.now c.requires.accepted blocks c.args.self.now checked c.next_run-run.result c.next_run-run.ensures in
     let sound = tested-as c.args.books.now c.args.self.now.budget blocks c.args.block c.in_ok-fault.field-0 (Sound c.in-Sound.settled) c.in-Sound.is (c.in_ok-fault.ensures blocks checked is) in
     let added = c.add.ensures (all_printed blocks) c.args.block.block checked.progress is (next-run c.args.books.now c.args.self.now.budget blocks c.args.block c.in-Sound.settled sound) in
-    one_more c.args.books.now blocks c.args.self.now checked c.args.block sound.0 _ added refl (ap (λ n. c.args.self.now.first + n) c.count_of-count.ensures)
+    one_more c.args.books.now blocks c.args.self.now checked c.args.block sound.0 _ added refl (ap (λ n. c.args.self.now.first + n) c.one_if_first-count.ensures)

@@ -1,5 +1,5 @@
 use Rattle.std.proofs.Common.{arith}
-use Rattle.mari_reach_check.proofs.Days.{both_claims}
+use Rattle.mari_reach_text.proofs.Accepted.{both_claims}
 use Rattle.mari_reach_check.proofs.Verdicts.{is-missing, is-valid, other-totals, own-sums, those-sums}
 use Rattle.mari_reach_check.proofs.day.ReachDayCheck.last_verdict.Goals as goal
 

@@ -2,7 +2,8 @@ use Rattle.std.proofs.Common.{arith}
 use Rattle.std.proofs.lemmas.List.Elements.{All-push}
 use Rattle.mari_reach_day.specs.Ranges.{ReachFits}
 use Rattle.mari_reach_day.specs.Reach.{blocks_of}
-use Rattle.mari_reach_day.proofs.Counts.{at_most_one, both_kinds, first_more}
+use Rattle.mari_reach_text.proofs.Accepted.{at_most_one}
+use Rattle.mari_reach_day.proofs.Counts.{both_kinds, first_more}
 use Rattle.mari_reach_day.proofs.Progressing.{next_run, one_more, run_of}
 use Rattle.mari_reach_day.proofs.writing.ReachSoFarDaySoFarUnit.next.Goals as goal
 

@@ -37,6 +37,11 @@ refused_line r =
 abbrev pub pair_line : List ℕ → ℕ → ℕ → List ℕ
 pair_line word first second = word ++ decimal first ++ 32 ∷ decimal second ++ 10 ∷ []
 
+-- the line of a publication that is valid, with two numbers of its blocks: of the first form how many are published and how
+-- many aren't, of the second how many state the first activation and how many one within a gap
+abbrev pub valid_line : ℕ → ℕ → List ℕ
+valid_line first second = pair_line (codes "valid ") first second
+
 -- the line of a publication that isn't: the first run that has a fault, and the fault's number
 abbrev pub invalid_line : ℕ → ℕ → List ℕ
 invalid_line run fault = pair_line (codes "invalid ") run fault

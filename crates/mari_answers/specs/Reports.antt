@@ -1,11 +1,13 @@
--- How a text, a refusal, a page that can't be had and a folder without books are reported: what a sink takes, and the
--- status.
-use Rattle.std.specs.Prelude.{ℕ, ◌≡◌, ◌⊎◌, List, Option, Some}
+-- How a text, a refusal, a page that can't be had, the end of a feed and a folder without books are reported: what a
+-- sink takes, and the status.
+use Rattle.std.specs.Prelude.{ℕ, ◌≡◌, ◌⊎◌, List, Option, Some, Result, Ok, Err}
 use Rattle.mari_units.specs.declared.faults.Refusal.{Refusal}
 use Rattle.mari_io.specs.Outside.{Pages}
 use Rattle.mari_io.specs.Taken.{TookPart, then_took}
 use Rattle.mari_io.specs.declared.shelf.Fetch.{Fetch}
 use Rattle.mari_io.specs.declared.shelf.Fetch.TheVariants as fetch
+use Rattle.mari_day.specs.Files.{file_named, path_in}
+use Rattle.mari_day.specs.declared.files.TheConstants.{PUBLICATION}
 use Rattle.mari_day.specs.declared.reading.BooksFault.{BooksFault}
 use Rattle.mari_day.specs.declared.reading.BooksFault.TheVariants as why
 use Rattle.mari_answers.specs.declared.status.Status.{Status}
@@ -13,12 +15,18 @@ use Rattle.mari_answers.specs.declared.status.Status.TheVariants as status
 use Rattle.mari_publish.specs.declared.fault.TextFault.{TextFault}
 use Rattle.mari_publish.specs.declared.fault.TextFault.TheVariants as text_fault
 use Rattle.mari_publish.specs.Streams.{AsksForPage}
+use Rattle.mari_feed.specs.declared.stream.FeedStop.{FeedStop}
+use Rattle.mari_feed.specs.declared.stream.FeedStop.TheVariants as stop
 use Rattle.mari_answers.specs.Lines.{file_line, page_status, page_word, refused_line}
 use Rattle.mari_answers.specs.Texts.{text_refusal}
 
 -- where the pages are reported, this is so of them
 abbrev pub WhereReported : Option Pages → (Pages → Type 0) → Type 0
 WhereReported pages IsSo = (reported : Pages) → pages ≡ Some reported → IsSo reported
+
+-- the name of a folder's publication
+abbrev pub publication_path : List ℕ → List ℕ
+publication_path folder = path_in folder (file_named PUBLICATION)
 
 -- so many calls that they may be for one page in pieces: none; or one, and then at most one for each byte that was
 -- given, and one
@@ -45,6 +53,14 @@ ReportsText fault before after result = ReportsRefusal (text_refusal fault) befo
 abbrev pub ReportsNoPage : ℕ → Fetch → (before after : Option (List ℕ)) → Status → Type 0
 ReportsNoPage file fetch.Memory before after result = (result ≡ status.Memory) × (after ≡ before)
 ReportsNoPage file why before after result = Reports (file_line (page_word why) file) (page_status why) before after result
+
+-- how the printing of a feed is reported by how it ended: nothing more is printed; or the line of its status is
+abbrev pub ReportsStop : {T : Type 0} → Result T FeedStop → (before after : Option (List ℕ)) → Status → Type 0
+ReportsStop (Ok done) before after result = (result ≡ status.Done) × (after ≡ before)
+ReportsStop (Err (stop.Fetch why)) before after result = ReportsNoPage PUBLICATION why before after result
+ReportsStop (Err (stop.Text fault)) before after result = ReportsText fault before after result
+ReportsStop (Err stop.Sink) before after result = (result ≡ status.WriteFault) × (after ≡ before)
+ReportsStop (Err stop.Memory) before after result = (result ≡ status.Memory) × (after ≡ before)
 
 -- the line of a file whose page can't be had, and its status; there is none where the page was given up out of memory
 abbrev pub IsPageLine : (file : ℕ) → Fetch → (line : List ℕ) → Status → Type 0

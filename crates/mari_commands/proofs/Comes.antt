@@ -22,7 +22,8 @@ use Rattle.mari_words.specs.declared.command.FilePart.{FilePart}
 use Rattle.mari_commands.specs.declared.outcome.Way.{Way}
 use Rattle.mari_commands.specs.declared.outcome.Outcome.{Outcome}
 use Rattle.mari_commands.specs.declared.outcome.Outcome.TheVariants.{Text, Invalid, NoPage, Refused, Memory as NoMemory}
-use Rattle.mari_commands.specs.Commands.{EndsValues, IsMigratable, IsReadable, LacksPage, RefusesFiles, RefusesText, already_two, fetch_of, folder_of, publication_path}
+use Rattle.mari_commands.specs.Commands.{EndsValues, IsMigratable, IsReadable, LacksPage, RefusesFiles, RefusesText, already_two, fetch_of, folder_of}
+use Rattle.mari_answers.specs.Reports.{publication_path}
 use Rattle.mari_answers.specs.Texts.{text_refusal}
 use Rattle.mari_commands.specs.Commands.LacksPage.{OfBooks as lacks-book, NoPublication as lacks-publication, LongPublication as lacks-long, NoFeed as lacks-feed, LongFeed as lacks-long-feed, OfValues as lacks-values}
 use Rattle.mari_commands.specs.Commands.RefusesFiles.{OfBooks as refuses-books, OfVersion as refuses-version}

@@ -37,11 +37,11 @@ use Rattle.mari_commands.specs.declared.outcome.Outcome.{Outcome}
 use Rattle.mari_commands.specs.declared.outcome.Outcome.TheVariants.{Day, Feed as Feeds, Values, Text, Invalid, NoPage, Refused, Memory as NoMemory}
 use Rattle.mari_answers.specs.declared.status.Status.{Status}
 use Rattle.mari_answers.specs.declared.status.Status.TheVariants as status
-use Rattle.mari_commands.specs.Commands.{EndsValues, HasBooksToClear, IsFeedable, IsMigratable, IsReadable, LacksPage, RefusesFeed, RefusesFiles, RefusesText, fetch_of, publication_path}
+use Rattle.mari_commands.specs.Commands.{EndsValues, HasBooksToClear, IsFeedable, IsMigratable, IsReadable, LacksPage, RefusesFeed, RefusesFiles, RefusesText, fetch_of}
 use Rattle.mari_answers.specs.Texts.{text_refusal}
 use Rattle.mari_commands.specs.Headline.{HasBudget}
-use Rattle.mari_commands.specs.Outcome.{IsDayOf, IsFeedOf, IsReportedValues, Reported, ReportsDay, ReportsFeed, ReportsParts, Says, day_status}
-use Rattle.mari_answers.specs.Reports.{Reports, ReportsText}
+use Rattle.mari_commands.specs.Outcome.{IsDayOf, IsFeedOf, IsReportedValues, Reported, ReportsDay, ReportsParts, Says, day_status}
+use Rattle.mari_answers.specs.Reports.{Reports, ReportsStop, ReportsText, publication_path}
 use Rattle.mari_answers.specs.Lines.{file_line, invalid_line, refused_line}
 use Rattle.mari_commands.specs.Program.{IsDayStatus, IsStatus, IsVerdictStatus, OrFault, gap_status}
 use Rattle.mari_commands.specs.Splits.{EndsBy, HasIslandBudget, IsSplittable}
@@ -163,7 +163,7 @@ module _ (shown : Option Pages) (late : Type 0) (before after : Option (List ℕ
 
   fed-refused : (page : List ℕ) (f : TextFault) → IsReportedFault page f
       → (between : Option (List ℕ)) (end : Result (Unit {0}) FeedStop) → FeedStates (Some page) before between end
-      → ReportsFeed end between after result → OrFault (IsStatus (status.Refused (text_refusal f))) result
+      → ReportsStop end between after result → OrFault (IsStatus (status.Refused (text_refusal f))) result
   fed-refused page f bad between (Ok end) (short, took) r = absurd (no-fault-of-text page took.publication f took.is (reported-first page f bad))
   fed-refused page f bad between (Err (stop.Fetch fetch.Failed)) t r = fetch-failed (IsStatus (status.Refused (text_refusal f))) between r
   fed-refused page f bad between (Err (stop.Fetch fetch.TooLong)) t r = absurd (long-none page f t.0 bad)
@@ -177,7 +177,7 @@ module _ (shown : Option Pages) (late : Type 0) (before after : Option (List ℕ
 
   fed-whole : (page : List ℕ) (p : Publication) → IsText page p → length page ≤ most_given
       → (between : Option (List ℕ)) (end : Result (Unit {0}) FeedStop) → FeedStates (Some page) before between end
-      → ReportsFeed end between after result → OrFault (IsStatus status.Done) result
+      → ReportsStop end between after result → OrFault (IsStatus status.Done) result
   fed-whole page p is short between (Ok end) t r = inl r.0
   fed-whole page p is short between (Err (stop.Fetch fetch.Failed)) t r = fetch-failed (IsStatus status.Done) between r
   fed-whole page p is short between (Err (stop.Fetch fetch.TooLong)) t r = absurd (let long = t.0.longer in omega (arith, long, short))
@@ -188,7 +188,7 @@ module _ (shown : Option Pages) (late : Type 0) (before after : Option (List ℕ
 
   fed-gap : (page : Option (List ℕ)) (gap : Gap) → IsFeedGap page gap
       → (between : Option (List ℕ)) (end : Result (Unit {0}) FeedStop) → FeedStates page before between end
-      → ReportsFeed end between after result → OrFault (IsStatus (gap_status gap)) result
+      → ReportsStop end between after result → OrFault (IsStatus (gap_status gap)) result
   fed-gap None OverLimit g between end t r = absurd g
   fed-gap (Some page) NotHeld g between end t r = absurd g
   fed-gap None NotHeld g between (Err (stop.Fetch fetch.Failed)) t r = fetch-failed (IsStatus status.Missing) between r
@@ -206,7 +206,7 @@ module _ (shown : Option Pages) (late : Type 0) (before after : Option (List ℕ
     -- what is said of the publication that is printed as a feed
     fed-by : (Q : Status → Type 0) (folder : List ℕ) → asked ≡ Some (Feed folder)
         → ((between : Option (List ℕ)) (end : Result (Unit {0}) FeedStop) → FeedStates (page_of pages (publication_path folder)) before between end
-        → ReportsFeed end between after result → OrFault Q result)
+        → ReportsStop end between after result → OrFault Q result)
         → OrFault Q result
     fed-by Q folder feed ends = let P : Option Asked → Type 0 = λ a. Says a pages o in by o (subst P feed says) reported
       where

@@ -17,12 +17,12 @@ use Rattle.mari_words.specs.Asked.{Asked}
 use Rattle.mari_words.specs.Asked.Asked.{Feed}
 use Rattle.mari_answers.specs.declared.status.Status.{Status}
 use Rattle.mari_answers.specs.declared.status.Status.TheVariants as status
-use Rattle.mari_commands.specs.Commands.{HasFeed, IsRefused, LacksPage, publication_path}
+use Rattle.mari_commands.specs.Commands.{HasFeed, IsRefused, LacksPage}
 use Rattle.mari_answers.specs.Texts.{text_refusal}
 use Rattle.mari_commands.specs.Commands.IsRefused.{OfFeed as refused-feed}
 use Rattle.mari_commands.specs.Commands.LacksPage.{NoFeed as lacks-feed, LongFeed as lacks-long}
-use Rattle.mari_commands.specs.Outcome.{MayWant, ReportsFeed, ReportsParts}
-use Rattle.mari_answers.specs.Reports.{Reports, ReportsRefusal, WhereReported}
+use Rattle.mari_commands.specs.Outcome.{MayWant, ReportsParts}
+use Rattle.mari_answers.specs.Reports.{Reports, ReportsRefusal, ReportsStop, WhereReported, publication_path}
 use Rattle.mari_answers.specs.Reports.Reports.{Printed, CutOff, Starved}
 use Rattle.mari_answers.specs.Lines.{file_line}
 use Rattle.mari_commands.specs.Program.{Answers, IsCutOff, IsDone, IsStarved, TookFirstPart, TookOf, TookSummary, TookVerdict, gap_status, gap_word}
@@ -227,7 +227,7 @@ module _ (asked : Option Asked) (pages : Option Pages) (failed : Type 0) (before
   no-wrapped None t = t
   no-wrapped (Some page) t = t
 
-  of-end : (end : Result (Unit {0}) FeedStop) (result : Status) → (IsFeedFetch fetch.Failed end → failed) → States end → ReportsFeed end between after result → Ends result
+  of-end : (end : Result (Unit {0}) FeedStop) (result : Status) → (IsFeedFetch fetch.Failed end → failed) → States end → ReportsStop end between after result → Ends result
   of-end (Ok end) result cause states (e, p) = subst Ends (sym e) (done end states p)
   of-end (Err (stop.Fetch fetch.Failed)) result cause states r = of-failed result (cause refl) states r
   of-end (Err (stop.Fetch fetch.Missing)) result cause states r =

@@ -21,7 +21,8 @@ use Rattle.mari_commands.specs.declared.outcome.Job.{Job}
 use Rattle.mari_commands.specs.declared.outcome.Way.{Way}
 use Rattle.mari_commands.specs.declared.outcome.Outcome.{Outcome}
 use Rattle.mari_commands.specs.declared.outcome.Outcome.TheVariants.{Day, Values, Text, Invalid, NoPage, Refused, Memory as NoMemory}
-use Rattle.mari_commands.specs.Commands.{AsksForFeed, AsksForFiles, AsksForLines, AsksForValues, AsksToCheck, HasPublication, IsAlone, IsInvalid, IsReadable, IsRefused, LacksPage, Prints, ReadsFolder, StatesValues, fetch_of, folder_of, publication_path}
+use Rattle.mari_commands.specs.Commands.{AsksForFeed, AsksForFiles, AsksForLines, AsksForValues, AsksToCheck, HasPublication, IsAlone, IsInvalid, IsReadable, IsRefused, LacksPage, Prints, ReadsFolder, StatesValues, fetch_of, folder_of}
+use Rattle.mari_answers.specs.Reports.{publication_path}
 use Rattle.mari_commands.specs.Commands.IsRefused.{OfFiles as refused-files, OfText as refused-text}
 use Rattle.mari_commands.specs.Commands.RefusesFiles.{OfBooks as refuses-books, OfVersion as refuses-version}
 use Rattle.mari_commands.specs.Commands.LacksPage.{OfBooks as lacks-book, NoPublication as lacks-publication, LongPublication as lacks-long}
@@ -29,7 +30,8 @@ use Rattle.mari_commands.specs.Commands.IsInvalid.{OfCheck as invalid-checked}
 use Rattle.mari_commands.specs.Commands.Prints.{Valid as prints-valid, Migrated as prints-migrated, Generated as prints-generated}
 use Rattle.mari_commands.specs.Outcome.{AsksForText, CheckStates, ComesOfBooks, Says, SaysOfFolder}
 use Rattle.mari_commands.specs.Outcome.SaysOfFolder.{OfRefusal, OfGap, OfBooks, Fails, Starves}
-use Rattle.mari_commands.specs.Printing.{usage_line, valid_line}
+use Rattle.mari_commands.specs.Printing.{usage_line}
+use Rattle.mari_answers.specs.Lines.{valid_line}
 use Rattle.mari_commands.specs.Program.{TookFirstPart, TookLine, TookSummary, TookVerdict}
 use Rattle.mari_commands.specs.Program.TookAhead.{Nothing as nothing-ahead}
 use Rattle.mari_commands.specs.Splits.{command_by}

@@ -14,7 +14,7 @@ use Rattle.mari_remain.specs.declared.books.Books.{Books}
 use Rattle.mari_remain.specs.Migrated.{borders_page, limits_page}
 use Rattle.mari_day.specs.declared.files.File.TheVariants as file
 use Rattle.mari_day.specs.declared.files.TheConstants.{PUBLICATION}
-use Rattle.mari_day.specs.Files.{Gap, file_named, file_number, path_in}
+use Rattle.mari_day.specs.Files.{Gap, file_number}
 use Rattle.mari_day.specs.Files.Gap.{NotHeld, OverLimit}
 use Rattle.mari_day.specs.Reading.{HasBooks, HasGap, HasRefusal}
 use Rattle.mari_check.specs.Day.{IsFirstFault, IsValidPublication}
@@ -29,8 +29,9 @@ use Rattle.mari_words.specs.declared.command.FilePart.{FilePart}
 use Rattle.mari_words.specs.declared.command.FilePart.TheVariants.{Borders, Limits}
 use Rattle.mari_answers.specs.declared.checks.MigrationCheck.TheVariants.{AlreadyTwo}
 use Rattle.mari_answers.specs.Checks.{migration_check_number}
+use Rattle.mari_answers.specs.Reports.{publication_path}
 use Rattle.mari_answers.specs.Texts.{text_refusal}
-use Rattle.mari_commands.specs.Printing.{valid_line}
+use Rattle.mari_answers.specs.Lines.{valid_line}
 use Rattle.mari_commands.specs.Summary.{IsGenerated}
 
 -- the folder whose market files a command reads; quarters that are cleared as one market have their own definitions
@@ -82,10 +83,6 @@ AsksForBlocks asked = (folder : List ℕ) × (first : ℕ) × (last : ℕ) × (n
 -- blocks.csv
 abbrev pub AsksForPages : Option Asked → Type 0
 AsksForPages asked = AsksForFiles asked ⊎ (AsksForFeed asked ⊎ AsksForBlocks asked)
-
--- the name of a folder's publication
-abbrev pub publication_path : List ℕ → List ℕ
-publication_path folder = path_in folder (file_named PUBLICATION)
 
 -- the folder's publication is checked: its market files give these books, and it is this page
 pub record HasPublication (asked : Option Asked) (pages : Pages) (books : Books) (page : List ℕ) : Type 0 where

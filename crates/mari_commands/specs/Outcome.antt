@@ -26,7 +26,6 @@ use Rattle.mari_check.specs.Streams.{StreamStates}
 use Rattle.mari_check.specs.declared.stream.StreamFault.TheVariants as stream
 use Rattle.mari_feed.specs.Streams.{FeedStates, IsFeedFetch}
 use Rattle.mari_feed.specs.declared.stream.FeedStop.{FeedStop}
-use Rattle.mari_feed.specs.declared.stream.FeedStop.TheVariants as stop
 use Rattle.mari_words.specs.Asked.{Asked}
 use Rattle.mari_words.specs.Asked.Asked.{Blocks, Clear, Check, Generate, Migrate, Feed, Split, Value}
 use Rattle.mari_capacity.specs.declared.ending.ValueEnd.{ValueEnd}
@@ -43,12 +42,12 @@ use Rattle.mari_commands.specs.declared.outcome.Outcome.TheVariants.{NoCommand, 
 use Rattle.mari_answers.specs.declared.status.Status.{Status}
 use Rattle.mari_answers.specs.declared.status.Status.TheVariants as status
 use Rattle.mari_words.specs.declared.command.FilePart.{FilePart}
-use Rattle.mari_commands.specs.Commands.{AsksForFiles, AsksForLines, AsksForValues, AsksToCheck, IsAlone, already_two, fetch_of, folder_of, page_of_part, publication_path}
+use Rattle.mari_commands.specs.Commands.{AsksForFiles, AsksForLines, AsksForValues, AsksToCheck, IsAlone, already_two, fetch_of, folder_of, page_of_part}
 use Rattle.mari_commands.specs.Splits.{EndsBy, command_by}
 use Rattle.mari_commands.specs.Summary.{IsGenerated}
-use Rattle.mari_commands.specs.Printing.{usage_line, valid_line}
-use Rattle.mari_answers.specs.Lines.{invalid_line}
-use Rattle.mari_answers.specs.Reports.{Reports, ReportsNoPage, ReportsRefusal, ReportsText, WhereReported}
+use Rattle.mari_commands.specs.Printing.{usage_line}
+use Rattle.mari_answers.specs.Lines.{invalid_line, valid_line}
+use Rattle.mari_answers.specs.Reports.{Reports, ReportsNoPage, ReportsRefusal, ReportsStop, WhereReported, publication_path}
 use Rattle.mari_answers.specs.Refusals.{HasName}
 use Rattle.mari_answers.specs.Texts.{refusal_of, text_refusal}
 use Rattle.mari_commands.specs.Values.{value_line, value_status}
@@ -144,14 +143,6 @@ pub record ReportsDay (job : Job) (before after : Option (List ℕ)) (result : S
   pub ends : EndsBy job.way job.books job.nodes before after ended
   pub status : result ≡ day_status ended
 
--- how the printing of a feed is reported by how it ended: nothing more is printed; or the line of its status is
-abbrev pub ReportsFeed : {T : Type 0} → Result T FeedStop → (before after : Option (List ℕ)) → Status → Type 0
-ReportsFeed (Ok done) before after result = (result ≡ status.Done) × (after ≡ before)
-ReportsFeed (Err (stop.Fetch why)) before after result = ReportsNoPage PUBLICATION why before after result
-ReportsFeed (Err (stop.Text fault)) before after result = ReportsText fault before after result
-ReportsFeed (Err stop.Sink) before after result = (result ≡ status.WriteFault) × (after ≡ before)
-ReportsFeed (Err stop.Memory) before after result = (result ≡ status.Memory) × (after ≡ before)
-
 -- how the feed of a folder is reported: lines of the publication's parts are printed, as its printing ended, and then
 -- the line of the status; that a call of the shelf failed is reported only where one did
 pub record ReportsParts (pages : Option Pages) (failed : Type 0) (folder : List ℕ) (before after : Option (List ℕ)) (result : Status) : Type 0 where
@@ -159,7 +150,7 @@ pub record ReportsParts (pages : Option Pages) (failed : Type 0) (folder : List 
   pub end : Result (Unit {0}) FeedStop
   pub cause : IsFeedFetch fetch.Failed end → failed
   pub states : WhereReported pages (λ reported. FeedStates (page_of reported (publication_path folder)) before between end)
-  pub reports : ReportsFeed end between after result
+  pub reports : ReportsStop end between after result
 
 -- how the values of limits are reported by how they end: the lines are printed, and then the line of the status
 abbrev pub ReportsValues : (lines : List ℕ) → ValueEnd → (before after : Option (List ℕ)) → Status → Type 0

@@ -18,8 +18,8 @@ use Rattle.mari_capacity.specs.Streams.{IsPageEnd}
 use Rattle.mari_words.specs.Asked.Asked.{Check, Generate, Feed}
 use Rattle.mari_answers.specs.declared.status.Status.{Status}
 use Rattle.mari_answers.specs.declared.status.Status.TheVariants.{Done, Unpublished, Usage, Refused, ReadFault, WriteFault, Memory, Invalid, Missing, TooLong}
-use Rattle.mari_answers.specs.Reports.{WhereReported}
-use Rattle.mari_commands.specs.Commands.{AreCleared, AsksForFeed, AsksForPages, AsksForValues, AsksToCheck, AsksToClear, HasFeed, IsAlone, IsFeedable, IsInvalid, IsRefused, LacksPage, Prints, ReadsFolder, StatesValues, fetch_of, publication_path}
+use Rattle.mari_answers.specs.Reports.{WhereReported, publication_path}
+use Rattle.mari_commands.specs.Commands.{AreCleared, AsksForFeed, AsksForPages, AsksForValues, AsksToCheck, AsksToClear, HasFeed, IsAlone, IsFeedable, IsInvalid, IsRefused, LacksPage, Prints, ReadsFolder, StatesValues, fetch_of}
 use Rattle.mari_answers.specs.Texts.{text_refusal}
 use Rattle.mari_commands.specs.Headline.{WroteDay}
 use Rattle.mari_commands.specs.Outcome.{IsValidLine, MayWant}

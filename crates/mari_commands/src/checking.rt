@@ -5,7 +5,7 @@ ghost use Rattle.mari_io.specs.Outside.{Counts, Pages, page_of};
 ghost use Rattle.mari_io.specs.declared.shelf.Fetch.TheVariants as fetch;
 ghost use Rattle.mari_remain.specs.Accepted.{IsAccepted};
 ghost use Rattle.mari_words.specs.Asked.Asked.{Check};
-ghost use Rattle.mari_commands.specs.Commands.{publication_path as path_of};
+ghost use Rattle.mari_answers.specs.Reports.{publication_path as path_of};
 ghost use Rattle.mari_commands.specs.Outcome.{CheckStates, IsNoPage, IsOfWords, IsReportable, IsReportedVerdict, Says, text_outcome as outcome_of_text};
 
 use crate::books::books_in;

@@ -5,9 +5,8 @@ ghost use Rattle.mari_io.specs.Outside.{Counts, Pages, page_of};
 ghost use Rattle.mari_io.specs.declared.shelf.Fetch.TheVariants as fetch;
 ghost use Rattle.mari_remain.specs.Accepted.{IsAccepted};
 ghost use Rattle.mari_words.specs.Asked.Asked.{Value};
-ghost use Rattle.mari_commands.specs.Commands.{publication_path as path_of};
 ghost use Rattle.mari_commands.specs.Outcome.{IsNoPage, IsOfWords, IsReportable, IsReportedValues, Says};
-ghost use Rattle.mari_answers.specs.Reports.{Reports};
+ghost use Rattle.mari_answers.specs.Reports.{Reports, publication_path as path_of};
 ghost use Rattle.mari_commands.specs.Values.{IsEnding, value_line, value_status};
 
 use crate::books::books_in;

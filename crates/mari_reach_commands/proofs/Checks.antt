@@ -12,13 +12,13 @@ use Rattle.mari_check.specs.declared.stream.StreamFault.TheVariants as stream
 use Rattle.mari_reach_check.specs.Streams.{StreamStates}
 use Rattle.mari_reach_check.specs.declared.verdict.ReachVerdict.{ReachVerdict}
 use Rattle.mari_reach_check.specs.declared.verdict.ReachVerdict.TheVariants as verdict
-use Rattle.mari_answers.specs.Lines.{invalid_line, refused_line}
+use Rattle.mari_answers.specs.Lines.{invalid_line, refused_line, valid_line}
 use Rattle.mari_answers.specs.Reports.{ReportsRefusal}
 use Rattle.mari_answers.specs.Texts.{text_refusal}
 use Rattle.mari_answers.specs.declared.status.Status.{Status}
 use Rattle.mari_answers.specs.declared.status.Status.TheVariants as status
 use Rattle.mari_answers.proofs.Causes.{fault_of, no-fault, page-fault, text-other}
-use Rattle.mari_reach_commands.specs.Answers.{ReportsAnswer, ReportsPage, valid_line}
+use Rattle.mari_reach_commands.specs.Answers.{ReportsAnswer, ReportsPage}
 
 -- a status that reports a fault of a fetch is that of the answer
 module _ (cause : Fetch) (result : Status) (is : fault_of result ≡ Some cause) (before after : Option (List ℕ)) where

@@ -1,10 +1,8 @@
 -- What each answer of the program says of the words, of the pages where they are reported, and of what the sink has taken.
 use Rattle.std.specs.Prelude.{ℕ, ◌≡◌, ◌==◌, if◌then◌else◌, List, Option, Some, None, Result, Ok, Err}
-use lib.Chars.{codes}
 use Rattle.mari_io.specs.Outside.{Pages, page_of}
 use Rattle.mari_io.specs.declared.shelf.Fetch.TheVariants as fetch
 use Rattle.mari_remain.specs.declared.books.Books.{Books}
-use Rattle.mari_day.specs.Files.{file_named, path_in}
 use Rattle.mari_day.specs.declared.files.TheConstants.{PUBLICATION}
 use Rattle.mari_day.specs.Reading.{BooksReport, HasBooks, IsFetchFault, NamesAFile}
 use Rattle.mari_day.specs.Refusals.{RefusesByCheck}
@@ -21,10 +19,9 @@ use Rattle.mari_reach_check.specs.declared.verdict.ReachVerdict.{ReachVerdict}
 use Rattle.mari_reach_check.specs.declared.verdict.ReachVerdict.TheVariants as verdict
 use Rattle.mari_feed.specs.Streams.{IsFeedFetch}
 use Rattle.mari_feed.specs.declared.stream.FeedStop.{FeedStop}
-use Rattle.mari_feed.specs.declared.stream.FeedStop.TheVariants as stop
 use Rattle.mari_reach_feed.specs.Streams.{FeedStates}
-use Rattle.mari_answers.specs.Lines.{invalid_line, pair_line}
-use Rattle.mari_answers.specs.Reports.{Reports, ReportsNoBooks, ReportsNoPage, ReportsText, WhereReported}
+use Rattle.mari_answers.specs.Lines.{invalid_line, valid_line}
+use Rattle.mari_answers.specs.Reports.{Reports, ReportsNoBooks, ReportsNoPage, ReportsStop, ReportsText, WhereReported, publication_path}
 use Rattle.mari_answers.specs.declared.status.Status.{Status}
 use Rattle.mari_answers.specs.declared.status.Status.TheVariants as status
 use Rattle.mari_reach_commands.specs.Words.{Job, Task, usage_line}
@@ -54,11 +51,8 @@ pub data ReportsFolder (pages : Option Pages) (failed : Type 0) (folder : List �
       → ReportsFolder pages failed folder nodes before after result
   OfNoBooks : LacksBooks pages failed folder before after result → ReportsFolder pages failed folder nodes before after result
 
--- the line of a valid day: how many runs have the first activation, and how many one within a gap
-abbrev pub valid_line : ℕ → ℕ → List ℕ
-valid_line first within = pair_line (codes "valid ") first within
-
--- how an answer of the check is reported
+-- how an answer of the check is reported; the line of a valid day says how many runs have the first activation, and how many one
+-- within a gap
 abbrev pub ReportsAnswer : Result ReachVerdict StreamFault → (before after : Option (List ℕ)) → Status → Type 0
 ReportsAnswer (Ok (verdict.Valid first within)) before after result = Reports (valid_line first within) status.Done before after result
 ReportsAnswer (Ok (verdict.Invalid run fault)) before after result = Reports (invalid_line run fault) (status.Invalid run fault) before after result
@@ -66,21 +60,18 @@ ReportsAnswer (Err (stream.Fetch why)) before after result = ReportsNoPage PUBLI
 ReportsAnswer (Err (stream.Text fault)) before after result = ReportsText fault before after result
 ReportsAnswer (Err stream.Memory) before after result = (result ≡ status.Memory) × (after ≡ before)
 
--- the name of a folder's publication, and its page
-abbrev pub publication_path : List ℕ → List ℕ
-publication_path folder = path_in folder (file_named PUBLICATION)
-
-abbrev pub publication_of : Pages → (folder : List ℕ) → Option (List ℕ)
-publication_of pages folder = page_of pages (publication_path folder)
+-- the page of a folder's publication
+abbrev pub publication_page : Pages → (folder : List ℕ) → Option (List ℕ)
+publication_page pages folder = page_of pages (publication_path folder)
 
 -- how a publication is reported that is checked by these books: what is answered is so of its page, of the
 -- text of a day it is the verdict on that day, and it is reported
 pub record ReportsPage (pages : Option Pages) (failed : Type 0) (books : Books) (folder : List ℕ)
     (before after : Option (List ℕ)) (result : Status) : Type 0 where
   pub answer : Result ReachVerdict StreamFault
-  pub states : WhereReported pages (λ reported. StreamStates books (publication_of reported folder) answer)
+  pub states : WhereReported pages (λ reported. StreamStates books (publication_page reported folder) answer)
   pub whole : WhereReported pages (λ reported. (page : List ℕ) (p : ReachPublication)
-      → publication_of reported folder ≡ Some page → IsReachText page p → SaysOf books p answer)
+      → publication_page reported folder ≡ Some page → IsReachText page p → SaysOf books p answer)
   pub cause : IsStreamFetch fetch.Failed answer → failed
   pub said : ReportsAnswer answer before after result
 
@@ -91,21 +82,13 @@ pub data ReportsCheck (pages : Option Pages) (failed : Type 0) (folder : List �
       → ReportsCheck pages failed folder before after result
   OfNoPage : LacksBooks pages failed folder before after result → ReportsCheck pages failed folder before after result
 
--- how the printing of a feed is reported by how it ended: nothing more is printed; or the line of its status is
-abbrev pub ReportsStop : {T : Type 0} → Result T FeedStop → (before after : Option (List ℕ)) → Status → Type 0
-ReportsStop (Ok done) before after result = (result ≡ status.Done) × (after ≡ before)
-ReportsStop (Err (stop.Fetch why)) before after result = ReportsNoPage PUBLICATION why before after result
-ReportsStop (Err (stop.Text fault)) before after result = ReportsText fault before after result
-ReportsStop (Err stop.Sink) before after result = (result ≡ status.WriteFault) × (after ≡ before)
-ReportsStop (Err stop.Memory) before after result = (result ≡ status.Memory) × (after ≡ before)
-
 -- how the feed of a folder is reported: lines of the publication's parts are printed, as its printing ended, and then the line
 -- of the status; that a call of the shelf failed is reported only where one did
 pub record ReportsFeed (pages : Option Pages) (failed : Type 0) (folder : List ℕ) (before after : Option (List ℕ)) (result : Status) : Type 0 where
   pub between : Option (List ℕ)
   pub end : Result (Unit {0}) FeedStop
   pub cause : IsFeedFetch fetch.Failed end → failed
-  pub states : WhereReported pages (λ reported. FeedStates (publication_of reported folder) before between end)
+  pub states : WhereReported pages (λ reported. FeedStates (publication_page reported folder) before between end)
   pub reports : ReportsStop end between after result
 
 -- what an answer says: the words are no command, and the usage line is written; or the folder is reported whose day is to be

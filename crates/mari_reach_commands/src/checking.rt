@@ -3,7 +3,8 @@
 ghost use Rattle.std.specs.Prelude.{◌≡◌};
 ghost use Rattle.mari_io.specs.Outside.{Counts, Rose};
 ghost use Rattle.mari_remain.specs.Accepted.{IsAccepted};
-ghost use Rattle.mari_reach_commands.specs.Answers.{ReportsAnswer, ReportsCheck, ReportsPage, valid_line};
+ghost use Rattle.mari_reach_commands.specs.Answers.{ReportsAnswer, ReportsCheck, ReportsPage};
+ghost use Rattle.mari_answers.specs.Lines.{valid_line};
 ghost use Rattle.mari_answers.specs.Reports.{Reports};
 
 use mari_answers::{

@@ -3,7 +3,7 @@ use Rattle.mari_io.specs.Outside.{page_of}
 use Rattle.mari_feed.specs.Streams.{FeedStates}
 use Rattle.mari_feed.specs.declared.stream.FeedStop.TheVariants as stop
 use Rattle.mari_day.specs.Files.{path_in}
-use Rattle.mari_commands.specs.Commands.{publication_path}
+use Rattle.mari_answers.specs.Reports.{publication_path}
 use Rattle.mari_commands.proofs.Reporting.{nothing_fed}
 use Rattle.mari_commands.proofs.feeding.fed.Goals as goal
 

@@ -5,7 +5,7 @@ use Rattle.mari_check.specs.declared.stream.StreamFault.TheVariants as stream
 use Rattle.mari_day.specs.Files.{path_in}
 use Rattle.mari_reach_check.specs.Streams.{StreamStates}
 use Rattle.mari_answers.proofs.Causes.{fault_of}
-use Rattle.mari_reach_commands.specs.Answers.{publication_path}
+use Rattle.mari_answers.specs.Reports.{publication_path}
 use Rattle.mari_reach_commands.proofs.Checks.{answer-fault, memory-states}
 use Rattle.mari_reach_commands.proofs.checking.check_page.Goals as goal
 

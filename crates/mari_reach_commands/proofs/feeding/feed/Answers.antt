@@ -1,7 +1,7 @@
 use Rattle.std.proofs.Common.{◌≡◌, ◌∙◌, Ok, Err, ap, refl}
 use Rattle.mari_day.specs.Files.{path_in}
 use Rattle.mari_feed.specs.declared.stream.FeedStop.TheVariants as stop
-use Rattle.mari_reach_commands.specs.Answers.{publication_path}
+use Rattle.mari_answers.specs.Reports.{publication_path}
 use Rattle.mari_reach_commands.proofs.Feeds.{fed_at, nothing_fed}
 use Rattle.mari_reach_commands.proofs.feeding.feed.Goals as goal
 

@@ -1,5 +1,5 @@
 -- A block after those that were checked: what its check shows, and the lines that state of it.
-use Rattle.std.proofs.Common.{◌≡◌, ℕ, ◌≤◌, ◌^◌, ℤ, pos, ◌-ℤ◌, ◌*ℤ◌, ◌≤ℤ◌, List, [], ◌∷◌, ◌++◌, map, length, get_or, Option, Some, None, Result, Ok, Err, arith, sym, subst}
+use Rattle.std.proofs.Common.{◌≡◌, ℕ, ◌≤◌, ◌^◌, ℤ, pos, ◌-ℤ◌, ◌*ℤ◌, ◌≤ℤ◌, List, [], ◌∷◌, ◌++◌, map, length, get_or, Option, None, Result, Ok, arith, sym, subst}
 use Rattle.std.specs.Int.{int_max}
 use Rattle.std.specs.List.{All}
 use Rattle.std.specs.Prelude.{IfOk, unsigned_abs}
@@ -82,9 +82,7 @@ as-many-lines m b a ps more ws feasible are =
 
 -- a block of which no fault is reported has none
 pub none-found : {E : Type 0} (free : Fault → Type 0) (r : Result (Option ℕ) E) → IfOk r (FindsNumber free) → r ≡ Ok None → (any : Fault) → free any
-none-found free (Ok None) h e = h
-none-found free (Ok (Some n)) h e = absurd (cc e)
-none-found free (Err why) h e = absurd (cc e)
+none-found free r h e = grind arith
 
 module _ (books : Books) (budget : ℕ) (blocks : List Block) (x : Block) (b : FullBlock) (is : x ≡ block.Published b) where
   abbrev pub Free : Type 0

@@ -104,17 +104,10 @@ module _ (books : Books) (page : List ℕ) where
 -- ---- so it ends
 
 ends-held : (books : Books) (n : ℕ) (page : List ℕ) (v : Valued) (end : ValueEnd) → EndsPage books n page v.text v.end → IsEndOf books (Some page) end → EndsAs end v
-ends-held books n page v end states is = by (is-end books n page v.text v.end states)
-  where
-    by : IsEndOf books (Some page) v.end ⊎ (v.end ≡ OfFetch fetch.Failed) → EndsAs end v
-    by (inl own) = inl (one-end books page v.end end own is)
-    by (inr failed) = inr failed
+ends-held books n page v end states is = grind (arith, is-end, one-end)
 
 ends-unheld : (books : Books) (text : List ℕ) (own end : ValueEnd) → EndsUnheld text own → IsEndOf books None end → (own ≡ end) ⊎ (own ≡ OfFetch fetch.Failed)
-ends-unheld books text (OfFetch fetch.Failed) end states is = inr refl
-ends-unheld books text (OfFetch fetch.Missing) (OfFetch fetch.Missing) states is = inl refl
-ends-unheld books text (OfFetch fetch.Missing) _ states is = absurd is
-ends-unheld books text _ end states is = absurd states
+ends-unheld books text own end states is = grind arith
 
 pub ends-exactly : {E : Type 0} (books : Books) (n : ℕ) (page : Option (List ℕ)) (r : Result Valued E) (end : ValueEnd)
     → IfOk r (λ v. ValueStates books n page v.text v.end) → IsEndOf books page end → IfOk r (EndsAs end)

@@ -1,7 +1,6 @@
 -- The first fault of the check in a text.
 use Rattle.std.proofs.Common.{◌≡◌, ◌∙◌, ℕ, List, [], ◌∷◌, ◌++◌, map, length, take, ◌⊎◌, inl, inr, refl, sym, ap, subst, arith, append_assoc}
 use Rattle.std.proofs.Math.Seq.{take-append_seam}
-use Rattle.std.proofs.lemmas.Bool.{cases_lt}
 use Rattle.std.proofs.lemmas.List.{append-nil}
 use Rattle.mari_units.proofs.Lists.{get_seam}
 use Rattle.mari_lines.specs.declared.line.AmountLine.{AmountLine}
@@ -16,10 +15,8 @@ use Rattle.mari_publish.specs.declared.publication.Publication.{Publication}
 use Rattle.mari_publish.proofs.Outcomes.{one_text}
 use Rattle.mari_remain.specs.declared.books.Books.{Books}
 use Rattle.mari_progress.specs.Totals.{HasHead}
-use Rattle.mari_check.specs.declared.fault.Fault.{Fault}
 use Rattle.mari_check.specs.Day.{AreFree, IsFirstFault, IsFreeIn, IsMissing, IsTotalsFault, IsValidPublication}
-use Rattle.mari_check.specs.Faults.{IsLeast, fault_number}
-use Rattle.mari_capacity.specs.Ends.{AreChecked, HasEndFault, HasFault, HasPartFault, NoPartFault, blocks_in, budget_in}
+use Rattle.mari_capacity.specs.Ends.{AreChecked, HasEndFault, HasFault, HasPartFault, NoPartFault, blocks_in}
 use Rattle.mari_capacity.proofs.HeldParts.{all-parts, given-parts, one-longer, parts-begin}
 
 -- ---- blocks among parts
@@ -78,20 +75,8 @@ given-fault books page run number f = record { parts = f.parts; part = f.part; t
 
 -- ---- one part has the first fault
 
-one-least : (free_of : Fault → Type 0) (a b : Fault) → IsLeast free_of a → IsLeast free_of b → fault_number a ≡ fault_number b
-one-least free_of a b x y = elim (cases_lt (fault_number a) (fault_number b)) [
-  | inl less ↦ absurd (x.there (y.none_lower a less))
-  | inr not ↦ elim (cases_lt (fault_number b) (fault_number a)) [
-    | inl more ↦ absurd (y.there (x.none_lower b more))
-    | inr nor ↦ omega (arith, not, nor)
-  ]
-]
-
 at-one-part : (books : Books) (P : List Part) (x : Part) (run number other least : ℕ) → HasFault books P x run number → HasFault books P x other least → (run ≡ other) × (number ≡ least)
-at-one-part books P (part.Head date quarters budget) run number other least f g = (f.2 ∙ sym g.2, f.3 ∙ sym g.3)
-at-one-part books P (part.Block b) run number other least f g =
-    (f.0 ∙ sym g.0, f.1.2 ∙ one-least (IsFreeIn books (budget_in P) (blocks_in P) b) f.1.0 g.1.0 f.1.1 g.1.1 ∙ sym g.1.2)
-at-one-part books P (part.Totals os ps) run number other least f g = absurd f
+at-one-part books P x run number other least f g = grind arith
 
 -- where one item more begins a longer list with one item more, that item is among the others
 inside : (A Q zs : List Part) (y z : Part) → Q ++ y ∷ [] ≡ A ++ z ∷ zs → (ys : List Part) × (Q ≡ A ++ ys)
@@ -119,11 +104,7 @@ same-ends (p ∷ P) (q ∷ Q) x y e =
 in-order : (books : Books) (P Q xs : List Part) (x y : Part) (run number other least : ℕ)
     → Q ++ y ∷ [] ≡ (P ++ x ∷ []) ++ xs → AreChecked books Q → HasFault books P x run number
     → HasFault books Q y other least → (run ≡ other) × (number ≡ least)
-in-order books P Q [] x y run number other least e checked f g =
-    let same = same-ends P Q x y (e ∙ append-nil (P ++ x ∷ [])) in
-    let F : List Part → Type 0 = λ ps. HasFault books ps y other least in
-    let G : Part → Type 0 = λ z. HasFault books P z other least in
-    at-one-part books P x run number other least f (subst G same.1 (subst F same.0 g))
+in-order books P Q [] x y run number other least e checked f g = grind (arith, same-ends, append-nil, at-one-part)
 in-order books P Q (z ∷ zs) x y run number other least e checked f g =
     let own = inside (P ++ x ∷ []) Q zs y z e in
     absurd (checked-free books P x own.0 run number (subst (λ (ps : List Part). AreChecked books ps) (own.1 ∙ append_assoc P (x ∷ []) own.0) checked) f)
@@ -139,17 +120,12 @@ one-part-fault books text run number other least f g = elim (one-longer text (f.
 end-kinds : (books : Books) (p : Publication) (run number : ℕ) → HasHead books p.date p.quarters
     → AreFree books p.budget p.blocks → IsFirstFault books p run number
     → IsMissing books p run number ⊎ IsTotalsFault books p run number
-end-kinds books p run number head free (inl h) = absurd (h.differs head)
-end-kinds books p run number head free (inr (inl b)) = absurd (b.is_least.there (free b.place b.block b.there b.least))
-end-kinds books p run number head free (inr (inr other)) = other
+end-kinds books p run number head free h = grind arith
 
 both-ends : (books : Books) (p : Publication) (run number other least : ℕ)
     → IsMissing books p run number ⊎ IsTotalsFault books p run number
     → IsMissing books p other least ⊎ IsTotalsFault books p other least → (run ≡ other) × (number ≡ least)
-both-ends books p run number other least (inl f) (inl g) = (f.run_is ∙ sym g.run_is, f.number_is ∙ sym g.number_is)
-both-ends books p run number other least (inr f) (inr g) = (f.run_is ∙ sym g.run_is, f.number_is ∙ sym g.number_is)
-both-ends books p run number other least (inl f) (inr g) = absurd (omega (arith, f.missing, g.every))
-both-ends books p run number other least (inr f) (inl g) = absurd (omega (arith, g.missing, f.every))
+both-ends books p run number other least h k = grind arith
 
 pub one-end-fault : (books : Books) (page : List ℕ) (run number other least : ℕ) → HasEndFault books page run number → HasEndFault books page other least → (run ≡ other) × (number ≡ least)
 one-end-fault books page run number other least f g =
@@ -159,8 +135,4 @@ one-end-fault books page run number other least f g =
     both-ends books p run number other least (end-kinds books p run number g.head g.free first) (end-kinds books p other least g.head g.free g.first)
 
 pub no-first-fault : (books : Books) (p : Publication) → IsValidPublication books p → (run number : ℕ) → IsFirstFault books p run number → ⊥
-no-first-fault books p valid run number f = by (end-kinds books p run number valid.head valid.blocks f)
-  where
-    by : IsMissing books p run number ⊎ IsTotalsFault books p run number → ⊥
-    by (inl m) = omega (arith, m.missing, valid.every)
-    by (inr t) = t.differ valid.totals
+no-first-fault books p valid run number f = grind (arith, end-kinds)

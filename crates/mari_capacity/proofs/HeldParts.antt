@@ -1,12 +1,10 @@
 -- The parts that a text holds: one list of them begins the other, and the longest is that after which none comes.
 use Rattle.std.proofs.Common.{◌≡◌, ◌∙◌, ℕ, List, [], ◌∷◌, ◌++◌, length, take, drop, Option, Some, None, ◌⊎◌, inl, inr, refl, sym, ap, subst, arith, append_assoc, length-append}
 use Rattle.std.specs.Prelude.{option_and_then}
-use Rattle.std.specs.List.{AllByRecursion}
 use Rattle.std.proofs.lemmas.Grind.{flat_map-append}
 use Rattle.std.proofs.lemmas.List.{append-nil, nil_from_length, take-append-drop}
 use Rattle.mari_io.specs.Outside.{most_given}
-use Rattle.mari_lines.specs.Ranges.{InRange}
-use Rattle.mari_lines.specs.Spelling.{line_text, spelling}
+use Rattle.mari_lines.specs.Spelling.{spelling}
 use Rattle.mari_lines.specs.declared.line.Line.{Line}
 use Rattle.mari_publish.specs.Faults.{IsText}
 use Rattle.mari_publish.specs.Lines.{lines_of, published_in, unpublished_in}
@@ -50,10 +48,7 @@ no-more P Q xs ys e f =
     e ∙ ap (λ (zs : List Part). P ++ zs) none ∙ append-nil P
 
 next-of : (C A : List Line) (P Q : List Part) (k r : Kept) → Gives A P k → Gives (A ++ C) Q r → (Q ≡ P) ⊎ NextPart A C P Q
-next-of [] A P Q k r g h =
-    let up = longer_parts A (A ++ []) [] P Q k r g h refl in
-    let down = longer_parts (A ++ []) A [] Q P r k h g (sym (append-nil A) ∙ sym (append-nil (A ++ []))) in
-    inl (no-more P Q up.0 down.0 up.1 down.1)
+next-of [] A P Q k r g h = grind (arith, longer_parts, append-nil, no-more)
 next-of (l ∷ C) A P Q k r g h =
     by (λ m own. next-of C (A ++ l ∷ []) P Q m r own (subst (λ (ls : List Line). Gives ls Q r) (sym (append_assoc A (l ∷ []) C)) h)) (after k k.held l) refl apart
   where
@@ -81,14 +76,7 @@ next-of (l ∷ C) A P Q k r g h =
 
 -- a text holds of lines the first ones too
 front-held : (text : List ℕ) (Q : List Part) (h : HoldsParts text Q) (P : List Part) (A C : List Line) (k : Kept) → h.lines ≡ A ++ C → Gives A P k → HoldsParts text P
-front-held text Q h P A C k e g = record {
-  lines = A;
-  after = text_of_lines C ++ h.after;
-  is = h.is ∙ ap (λ (ls : List Line). text_of_lines ls ++ h.after) e ∙ ap (λ (t : List ℕ). t ++ h.after) (flat_map-append line_text A C) ∙ append_assoc (text_of_lines A) (text_of_lines C) h.after;
-  in_range = all_front InRange A C (subst (AllByRecursion InRange) e h.in_range);
-  kept = k;
-  gives = g;
-}
+front-held text Q h P A C k e g = grind (arith, flat_map-append, append_assoc, all_front)
 
 -- a text that holds these parts, and none after them, holds no others
 pub all-parts : (text : List ℕ) (P Q : List Part) → HoldsParts text P → NoPart text P → HoldsParts text Q → (xs : List Part) × (P ≡ Q ++ xs)

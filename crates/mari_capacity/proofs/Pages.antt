@@ -1,25 +1,24 @@
 -- What is said of a page that isn't read to its end.
-use Rattle.std.proofs.Common.{◌≡◌, ◌∙◌, ◌≤◌, ◌++◌, ◌∷◌, ℕ, List, [], length, Option, Some, None, Result, Ok, Err, inl, inr, refl, sym, subst}
+use Rattle.std.proofs.Common.{◌≡◌, ◌≤◌, ◌++◌, ◌∷◌, ℕ, List, [], length, Option, Some, None, Result, Ok, Err, refl, sym, subst, arith}
 use Rattle.std.specs.Prelude.{IfErr, IfOk, OnOk}
 use Rattle.mari_io.specs.Outside.{most_given}
 use Rattle.mari_io.specs.declared.shelf.Fetch.{Fetch}
 use Rattle.mari_io.specs.declared.shelf.Fetch.TheVariants as fetch
-use Rattle.mari_publish.specs.Streams.{IsReadFetch, IsUnopened, ReadStates, SomeStates}
-use Rattle.mari_publish.specs.Streams as reading
+use Rattle.mari_publish.specs.Streams.{ReadStates, SomeStates}
 use Rattle.mari_publish.specs.declared.publication.Part.{Part}
 use Rattle.mari_publish.specs.declared.stream.ReadStop.{ReadStop}
 use Rattle.mari_publish.specs.declared.stream.ReadStop.TheVariants as read
 use Rattle.mari_remain.specs.declared.books.Books.{Books}
 use Rattle.mari_capacity.specs.declared.ending.ValueStop.{ValueStop}
-use Rattle.mari_capacity.specs.declared.ending.ValueStop.TheVariants.{At, Memory as NoMemory}
+use Rattle.mari_capacity.specs.declared.ending.ValueStop.TheVariants.{At}
 use Rattle.mari_capacity.specs.declared.ending.ValueEnd.{ValueEnd}
-use Rattle.mari_capacity.specs.declared.ending.ValueEnd.TheVariants.{Valid, Invalid, Text as OfText, Fetch as OfFetch}
+use Rattle.mari_capacity.specs.declared.ending.ValueEnd.TheVariants.{Invalid, Fetch as OfFetch}
 use Rattle.mari_capacity.specs.declared.ending.Valued.{Valued}
 use Rattle.mari_capacity.specs.declared.stream.ValuesSoFar.{ValuesSoFar}
-use Rattle.mari_capacity.specs.Streams.{IsPageEnd, IsPageFault, IsWrapped, LinesReport, ValueStates}
+use Rattle.mari_capacity.specs.Streams.{IsPageEnd, IsPageFault, LinesReport, ValueStates}
 use Rattle.mari_capacity.specs.Taking.{HasTaken, KeepsValues, StopsAtPart, StopsValues, TookWhole}
 use Rattle.mari_capacity.specs.Streams.EndsInvalid.{AtPart}
-use Rattle.mari_capacity.specs.Streams.EndsFailed.{Midway, Unopened}
+use Rattle.mari_capacity.specs.Streams.EndsFailed.{Midway}
 
 -- ---- a part that is taken
 
@@ -32,18 +31,7 @@ module _ (books : Books) (n : ℕ) (parts : List Part) (old : ValuesSoFar) (keep
 
   module _ {T : Type 0} (r : Result T ValueStop) (new : ValuesSoFar) (x : Part) where
     pub part-kept : new.books.now ≡ old.books.now → OnOk r (HasTaken old.books.now old.more (parts ++ x ∷ []) new) → OnOk r (KeepsValues books n (parts ++ x ∷ []) new)
-    part-kept same h = by r h
-      where
-        by : (q : Result T ValueStop) → OnOk q (HasTaken old.books.now old.more (parts ++ x ∷ []) new) → OnOk q (KeepsValues books n (parts ++ x ∷ []) new)
-        by (Err e) h = tt
-        by (Ok t) h =
-            let by_books : HasTaken books old.more (parts ++ x ∷ []) new = subst (λ (b : Books). HasTaken b old.more (parts ++ x ∷ []) new) keeps.books_are h in
-            record {
-              accepted = keeps.accepted;
-              books_are = same ∙ keeps.books_are;
-              raise = keeps.raise;
-              taken = subst (λ (m : ℕ). HasTaken books m (parts ++ x ∷ []) new) keeps.taken.more_is by_books;
-            }
+    part-kept same h = grind arith
 
     pub part-breaks : IfErr r (StopsAtPart old.books.now old.more parts x new.lines.items) → IfErr r (StopsAtPart books n parts x new.lines.items)
     part-breaks h =
@@ -71,10 +59,7 @@ module _ (books : Books) (n : ℕ) (now : ValuesSoFar) where
   whole-some done h = (h.0, record { publication = h.1.publication; is = h.1.is; taken = h.1.took.taken })
 
   unopened-states : (page : Option (List ℕ)) (f : Fetch) → ReadStates Took Breaks page (Ends (read.Unopened f)) → ValueStates books n page [] (OfFetch f)
-  unopened-states None fetch.Failed h = refl
-  unopened-states None fetch.Missing h = refl
-  unopened-states (Some page) fetch.Failed h = Unopened refl
-  unopened-states _ _ h = absurd h
+  unopened-states page f h = grind arith
 
   fetch-states : (page : Option (List ℕ)) (f : Fetch) → ReadStates Took Breaks page (Ends (read.Fetch f)) → ValueStates books n page now.lines.items (OfFetch f)
   fetch-states (Some page) fetch.Failed h = Midway h.parts (record { holds = h.first; states = h.took.taken.states })
@@ -82,29 +67,8 @@ module _ (books : Books) (n : ℕ) (now : ValuesSoFar) where
   fetch-states _ _ h = absurd h
 
   part-states : (page : Option (List ℕ)) (end : ValueEnd) → ReadStates Took Breaks page (Ends (read.Part (At end))) → ValueStates books n page now.lines.items end
-  part-states None end h = absurd h
   part-states (Some page) (Invalid run number) h = AtPart h.parts h.part h.there h.broke.0 h.broke.1
-  part-states (Some page) (Valid published unpublished) h = absurd h.broke
-  part-states (Some page) (OfText f) h = absurd h.broke
-  part-states (Some page) (OfFetch f) h = absurd h.broke
-
-  part-lines : (end : ValueEnd) → SomeStates Took Breaks (Ends (read.Part (At end))) → LinesReport books n now.lines.items end
-  part-lines (Invalid run number) h = (h.1.parts, h.1.broke.1)
-  part-lines (Valid published unpublished) h = absurd h.1.broke
-  part-lines (OfText f) h = absurd h.1.broke
-  part-lines (OfFetch f) h = absurd h.1.broke
-
-  fetch-lines : (f : Fetch) → SomeStates Took Breaks (Ends (read.Fetch f)) → LinesReport books n now.lines.items (OfFetch f)
-  fetch-lines fetch.Failed h = inr (h.1.parts, h.1.took.taken.states)
-  fetch-lines fetch.Missing h = absurd h
-  fetch-lines fetch.TooLong h = inr (h.1.parts, h.1.took.taken.states)
-  fetch-lines fetch.Memory h = inr (h.1.parts, h.1.took.taken.states)
-
-  part-end : (X : ValueEnd → Type 0) (end : ValueEnd) → SomeStates Took Breaks (Ends (read.Part (At end))) → ((run number : ℕ) → X (Invalid run number)) → X end
-  part-end X (Invalid run number) h k = k run number
-  part-end X (Valid published unpublished) h k = absurd h.1.broke
-  part-end X (OfText f) h k = absurd h.1.broke
-  part-end X (OfFetch f) h k = absurd h.1.broke
+  part-states page end h = grind arith
 
   module _ {E : Type 0} where
     -- where pages are reported
@@ -113,55 +77,14 @@ module _ (books : Books) (n : ℕ) (now : ValuesSoFar) where
     stop-states page stop (Err e) is h = tt
     stop-states page (read.Unopened f) (Ok v) is h = rw (is.0, is.1) (unopened-states page f h)
     stop-states page (read.Fetch f) (Ok v) is h = rw (is.0, is.1) (fetch-states page f h)
-    stop-states None (read.Text f) (Ok v) is h = absurd h
     stop-states (Some page) (read.Text f) (Ok v) is h =
         rw (is.0, is.1) (record { reported = h.0; parts = h.1.parts; no_more = h.1.none; states = record { holds = h.1.first; states = h.1.took.taken.states } })
     stop-states page (read.Part (At end)) (Ok v) is h = rw (is.0, is.1) (part-states page end h)
-    stop-states page _ (Ok v) is h = absurd is
+    stop-states page stop r is h = grind arith
 
     -- and on any shelf
     pub stop-lines : (stop : ReadStop ValueStop) (r : Result Valued E) → StopsValues stop now.lines.items r → SomeStates Took Breaks (Ends stop) → IfOk r (λ v. LinesReport books n v.text v.end)
-    stop-lines stop (Err e) is h = tt
-    stop-lines (read.Unopened f) (Ok v) is h = rw (is.0, is.1) (inl refl)
-    stop-lines (read.Fetch f) (Ok v) is h = rw (is.0, is.1) (fetch-lines f h)
-    stop-lines (read.Text f) (Ok v) is h = rw (is.0, is.1) (h.1.parts, h.1.took.taken.states)
-    stop-lines (read.Part (At end)) (Ok v) is h = rw (is.0, is.1) (part-lines end h)
-    stop-lines _ (Ok v) is h = absurd is
-
-    -- out of memory is said as such
-    pub stop-never : (stop : ReadStop ValueStop) (r : Result Valued E) → StopsValues stop now.lines.items r → SomeStates Took Breaks (Ends stop) → (reading.IsWrapped (Ends stop) → ⊥)
-        → IfOk r (λ v. IsWrapped v.end → ⊥)
-    stop-never stop (Err e) is h never = tt
-    stop-never (read.Unopened f) (Ok v) is h never = rw is.1 never
-    stop-never (read.Fetch f) (Ok v) is h never = rw is.1 never
-    stop-never (read.Text f) (Ok v) is h never = rw is.1 never
-    stop-never (read.Part (At end)) (Ok v) is h never = rw is.1 (part-end (λ e. IsWrapped e → ⊥) end h (λ run number w. w))
-    stop-never _ (Ok v) is h never = absurd is
-
-    -- it ends by a fault of the shelf where the reading does
-    pub stop-fetch : (g : Fetch) (stop : ReadStop ValueStop) (r : Result Valued E) → StopsValues stop now.lines.items r → SomeStates Took Breaks (Ends stop) → IsPageFault g r
-        → IsReadFetch g (Ends stop)
-    stop-fetch g stop (Err e) is h w = absurd w
-    stop-fetch g (read.Unopened f) (Ok v) is h w = subst (λ (e : ValueEnd). IsPageEnd g e) is.1 w
-    stop-fetch g (read.Fetch f) (Ok v) is h w = subst (λ (e : ValueEnd). IsPageEnd g e) is.1 w
-    stop-fetch g (read.Text f) (Ok v) is h w = subst (λ (e : ValueEnd). IsPageEnd g e) is.1 w
-    stop-fetch g (read.Part (At end)) (Ok v) is h w = part-end (λ e. IsPageEnd g e → ⊥) end h (λ run number u. u) (subst (λ (e : ValueEnd). IsPageEnd g e) is.1 w)
-    stop-fetch g _ (Ok v) is h w = absurd is
-
-    -- a page that is missing wasn't opened
-    pub stop-missing : (stop : ReadStop ValueStop) (r : Result Valued E)
-        → StopsValues stop now.lines.items r → SomeStates Took Breaks (Ends stop) → IsPageFault fetch.Missing r → IsUnopened (Ends stop)
-    stop-missing stop r is h w = by stop h (stop-fetch fetch.Missing stop r is h w)
-      where
-        by : (s : ReadStop ValueStop) → SomeStates Took Breaks (Ends s) → IsReadFetch fetch.Missing (Ends s) → IsUnopened (Ends s)
-        by (read.Unopened f) h w = tt
-        by (read.Fetch fetch.Missing) h w = h
-        by (read.Fetch fetch.Failed) h w = cc
-        by (read.Fetch fetch.TooLong) h w = cc
-        by (read.Fetch fetch.Memory) h w = cc
-        by (read.Text f) h w = w
-        by (read.Part s) h w = w
-        by read.Memory h w = w
+    stop-lines stop r is h = grind arith
 
 -- what is said by the books and the limits with which it began
 module _ (first : ValuesSoFar) (books : Books) (n : ℕ) (now : ValuesSoFar) (books_are : first.books.now ≡ books) (more_is : first.more ≡ n) where

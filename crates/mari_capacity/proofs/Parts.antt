@@ -1,5 +1,5 @@
 -- The parts of a publication that were taken, one after the other.
-use Rattle.std.proofs.Common.{◌≡◌, ◌∙◌, ℕ, List, [], ◌∷◌, ◌++◌, map, Option, Some, None, refl, sym, ap, subst, append_assoc}
+use Rattle.std.proofs.Common.{◌≡◌, ◌∙◌, ℕ, List, [], ◌∷◌, ◌++◌, map, Option, Some, None, refl, sym, ap, subst, append_assoc, arith}
 use Rattle.std.specs.Prelude.{IfSome, Result as Res, Ok, Err, IfOk, IfErr, OnOk, IsSome}
 use Rattle.std.proofs.lemmas.List.{append-nil}
 use Rattle.mari_lines.specs.declared.line.AmountLine.{AmountLine}
@@ -17,7 +17,7 @@ use Rattle.mari_check.specs.declared.day.DayCheck.{DayCheck}
 use Rattle.mari_check.specs.declared.fault.Fault.{Fault}
 use Rattle.mari_check.specs.declared.verdict.Verdict.{Verdict}
 use Rattle.mari_check.specs.Checked.{FindsHead, IsChecked}
-use Rattle.mari_check.specs.Day.{AreFree, IsFreeIn}
+use Rattle.mari_check.specs.Day.{IsFreeIn}
 use Rattle.mari_check.specs.Faults.{FindsNumber}
 use Rattle.mari_check.specs.Streams.{Comes, IsVerdictSoFar, IsOpen}
 use Rattle.mari_check.specs.Verdicts.{IsVerdict}
@@ -46,10 +46,7 @@ not-first : (p : Publication) (front : List Part) (o : List MoneyLine) (a : List
 not-first p [] o a x more e =
     let same : part.Head p.date p.quarters p.budget ∷ (map part.Block p.blocks ++ part.Totals p.operators p.providers ∷ []) ≡ part.Totals o a ∷ x ∷ more = e in
     absurd cc
-not-first p (q ∷ front) o a x more e =
-    let same : part.Head p.date p.quarters p.budget ∷ (map part.Block p.blocks ++ part.Totals p.operators p.providers ∷ []) ≡ q ∷ (front ++ part.Totals o a ∷ x ∷ more) = e in
-    let rest : map part.Block p.blocks ++ part.Totals p.operators p.providers ∷ [] ≡ front ++ part.Totals o a ∷ x ∷ more = cc in
-    last-part p.blocks p.operators p.providers front o a x more rest
+not-first p (q ∷ front) o a x more e = grind (arith, last-part)
 
 none-after : (parts : List Part) (x : Part) → HaveEnded parts → Comes parts x → ⊥
 none-after parts x (front, o, a, is) c =
@@ -69,18 +66,10 @@ pub still-open : (books : Books) (more : ℕ) (parts : List Part) (s : ValuesSoF
 still-open books more parts s x t c = subst (λ (f : Option Verdict). IsVerdictSoFar books parts s.day f) (not-settled books more parts s x t c) t.found
 
 pub open-blocks : (books : Books) (parts : List Part) (day : DayCheck) → IsOpen books parts day → IsChecked books (blocks_in parts) day
-open-blocks books [] day o = o
-open-blocks books (part.Head date quarters budget ∷ rest) day o =
-    let same : blocks_in rest ≡ o.blocks = ap blocks_in o.are ∙ blocks_in-blocks o.blocks in
-    subst (λ (bs : List Block). IsChecked books bs day) (sym same) o.checked
-open-blocks books _ day o = absurd o
+open-blocks books parts day o = grind (arith, blocks_in-blocks)
 
 pub open-checked : (books : Books) (parts : List Part) (day : DayCheck) → IsOpen books parts day → AreChecked books parts
-open-checked books [] day o = tt
-open-checked books (part.Head date quarters budget ∷ rest) day o =
-    let checked = open-blocks books (part.Head date quarters budget ∷ rest) day o in
-    (o.head, subst (λ (n : ℕ). AreFree books n (blocks_in rest)) (sym o.budget_is) checked.free)
-open-checked books _ day o = absurd o
+open-checked books parts day o = grind (arith, open-blocks)
 
 -- the blocks are those that were checked
 pub way-blocks : (books : Books) (parts : List Part) (day : DayCheck) (w : Way books parts day) → blocks_in parts ≡ w.clear.blocks
@@ -91,14 +80,7 @@ way-budget books parts day w = ap budget_in w.is ∙ w.clear.budget_is
 
 with-totals : (books : Books) (parts : List Part) (day : DayCheck) (w : Way books parts day) (os : List MoneyLine) (ps : List AmountLine)
     → AreChecked books parts → AreChecked books (parts ++ part.Totals os ps ∷ [])
-with-totals books parts day w os ps checked =
-    let x : Part = part.Totals os ps in
-    let C : List Part → Type 0 = λ ps. AreChecked books ps in
-    let D : List Part → Type 0 = λ ps. AreChecked books (ps ++ x ∷ []) in
-    let own = subst C w.is checked in
-    let same : blocks_in (w.rest ++ x ∷ []) ≡ blocks_in w.rest = blocks_in-append w.rest (x ∷ []) ∙ append-nil (blocks_in w.rest) in
-    let now : AreChecked books (part.Head w.date w.quarters w.budget ∷ (w.rest ++ x ∷ [])) = (own.0, subst (λ (bs : List Block). AreFree books w.budget bs) (sym same) own.1) in
-    subst D (sym w.is) now
+with-totals books parts day w os ps checked = grind (arith, blocks_in-append, append-nil)
 
 -- ---- one part more
 
@@ -106,12 +88,7 @@ with-totals books parts day w os ps checked =
 pub open-taken : (books : Books) (more : ℕ) (parts : List Part) (s : ValuesSoFar) → IsOpen books parts s.day
     → s.found ≡ None → IsValueText books more (blocks_in parts) s.lines.items → s.more ≡ more
     → HasTaken books more parts s
-open-taken books more parts s fine none lines same = record {
-  found = subst (λ (f : Option Verdict). IsVerdictSoFar books parts s.day f) (sym none) fine;
-  ended = subst (λ (f : Option Verdict). IfSome f (λ v. HaveEnded parts)) (sym none) tt;
-  states = record { checked = open-checked books parts s.day fine; lines = lines };
-  more_is = same;
-}
+open-taken books more parts s fine none lines same = grind (arith, open-checked)
 
 module _ (books : Books) (more : ℕ) (parts : List Part) (old new : ValuesSoFar) (x : Part) (t : HasTaken books more parts old) (c : Comes parts x) where
   -- the head is that of the books
@@ -180,10 +157,7 @@ module _ (books : Books) (more : ℕ) (parts : List Part) (old new : ValuesSoFar
       (lines : new.lines ≡ old.lines) (same : new.more ≡ old.more) where
     pub head-goes-on : {T : Type 0} (number : Option ℕ) (r : Res T ValueStop) → FindsHead (HasHead books date quarters) number → IsStopAt 0 (Ok number) r
         → OnOk r (HasTaken books more (parts ++ x ∷ []) new)
-    head-goes-on None (Ok done) finds stop = head-taken books more parts old new x t c date quarters budget is finds checked stated found lines same
-    head-goes-on None (Err why) finds stop = tt
-    head-goes-on (Some n) (Ok done) finds stop = absurd stop
-    head-goes-on (Some n) (Err why) finds stop = tt
+    head-goes-on number r finds stop = grind (arith, head-taken)
 
     pub head-stops : {T : Type 0} (number : Option ℕ) (r : Res T ValueStop) → FindsHead (HasHead books date quarters) number → IsStopAt 0 (Ok number) r
         → IfErr r (StopsAtPart books more parts x new.lines.items)
@@ -202,11 +176,7 @@ module _ (books : Books) (more : ℕ) (parts : List Part) (old new : ValuesSoFar
         → IfOk found (FindsNumber (IsFreeIn books old.day.budget (blocks_in parts) b))
         → (found ≡ Ok None → IsChecked books (blocks_in parts ++ b ∷ []) new.day)
         → (found ≡ Ok None → IsValueText books more (blocks_in parts ++ b ∷ []) new.lines.items) → IsStopAt run found r → OnOk r (HasTaken books more (parts ++ x ∷ []) new)
-    block-goes-on (Ok None) (Ok done) finds checked lines stop = block-taken books more parts old new x t c b is later finds (checked refl) same.budget same.found (lines refl) same.more
-    block-goes-on (Ok None) (Err why) finds checked lines stop = tt
-    block-goes-on (Ok (Some n)) (Err why) finds checked lines stop = tt
-    block-goes-on (Err e) (Err why) finds checked lines stop = tt
-    block-goes-on _ (Ok done) finds checked lines stop = absurd stop
+    block-goes-on found r finds checked lines stop = grind (arith, block-taken)
 
     pub block-stops : {T : Type 0} (found : Res (Option ℕ) NoRoom) (r : Res T ValueStop)
         → IfOk found (FindsNumber (IsFreeIn books old.day.budget (blocks_in parts) b))

@@ -42,10 +42,9 @@ along-set f (z ∷ zs) (y ∷ ys) (suc i) x d h same = ap (λ (v : ℤ). f z y +
 
 -- what holds along another list still does, where it holds of the new item too
 zip-set : {X Y : Type 0} (P : X → Y → Type 0) (xs : List X) (ys : List Y) (i : ℕ) (x d : X) → i < length xs → ((y : Y) → P (get_or xs i d) y → P x y) → AllZip P xs ys → AllZip P (set xs i x) ys
-zip-set P [] ys i x d h more a = absurd (omega arith)
-zip-set P (z ∷ zs) [] i x d h more a = absurd a
 zip-set P (z ∷ zs) (y ∷ ys) zero x d h more a = (more y a.0, a.1)
 zip-set P (z ∷ zs) (y ∷ ys) (suc i) x d h more a = (a.0, zip-set P zs ys i x d (omega arith) more a.1)
+zip-set P xs ys i x d h more a = grind arith
 
 -- ---- one limit
 

@@ -1,6 +1,6 @@
 -- The lines of borders, one after the other.
 use Rattle.std.proofs.Common.{◌≡◌, ◌∙◌, ℕ, zero, suc, ◌+◌, ◌<◌, ◌≤◌, List, [], ◌∷◌, ◌++◌, length, get_or, drop, arith, refl, sym, ap, append_assoc}
-use Rattle.std.specs.Prelude.{OnOk, Result as Res, Ok, Err}
+use Rattle.std.specs.Prelude.{OnOk, Result as Res}
 use Rattle.std.proofs.lemmas.List.{append-nil}
 use Rattle.mari_lines.specs.declared.line.BorderLine.{BorderLine}
 use Rattle.mari_capacity.specs.declared.worth.BorderWorth.{BorderWorth}
@@ -42,8 +42,4 @@ all-put ls ws k a whole h e = sym (append-nil a) ∙ ap (λ (t : List ℕ). a ++
 
 -- a text after which four pieces were put
 pub four-put : {R E : Type 0} (r : Res R E) (old a b c now w x y z : List ℕ) → a ≡ old ++ w → b ≡ a ++ x → c ≡ b ++ y → OnOk r (now ≡ c ++ z) → OnOk r (now ≡ old ++ (w ++ ((x ++ y) ++ z)))
-four-put (Ok done) old a b c now w x y z d e f g = g ∙ ap (λ (t : List ℕ). t ++ z) (f ∙ ap (λ (t : List ℕ). t ++ y) (e ∙ ap (λ (t : List ℕ). t ++ x) d)) ∙ regrouped
-  where
-    regrouped : (((old ++ w) ++ x) ++ y) ++ z ≡ old ++ (w ++ ((x ++ y) ++ z))
-    regrouped = simp append_assoc
-four-put (Err why) old a b c now w x y z d e f g = tt
+four-put r old a b c now w x y z d e f g = grind (arith, append_assoc)

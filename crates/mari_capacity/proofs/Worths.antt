@@ -1,5 +1,5 @@
 -- What a raised limit is worth for what is published of a market.
-use Rattle.std.proofs.Common.{◌≡◌, ◌∙◌, Bool, ℕ, ◌<◌, ◌≤◌, ℤ, pos, ◌+ℤ◌, ◌-ℤ◌, ◌≤ℤ◌, List, [], ◌∷◌, ◌++◌, ◌+◌, length, get_or, arith, sym, subst, inl, inr}
+use Rattle.std.proofs.Common.{◌≡◌, Bool, ℕ, ◌<◌, ◌≤◌, ℤ, pos, ◌+ℤ◌, ◌-ℤ◌, ◌≤ℤ◌, List, [], ◌∷◌, ◌++◌, ◌+◌, length, get_or, arith, sym, subst}
 use Rattle.std.proofs.Math.ListN.{get_or-append}
 use Rattle.std.proofs.lemmas.Bool.{cases_lt}
 use Rattle.std.proofs.lemmas.List.{get_or_push}
@@ -29,12 +29,7 @@ module _ (m : Market) (v : IsValid m) (p : Published) (is : IsPublished m p) whe
   module _ (r : Raise) (there : r.border < length m.borders) (rise : Quarters) (value : rise.0 ≡ rise_of p.prices.cents (border_at m.borders r.border) r.forth r.more) where
     -- without a rise there is no gain
     pub no-gain : rise.0 ≡ pos 0 → IsWorth m p.activation p.prices.cents r (record { gain = record { 0 = pos 0 }; rise = rise })
-    no-gain none = record {
-      gain = nothing-gained m v p.activation is.feasible p.prices.cents is.consistent r there (sym value ∙ none);
-      rise = value;
-      at_least_0 = omega (arith, ints);
-      at_most = omega (arith, ints, none);
-    }
+    no-gain none = grind (arith, nothing-gained, ints)
 
     -- and else the gain is counted from the published welfare
     pub some-gain : (n : ℕ) (g : ℤ) → g ≡ pos n -ℤ pos p.welfare → IsRelaxedWelfare (raised_market m r) (word_of p.word) (pos n) → p.welfare ≤ n → pos n ≤ℤ (pos p.welfare +ℤ rise.0)
@@ -52,9 +47,4 @@ module _ (m : Market) (v : IsValid m) (p : Published) (is : IsPublished m p) whe
 -- what holds of each item at its place holds of one more after them
 pub each-push : {X : Type 0} (P : ℕ → X → Type 0) (xs : List X) (y d : X) (n : ℕ) → length xs ≡ n
     → ((k : ℕ) → k < n → P k (get_or xs k d)) → P n y → (k : ℕ) → k < n + 1 → P k (get_or (xs ++ y ∷ []) k d)
-each-push P xs y d n long each here k l = elim (cases_lt k n) [
-  | inl less ↦ rw (get_or-append xs (y ∷ []) d k (omega (arith, less, long))) (each k less)
-  | inr past ↦ (
-      let same : k ≡ n = omega (arith, past, l) in
-      rw (get_or_push xs y d k (long ∙ sym same), same) here)
-]
+each-push P xs y d n long each here k l = grind (arith, cases_lt, get_or-append, get_or_push)

@@ -81,11 +81,7 @@ module _ (asked : Option Asked) (pages : Pages) where
   of-books o refusal folder h (Starves e) = starving (IsRefusal refusal) o e
 
   gap-of-books : (o : Outcome) (folder : List ℕ) (number : ℕ) (gap : Gap) → HasGap pages folder number gap → SaysOfFolder asked pages folder o → Comes (IsGapOf gap) o
-  gap-of-books o folder number gap h (OfRefusal other k e) = absurd (agree pages folder (Refuses other) (Lacks number gap) k h)
-  gap-of-books o folder number gap h (OfGap n x k e) = inl (n, e ∙ ap (λ y. NoPage n (fetch_of y)) (agree pages folder (Lacks n x) (Lacks number gap) k h))
-  gap-of-books o folder number gap h (OfBooks books k is) = absurd (agree pages folder (Gives books) (Lacks number gap) k h)
-  gap-of-books o folder number gap h (Fails n e) = failed (IsGapOf gap) o n e
-  gap-of-books o folder number gap h (Starves e) = starving (IsGapOf gap) o e
+  gap-of-books o folder number gap h k = grind arith
 
   -- where a folder has books, that comes which the command says of them
   pub books-come : (o : Outcome) (x : Asked) (folder : List ℕ) (books : Books) → asked ≡ Some x → folder_of x ≡ Some folder
@@ -104,10 +100,7 @@ module _ (asked : Option Asked) (pages : Pages) where
       by (Starves d) = starving (ComesOfBooks (Some x) pages folder books) o d
 
   migrated-again : (o : Outcome) (refusal : Refusal) (part : FilePart) (books : Books) → IsMigrated books part o → books.limits ≢ None → refusal ≡ already_two → Comes (IsRefusal refusal) o
-  migrated-again (Text t) refusal part books (first, spelled) again e = absurd (again first)
-  migrated-again (Refused r) refusal part books (second, same) again e = inl (ap (λ x. Refused x) (same ∙ sym e))
-  migrated-again NoMemory refusal part books is again e = inr tt
-  migrated-again _ refusal part books is again e = absurd is
+  migrated-again o refusal part books is again e = grind arith
 
   pub refusal-comes : (o : Outcome) (refusal : Refusal) → Says asked pages o → RefusesFiles asked pages refusal → Comes (IsRefusal refusal) o
   refusal-comes o refusal s (refuses-books folder r h) = of-books o refusal folder h (of-folder asked pages o folder r s)
@@ -136,14 +129,7 @@ module _ (asked : Option Asked) (pages : Pages) where
       [ inl states ↦ (let P : Option (List ℕ) → Type 0 = λ x. CheckStates r.books x o in text-refused o r.books page f (subst P r.checked.held states) r.reported) | inr e ↦ inr e ]
 
   not-held : (o : Outcome) (books : Books) → CheckStates books None o → Comes (IsGapOf NotHeld) o
-  not-held (Text t) books (m, u, states, spelled) = absurd states
-  not-held (NoPage n fetch.Failed) books states = inr tt
-  not-held (NoPage n fetch.Missing) books states = inl (n, refl)
-  not-held (NoPage n fetch.TooLong) books (long, number) = absurd long
-  not-held (NoPage n fetch.Memory) books states = inr tt
-  not-held (Refused refusal) books (f, bad, is) = absurd bad
-  not-held NoMemory books states = inr tt
-  not-held _ books states = absurd states
+  not-held o books states = grind arith
 
   too-long : (o : Outcome) (books : Books) (page : List ℕ) → CheckStates books (Some page) o → IsTooLong page → Comes (IsGapOf OverLimit) o
   too-long (Text t) books page (m, u, (short, (p, read, valid)), spelled) long = absurd (omega (arith, long.longer, short))
@@ -182,10 +168,7 @@ module _ (asked : Option Asked) (pages : Pages) where
       let P : Option (List ℕ) → Type 0 = λ x. IsFeedGap x NotHeld in
       let Q : Gap → Type 0 = λ x. IsFeedGap (page_of pages (publication_path folder)) x in
       inr (inl (folder, feed, subst Q (sym is) (subst P (sym none) tt)))
-  gap-comes o number gap s (lacks-long-feed page has long n is) =
-      let P : Option (List ℕ) → Type 0 = λ x. IsFeedGap x OverLimit in
-      let Q : Gap → Type 0 = λ x. IsFeedGap (page_of pages (publication_path has.folder)) x in
-      inr (inl (has.folder, has.feed, subst Q (sym is) (subst P (sym has.held) long)))
+  gap-comes o number gap s (lacks-long-feed page has long n is) = grind arith
   gap-comes o number gap s (lacks-values ends n) = inr (inr ends)
 
   -- a publication that is valued
@@ -196,15 +179,7 @@ module _ (asked : Option Asked) (pages : Pages) where
 
   -- a publication that is read
   verdict-of : (o : Outcome) (books : Books) (page : List ℕ) (p : Publication) → CheckStates books (Some page) o → IsText page p → length page ≤ most_given → Comes IsAVerdict o
-  verdict-of (Text t) books page p states is short = inl tt
-  verdict-of (Invalid run n) books page p states is short = inl tt
-  verdict-of (NoPage n fetch.Failed) books page p states is short = inr tt
-  verdict-of (NoPage n fetch.Missing) books page p (none, number) is short = absurd none
-  verdict-of (NoPage n fetch.TooLong) books page p (long, number) is short = absurd (omega (arith, long.longer, short))
-  verdict-of (NoPage n fetch.Memory) books page p states is short = inr tt
-  verdict-of (Refused refusal) books page p (f, bad, same) is short = absurd (no-fault-of-text page p f is (reported-first page f bad))
-  verdict-of NoMemory books page p states is short = inr tt
-  verdict-of _ books page p states is short = absurd states
+  verdict-of o books page p states is short = grind (arith, no-fault-of-text, reported-first)
 
   pub verdict-comes : (o : Outcome) → Says asked pages o → IsReadable asked pages → Comes IsAVerdict o
   verdict-comes o s r = elim (checked-comes o r.checked.folder r.books s r.checked.check r.checked.gives)
@@ -212,10 +187,7 @@ module _ (asked : Option Asked) (pages : Pages) where
 
   -- a file that is migrated
   migrated-once : (o : Outcome) (part : FilePart) (books : Books) → IsMigrated books part o → books.limits ≡ None → Comes IsAText o
-  migrated-once (Text t) part books is first = inl tt
-  migrated-once (Refused r) part books (second, same) first = absurd (second first)
-  migrated-once NoMemory part books is first = inr tt
-  migrated-once _ part books is first = absurd is
+  migrated-once o part books is first = grind arith
 
   pub migrated-comes : (o : Outcome) → Says asked pages o → IsMigratable asked pages → Comes IsAText o
   migrated-comes o s m = elim (books-come o (Migrate m.folder m.part) m.folder m.books m.migrate refl m.gives s)

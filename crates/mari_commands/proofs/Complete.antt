@@ -1,12 +1,11 @@
 -- What the words and the pages decide is what the answer is, unless a fetch or a write failed or there was no memory.
-use Rattle.std.proofs.Common.{◌≡◌, ◌∙◌, inl, inr, ℕ, List, ◌++◌, Option, Some, None, ap, arith, refl, subst, sym}
-use Rattle.std.specs.Prelude.{◌==◌, ◌≤◌, length, Bool, true, false, if◌then◌else◌, Result, Ok, Err, string_bytes}
+use Rattle.std.proofs.Common.{◌≡◌, ◌∙◌, inl, inr, ℕ, List, Option, Some, None, arith, refl, subst, sym}
+use Rattle.std.specs.Prelude.{◌==◌, ◌≤◌, length, Bool, true, false, if◌then◌else◌, Result, Ok, Err}
 use lib.Chars.{codes}
 use Rattle.mari_units.specs.declared.faults.Refusal.{Refusal}
 use Rattle.mari_io.specs.declared.shelf.Fetch.TheVariants as fetch
 use Rattle.mari_io.specs.Outside.{Pages, page_of, most_given}
 use Rattle.mari_publish.specs.declared.fault.TextFault.{TextFault}
-use Rattle.mari_publish.specs.declared.fault.TextFault.TheVariants as text_fault
 use Rattle.mari_publish.specs.declared.publication.Publication.{Publication}
 use Rattle.mari_publish.specs.Faults.{IsText}
 use Rattle.mari_remain.specs.declared.books.Books.{Books}
@@ -26,35 +25,30 @@ use Rattle.mari_feed.specs.declared.stream.FeedStop.TheVariants as stop
 use Rattle.mari_capacity.specs.declared.ending.ValueEnd.{ValueEnd}
 use Rattle.mari_capacity.specs.declared.ending.ValueEnd.TheVariants as values
 use Rattle.mari_capacity.specs.Ends.{IsEndOf}
-use Rattle.mari_capacity.specs.Streams.{EndsAs}
 use Rattle.mari_split.specs.Split.{HoldsIslands}
 use Rattle.mari_split.proofs.Enough.{all_published}
 use Rattle.mari_words.specs.Asked.Asked.{Feed}
-use Rattle.mari_commands.specs.declared.outcome.Job.{Job}
 use Rattle.mari_commands.specs.declared.outcome.Way.{Way}
 use Rattle.mari_commands.specs.declared.outcome.Way.TheVariants.{Whole, Islands}
 use Rattle.mari_commands.specs.declared.outcome.Outcome.{Outcome}
-use Rattle.mari_commands.specs.declared.outcome.Outcome.TheVariants.{Day, Feed as Feeds, Values, Text, Invalid, NoPage, Refused, Memory as NoMemory}
+use Rattle.mari_commands.specs.declared.outcome.Outcome.TheVariants.{Day, Values, NoPage, Refused, Memory as NoMemory}
 use Rattle.mari_answers.specs.declared.status.Status.{Status}
 use Rattle.mari_answers.specs.declared.status.Status.TheVariants as status
 use Rattle.mari_commands.specs.Commands.{EndsValues, HasBooksToClear, IsFeedable, IsMigratable, IsReadable, LacksPage, RefusesFeed, RefusesFiles, RefusesText, fetch_of}
 use Rattle.mari_answers.specs.Texts.{text_refusal}
 use Rattle.mari_commands.specs.Headline.{HasBudget}
-use Rattle.mari_commands.specs.Outcome.{IsDayOf, IsFeedOf, IsReportedValues, Reported, ReportsDay, ReportsParts, Says, day_status}
+use Rattle.mari_commands.specs.Outcome.{IsDayOf, IsReportedValues, Reported, Says, day_status}
 use Rattle.mari_answers.specs.Reports.{Reports, ReportsStop, ReportsText, publication_path}
-use Rattle.mari_answers.specs.Lines.{file_line, invalid_line, refused_line}
+use Rattle.mari_answers.specs.Lines.{file_line, refused_line}
 use Rattle.mari_commands.specs.Program.{IsDayStatus, IsStatus, IsVerdictStatus, OrFault, gap_status}
 use Rattle.mari_commands.specs.Splits.{EndsBy, HasIslandBudget, IsSplittable}
-use Rattle.mari_commands.specs.Values.{value_line, value_status}
+use Rattle.mari_commands.specs.Values.{value_status}
 use Rattle.mari_commands.proofs.Reporting.{or-fault}
 use Rattle.mari_commands.proofs.Comes.{Comes, IsAText, IsAVerdict, IsExcused, IsFeedGap, IsGapOf, IsRefusal, day-comes, gap-comes, migrated-comes, refusal-comes, text-comes, values-come, verdict-comes}
 
 module _ (shown : Option Pages) (late : Type 0) (before after : Option (List ℕ)) (result : Status) where
   pub excused : (Q : Status → Type 0) (o : Outcome) → IsExcused o → Reported shown late o before after result → OrFault Q result
-  excused Q (NoPage k fetch.Failed) x r = or-fault before after result Q (file_line (codes "readfault") k) status.ReadFault r (inr (inl refl))
-  excused Q (NoPage k fetch.Memory) x r = inr (inr (inr r.0))
-  excused Q NoMemory x r = inr (inr (inr r.0))
-  excused Q _ x r = absurd x
+  excused Q o x r = grind arith
 
   pub same-report : (o p : Outcome) → o ≡ p → Reported shown late o before after result → Reported shown late p before after result
   same-report o p e r = let P : Outcome → Type 0 = λ x. Reported shown late x before after result in subst P e r
@@ -72,17 +66,14 @@ module _ (shown : Option Pages) (late : Type 0) (before after : Option (List ℕ
   gap-of-answer o gap (inr x) r = excused (IsStatus (gap_status gap)) o x r
 
   text-report : (o : Outcome) → IsAText o → Reported shown late o before after result → OrFault (IsStatus status.Done) result
-  text-report (Text t) x r = or-fault before after result (IsStatus status.Done) t.items status.Done r (inl refl)
-  text-report _ x r = absurd x
+  text-report o x r = grind arith
 
   text-of-answer : (o : Outcome) → Comes IsAText o → Reported shown late o before after result → OrFault (IsStatus status.Done) result
   text-of-answer o (inl x) r = text-report o x r
   text-of-answer o (inr x) r = excused (IsStatus status.Done) o x r
 
   verdict-report : (o : Outcome) → IsAVerdict o → Reported shown late o before after result → OrFault IsVerdictStatus result
-  verdict-report (Text t) x r = or-fault before after result IsVerdictStatus t.items status.Done r (inl (inl refl))
-  verdict-report (Invalid run n) x r = or-fault before after result IsVerdictStatus (invalid_line run n) (status.Invalid run n) r (inl (inr (run, n, refl)))
-  verdict-report _ x r = absurd x
+  verdict-report o x r = grind arith
 
   verdict-of-answer : (o : Outcome) → Comes IsAVerdict o → Reported shown late o before after result → OrFault IsVerdictStatus result
   verdict-of-answer o (inl x) r = verdict-report o x r
@@ -121,11 +112,7 @@ module _ (shown : Option Pages) (late : Type 0) (before after : Option (List ℕ
   whole-answer : (o : Outcome) (way : Way) (books : Books) (nodes workers : ℕ) → IsEnoughBy way books nodes
       → Comes (IsDayOf way books nodes workers) o → Reported shown late o before after result
       → OrFault (IsStatus status.Done) result
-  whole-answer (Day job) way books nodes workers enough (inl is) r =
-      let P : Job → Type 0 = λ j. ReportsDay j before after result in
-      let S : Status → Type 0 = λ x. OrFault (IsStatus status.Done) x in
-      let d : ReportsDay (record { books = books; way = way; nodes = nodes; workers = workers }) before after result = subst P is r in
-      subst S (sym d.status) (whole-end way d.ended books nodes d.ends enough)
+  whole-answer (Day job) way books nodes workers enough (inl is) r = grind (arith, whole-end)
   whole-answer o way books nodes workers enough (inr x) r = excused (IsStatus status.Done) o x r
   whole-answer _ way books nodes workers enough (inl is) r = absurd is
 
@@ -133,11 +120,7 @@ module _ (shown : Option Pages) (late : Type 0) (before after : Option (List ℕ
   values-report : (o : Outcome) (books : Books) (more : ℕ) (page : Option (List ℕ)) (end : ValueEnd)
       → IsReportedValues books more page o → IsEndOf books page end → Reported shown late o before after result
       → OrFault (IsStatus (value_status end)) result
-  values-report (Values v) books more page end states is r = by (states.1 end is)
-    where
-      by : EndsAs end v → OrFault (IsStatus (value_status end)) result
-      by (inl e) = or-fault before after result (IsStatus (value_status end)) (v.text ++ value_line v.end) (value_status v.end) r (inl (ap value_status e))
-      by (inr e) = or-fault before after result (IsStatus (value_status end)) (v.text ++ value_line v.end) (value_status v.end) r (inr (inl (ap value_status e)))
+  values-report (Values v) books more page end states is r = grind (arith, or-fault)
   values-report NoMemory books more page end states is r = inr (inr (inr r.0))
   values-report _ books more page end states is r = absurd states
 
@@ -150,16 +133,7 @@ module _ (shown : Option Pages) (late : Type 0) (before after : Option (List ℕ
     wanted text w q r = or-fault between after result Q text w r (inl q)
 
   fault-report : (f : TextFault) (between : Option (List ℕ)) → ReportsText f between after result → OrFault (IsStatus (status.Refused (text_refusal f))) result
-  fault-report (text_fault.BadLine n) between r =
-      wanted (IsStatus (status.Refused (text_refusal (text_fault.BadLine n)))) between (refused_line (text_refusal (text_fault.BadLine n)))
-      (status.Refused (text_refusal (text_fault.BadLine n))) refl r
-  fault-report (text_fault.BadOrder n) between r =
-      wanted (IsStatus (status.Refused (text_refusal (text_fault.BadOrder n)))) between (refused_line (text_refusal (text_fault.BadOrder n)))
-      (status.Refused (text_refusal (text_fault.BadOrder n))) refl r
-  fault-report (text_fault.Truncated n) between r =
-      wanted (IsStatus (status.Refused (text_refusal (text_fault.Truncated n)))) between (refused_line (text_refusal (text_fault.Truncated n)))
-      (status.Refused (text_refusal (text_fault.Truncated n))) refl r
-  fault-report text_fault.Memory between r = inr (inr (inr r.0))
+  fault-report f between r = grind (arith, wanted)
 
   fed-refused : (page : List ℕ) (f : TextFault) → IsReportedFault page f
       → (between : Option (List ℕ)) (end : Result (Unit {0}) FeedStop) → FeedStates (Some page) before between end
@@ -178,13 +152,7 @@ module _ (shown : Option Pages) (late : Type 0) (before after : Option (List ℕ
   fed-whole : (page : List ℕ) (p : Publication) → IsText page p → length page ≤ most_given
       → (between : Option (List ℕ)) (end : Result (Unit {0}) FeedStop) → FeedStates (Some page) before between end
       → ReportsStop end between after result → OrFault (IsStatus status.Done) result
-  fed-whole page p is short between (Ok end) t r = inl r.0
-  fed-whole page p is short between (Err (stop.Fetch fetch.Failed)) t r = fetch-failed (IsStatus status.Done) between r
-  fed-whole page p is short between (Err (stop.Fetch fetch.TooLong)) t r = absurd (let long = t.0.longer in omega (arith, long, short))
-  fed-whole page p is short between (Err (stop.Text g)) t r = absurd (no-fault-of-text page p g is (reported-first page g t.0))
-  fed-whole page p is short between (Err stop.Sink) t r = inr (inr (inl r.0))
-  fed-whole page p is short between (Err stop.Memory) t r = inr (inr (inr r.0))
-  fed-whole page p is short between _ t r = absurd t
+  fed-whole page p is short between end t r = grind (arith, fetch-failed, no-fault-of-text, reported-first)
 
   fed-gap : (page : Option (List ℕ)) (gap : Gap) → IsFeedGap page gap
       → (between : Option (List ℕ)) (end : Result (Unit {0}) FeedStop) → FeedStates page before between end
@@ -208,15 +176,7 @@ module _ (shown : Option Pages) (late : Type 0) (before after : Option (List ℕ
         → ((between : Option (List ℕ)) (end : Result (Unit {0}) FeedStop) → FeedStates (page_of pages (publication_path folder)) before between end
         → ReportsStop end between after result → OrFault Q result)
         → OrFault Q result
-    fed-by Q folder feed ends = let P : Option Asked → Type 0 = λ a. Says a pages o in by o (subst P feed says) reported
-      where
-        by : (x : Outcome) → IsFeedOf folder x → Reported shown late x before after result → OrFault Q result
-        by (Feeds name) same r =
-            let parts : ReportsParts shown late (string_bytes name) before after result = r in
-            let P : List ℕ → Type 0 = λ f. FeedStates (page_of pages (publication_path f)) before parts.between parts.end in
-            ends parts.between parts.end (subst P same (parts.states pages is_shown)) parts.reports
-        by NoMemory is r = excused Q NoMemory tt r
-        by _ is r = absurd is
+    fed-by Q folder feed ends = grind arith
 
     pub refuses-feed-answer : (page : List ℕ) (f : TextFault) → RefusesFeed asked pages page f → OrFault (IsStatus (status.Refused (text_refusal f))) result
     refuses-feed-answer page f h = fed-by (IsStatus (status.Refused (text_refusal f))) h.fed.folder h.fed.feed (λ between end t r.

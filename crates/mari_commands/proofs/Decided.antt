@@ -1,6 +1,6 @@
 -- What the pages of quarters decide is what the answer is, unless a fetch or a write failed or there was no memory.
 use Rattle.std.proofs.Common.{◌≡◌, inl, inr, ℕ, Bool, true, List, Option, Some, Result, Ok, Err, if◌then◌else◌, ap, arith, refl, subst}
-use Rattle.std.specs.Prelude.{◌≤◌, ⊤}
+use Rattle.std.specs.Prelude.{◌≤◌}
 use lib.Chars.{codes}
 use Rattle.mari_units.specs.declared.faults.Refusal.{Refusal}
 use Rattle.mari_io.specs.Outside.{Pages}
@@ -23,15 +23,14 @@ use Rattle.mari_quarters.proofs.Facts.{made_accepted, made_held, one_gap, one_jo
 use Rattle.mari_words.specs.Asked.{Asked}
 use Rattle.mari_words.specs.Asked.Asked.{Blocks}
 use Rattle.mari_commands.specs.declared.outcome.Outcome.{Outcome}
-use Rattle.mari_commands.specs.declared.outcome.Outcome.TheVariants.{Blocks as Joins, Memory as NoMemory}
 use Rattle.mari_answers.specs.declared.status.Status.{Status}
 use Rattle.mari_answers.specs.declared.status.Status.TheVariants as status
 use Rattle.mari_commands.specs.Joint.{Decides, IsJoinable}
-use Rattle.mari_commands.specs.Outcome.{IsJointOf, Reported, ReportsBlocks, ReportsQuarters, Says, joint_command}
+use Rattle.mari_commands.specs.Outcome.{Reported, ReportsQuarters, Says}
 use Rattle.mari_answers.specs.Reports.{Reports}
 use Rattle.mari_answers.specs.Lines.{file_line, refused_line}
 use Rattle.mari_commands.specs.Program.{IsDayStatus, IsStatus, OrFault, gap_status}
-use Rattle.mari_commands.proofs.Complete.{day-end, excused}
+use Rattle.mari_commands.proofs.Complete.{day-end}
 use Rattle.mari_commands.proofs.Reporting.{or-fault}
 
 -- within a budget that holds its search tree the joint market is published
@@ -95,24 +94,11 @@ module _ (before after : Option (List ℕ)) (result : Status) where
           let out : printed.published ≡ true = is-published t.books first last nodes t.is_text.joint printed.published printed.text t.is_text.is_text size fits enough in
           inl (ap (λ (b : Bool). if b then status.Done else status.Unpublished) out)
 
--- what is said of the quarters that a command clears
-abbrev StatesOf : Pages → Asked → Result JointText BooksFault → Type 0
-StatesOf pages (Blocks folder first last nodes workers) given = QuartersReport pages folder first last nodes given
-StatesOf pages _ given = ⊤
-
 module _ (shown : Option Pages) (late : Type 0) (before after : Option (List ℕ)) (result : Status) (asked : Option Asked) (pages : Pages) (is_shown : shown ≡ Some pages) (o : Outcome)
     (says : Says asked pages o) (reported : Reported shown late o before after result) where
   by-quarters : (Q : Status → Type 0) (folder : List ℕ) (first last nodes workers : ℕ) → asked ≡ Some (Blocks folder first last nodes workers)
       → ((given : Result JointText BooksFault) → QuartersReport pages folder first last nodes given → ReportsQuarters given before after result → OrFault Q result) → OrFault Q result
-  by-quarters Q folder first last nodes workers words ends = let P : Option Asked → Type 0 = λ a. Says a pages o in by o (subst P words says) reported
-    where
-      by : (x : Outcome) → IsJointOf (Blocks folder first last nodes workers) x → Reported shown late x before after result → OrFault Q result
-      by (Joins quarters) same r =
-          let blocks : ReportsBlocks shown late quarters before after result = r in
-          let states : StatesOf pages (joint_command quarters) blocks.given = blocks.states pages is_shown in
-          ends blocks.given (subst (λ (x : Asked). StatesOf pages x blocks.given) same states) blocks.reports
-      by NoMemory is r = excused shown late before after result Q NoMemory tt r
-      by _ is r = absurd is
+  by-quarters Q folder first last nodes workers words ends = grind arith
 
   pub joined-answer : IsJoinable asked pages → OrFault IsDayStatus result
   joined-answer h = by-quarters IsDayStatus h.folder h.first h.last h.nodes h.workers h.words

@@ -1,5 +1,5 @@
 -- What each answer says where the words ask for the feed of a publication.
-use Rattle.std.proofs.Common.{◌≡◌, ◌∙◌, inl, inr, ℕ, List, Option, Some, None, refl, subst, sym}
+use Rattle.std.proofs.Common.{◌≡◌, ◌∙◌, inl, inr, ℕ, List, Option, Some, None, refl, subst, sym, arith}
 use Rattle.std.specs.Prelude.{Result, Ok, Err}
 use lib.Chars.{codes}
 use Rattle.mari_io.specs.Outside.{Pages, page_of}
@@ -33,10 +33,6 @@ use Rattle.mari_commands.specs.Program.TookAhead.{Lines as lines-ahead}
 use Rattle.mari_answers.specs.Refusals.{HasName}
 use Rattle.mari_commands.proofs.Naming.{text-reportable}
 
--- the lines of all whole parts are those of the first
-first-of-all : (page : List ℕ) (before after : Option (List ℕ)) → TookAll page before after → TookFirst page before after
-first-of-all page before after t = record { parts = t.parts; first = t.first; back = t.back; took = t.took }
-
 module _ (asked : Option Asked) (pages : Option Pages) (failed : Type 0) (before after : Option (List ℕ)) (folder : List ℕ) (feed : asked ≡ Some (Feed folder)) (between : Option (List ℕ)) where
   abbrev Ends : Status → Type 0
   Ends = Answers asked pages failed before after
@@ -61,20 +57,16 @@ module _ (asked : Option Asked) (pages : Option Pages) (failed : Type 0) (before
   ahead-failed (Some page) t = t
 
   ahead-missing : (page : Option (List ℕ)) → FeedStates {T = Unit {0}} page before between (Err (stop.Fetch fetch.Missing)) → TookOf TookFirst page before between
-  ahead-missing None t = t
-  ahead-missing (Some page) t = absurd t
+  ahead-missing page t = grind arith
 
   ahead-long : (page : Option (List ℕ)) → FeedStates {T = Unit {0}} page before between (Err (stop.Fetch fetch.TooLong)) → TookOf TookFirst page before between
-  ahead-long None t = absurd t
-  ahead-long (Some page) t = t.1
+  ahead-long page t = grind arith
 
   ahead-fault : (f : TextFault) (page : Option (List ℕ)) → FeedStates {T = Unit {0}} page before between (Err (stop.Text f)) → TookOf TookAll page before between
-  ahead-fault f None t = absurd t
-  ahead-fault f (Some page) t = t.1
+  ahead-fault f page t = grind arith
 
   first-fault : (f : TextFault) (page : Option (List ℕ)) → FeedStates {T = Unit {0}} page before between (Err (stop.Text f)) → TookOf TookFirst page before between
-  first-fault f None t = absurd t
-  first-fault f (Some page) t = first-of-all page before between t.1
+  first-fault f page t = grind arith
 
   ahead-memory : (page : Option (List ℕ)) → FeedStates {T = Unit {0}} page before between (Err stop.Memory) → TookOf TookFirst page before between
   ahead-memory None t = t
@@ -99,10 +91,10 @@ module _ (asked : Option Asked) (pages : Option Pages) (failed : Type 0) (before
   never-memory none = (λ reported t. absurd (none reported t), inr (inr (inl (folder, feed))))
 
   no-summary : TookSummary asked before after
-  no-summary number e = absurd (cc)
+  no-summary number e = grind arith
 
   no-verdict : TookVerdict asked before after
-  no-verdict other e = absurd (cc)
+  no-verdict other e = grind arith
 
   done : (end : Unit {0}) → States (Ok end) → after ≡ between → Ends status.Done
   done end states p = (λ reported t. by reported (page_in reported) refl (states reported t), no-summary, no-verdict)

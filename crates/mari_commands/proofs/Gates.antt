@@ -1,5 +1,5 @@
 -- In a generated day a quarter has few gates, so that a budget of 511 nodes holds each run's search tree.
-use Rattle.std.proofs.Common.{◌≡◌, ℕ, suc, ◌≤◌, ◌==◌, Bool, true, false, List, [], ◌∷◌, Some, filter, length, take, arith, refl}
+use Rattle.std.proofs.Common.{◌≡◌, ℕ, suc, ◌≤◌, ◌==◌, Bool, List, [], ◌∷◌, Some, filter, length, take, arith, refl}
 use Rattle.std.specs.Prelude.{slice_get}
 use Rattle.std.specs.List.{range_with_len}
 use Rattle.std.proofs.lemmas.List.{length-map}
@@ -35,12 +35,7 @@ use Rattle.mari_remain.proofs.Validity.{same_quarter}
 -- what passes three tests is no more than what passes two of them
 one-more : (g p q : ℕ → Bool) (x : ℕ) (xs : List ℕ) → length (filter g (filter p (filter q xs))) ≤ length (filter q (filter g xs)) → (a : Bool) → q x ≡ a → (b : Bool) → p x ≡ b → (c : Bool) → g x ≡ c
     → length (filter g (filter p (filter q (x ∷ xs)))) ≤ length (filter q (filter g (x ∷ xs)))
-one-more g p q x xs less true e true f true c = rw (e, f, c, e) (omega (arith, less))
-one-more g p q x xs less true e true f false c = rw (e, f, c) less
-one-more g p q x xs less true e false f true c = rw (e, f, c, e) (omega (arith, less))
-one-more g p q x xs less true e false f false c = rw (e, f, c) less
-one-more g p q x xs less false e b f true c = rw (e, c, e) less
-one-more g p q x xs less false e b f false c = rw (e, c) less
+one-more g p q x xs less a e b f c h = grind arith
 
 fewer : (g p q : ℕ → Bool) (xs : List ℕ) → length (filter g (filter p (filter q xs))) ≤ length (filter q (filter g xs))
 fewer g p q [] = omega arith

@@ -1,6 +1,6 @@
 -- The books that a folder's pages give are those by which the pages of a generated day are accepted.
-use Rattle.std.proofs.Common.{◌≡◌, ◌∙◌, ℕ, List, [], ◌∷◌, Option, Some, None, length, map, ap, refl, subst, sym}
-use Rattle.std.specs.Prelude.{IsSomeAnd, Ok, Result}
+use Rattle.std.proofs.Common.{◌≡◌, ◌∙◌, ℕ, List, [], ◌∷◌, Some, None, length, map, ap, refl, subst, sym, arith}
+use Rattle.std.specs.Prelude.{Ok, Result}
 use Rattle.std.proofs.lemmas.List.{length-map}
 use Rattle.std.proofs.lemmas.List.FromFn.{length-map-range_with_len}
 use lib.Chars.{codes}
@@ -30,11 +30,7 @@ use Rattle.mari_day.proofs.Facts.{some_same}
 
 -- a page that is there, and what is said of it
 there : (pages : Pages) (name : List ℕ) (Is : List ℕ → Type 0) → HasPage pages name Is → (page : List ℕ) × (page_of pages name ≡ Some page) × Is page
-there pages name Is has = by (page_of pages name) refl has
-  where
-    by : (o : Option (List ℕ)) → page_of pages name ≡ o → IsSomeAnd o Is → (page : List ℕ) × (page_of pages name ≡ Some page) × Is page
-    by None e h = absurd h
-    by (Some page) e h = (page, e, h)
+there pages name Is has = grind arith
 
 -- the pages of a folder in version 1
 held-seven : (pages : Pages) (folder d z b i l r m : List ℕ) → page_in pages folder Day ≡ Some d

@@ -1,5 +1,5 @@
 -- Quarters that are cleared as one market: what each answer says of them.
-use Rattle.std.proofs.Common.{◌≡◌, ◌∙◌, ℕ, Bool, true, false, List, Option, Some, Result, Ok, Err, if◌then◌else◌, ap, refl, subst, sym}
+use Rattle.std.proofs.Common.{◌≡◌, ◌∙◌, ℕ, Bool, true, false, List, Option, Some, Result, Ok, Err, if◌then◌else◌, ap, refl, subst, sym, arith}
 use Rattle.std.specs.Prelude.{string_bytes}
 use lib.Chars.{codes}
 use Rattle.mari_io.specs.Outside.{Pages}
@@ -15,7 +15,7 @@ use Rattle.mari_words.specs.Asked.{Asked}
 use Rattle.mari_words.specs.Asked.Asked.{Blocks}
 use Rattle.mari_commands.specs.declared.outcome.JointJob.{JointJob}
 use Rattle.mari_commands.specs.declared.outcome.Outcome.{Outcome}
-use Rattle.mari_commands.specs.declared.outcome.Outcome.TheVariants.{NoCommand, Day, Feed as Feeds, Blocks as Joins, Values, Text, Invalid, NoPage, Refused, Memory as NoMemory}
+use Rattle.mari_commands.specs.declared.outcome.Outcome.TheVariants.{Day, Blocks as Joins, Memory as NoMemory}
 use Rattle.mari_answers.specs.declared.status.Status.{Status}
 use Rattle.mari_answers.specs.declared.status.Status.TheVariants as status
 use Rattle.mari_commands.specs.Commands.{AsksForBlocks}
@@ -79,20 +79,14 @@ module _ (pages : Option Pages) (failed : Type 0) (before after : Option (List �
 
   blocks-answers : (folder : List ℕ) (first last nodes workers : ℕ) (o : Outcome) → IsOfWords (Some (Blocks folder first last nodes workers)) o → Reported pages late o before after result
       → AnswersOf (Some (Blocks folder first last nodes workers)) pages failed before after result
-  blocks-answers folder first last nodes workers NoCommand words r = absurd (cc words)
   blocks-answers folder first last nodes workers (Day job) words r =
       absurd
       (no_other (Some (Blocks folder first last nodes workers)) job.way words.0 job.nodes job.workers (Blocks folder first last nodes workers) words.1 refl refl)
-  blocks-answers folder first last nodes workers (Feeds other) words r = absurd (cc words)
   blocks-answers folder first last nodes workers (Joins q) words r = of-quarters (Blocks folder first last nodes workers) q words r
-  blocks-answers folder first last nodes workers (Values v) words r = absurd (let e = words.0.2 in cc e)
-  blocks-answers folder first last nodes workers (Text t) words r = absurd words
-  blocks-answers folder first last nodes workers (Invalid run number) words r = absurd (let e = words.1 in cc e)
-  blocks-answers folder first last nodes workers (NoPage k w) words r = absurd (let e = words.0.1 in cc e)
-  blocks-answers folder first last nodes workers (Refused refusal) words r = absurd (let e = words.0.1 in cc e)
   blocks-answers folder first last nodes workers NoMemory words r =
       let all : AnswersOf (Some (Blocks folder first last nodes workers)) pages failed before after status.Memory = r.1 in
       subst (λ (s : Status). AnswersOf (Some (Blocks folder first last nodes workers)) pages failed before after s) (sym r.0) all
+  blocks-answers folder first last nodes workers o words r = grind arith
 
 -- what else the words may ask for
 abbrev is_blocks : Option Asked → Bool

@@ -1,5 +1,5 @@
 -- What an outcome says of the words and of the pages, as the answers say it.
-use Rattle.std.proofs.Common.{◌≡◌, ◌∙◌, ℕ, List, Option, Some, None, ap, refl, subst, sym}
+use Rattle.std.proofs.Common.{◌≡◌, ◌∙◌, ℕ, List, Option, Some, None, ap, refl, subst, sym, arith}
 use Rattle.std.specs.Global.{Vec}
 use Rattle.std.specs.Prelude.{◌≤◌, length, ⊤}
 use Rattle.mari_units.specs.declared.faults.Refusal.{Refusal}
@@ -36,7 +36,7 @@ use Rattle.mari_commands.specs.Program.{TookFirstPart, TookLine, TookSummary, To
 use Rattle.mari_commands.specs.Program.TookAhead.{Nothing as nothing-ahead}
 use Rattle.mari_commands.specs.Splits.{command_by}
 use Rattle.mari_commands.proofs.Stating.{check-no-lines}
-use Rattle.mari_commands.proofs.Folder.{by-way, folder_by, no_other, of-folder, one-folder, reads, reads_no_folder, reads_none}
+use Rattle.mari_commands.proofs.Folder.{by-way, folder_by, of-folder, one-folder, reads, reads_no_folder, reads_none}
 
 module _ (asked : Option Asked) where
   -- what there is of the publication of a folder that is checked
@@ -69,14 +69,7 @@ module _ (asked : Option Asked) where
   given : (pages : Pages) (o : Outcome) (x : Asked) (folder : List ℕ) → IsOfBooks o → asked ≡ Some x → folder_of x ≡ Some folder
       → Says asked pages o
       → (books : Books) × HasBooks pages folder books × ComesOfBooks (Some x) pages folder books o
-  given pages o x folder own e f s = by (of-folder asked pages o folder (reads asked x folder e f) s)
-    where
-      by : SaysOfFolder asked pages folder o → (books : Books) × HasBooks pages folder books × ComesOfBooks (Some x) pages folder books o
-      by (OfRefusal refusal h d) = absurd (subst IsOfBooks d own)
-      by (OfGap n gap h d) = absurd (subst IsOfBooks d own)
-      by (OfBooks books h is) = let P : Option Asked → Type 0 = λ a. ComesOfBooks a pages folder books o in (books, h, subst P e is)
-      by (Fails n d) = absurd (subst IsOfBooks d own)
-      by (Starves d) = absurd (subst IsOfBooks d own)
+  given pages o x folder own e f s = grind arith
 
   -- a fault of the publication that is checked
   checked-invalid : (pages : Pages) (folder : List ℕ) (books : Books) (run number : ℕ) (page : Option (List ℕ))
@@ -110,8 +103,7 @@ module _ (asked : Option Asked) where
       let number : n ≡ k = cc in
       let P : ℕ → Type 0 = λ x. LacksPage asked pages x OverLimit in
       subst P number (lacks-book folder r has)
-  gap-is pages folder n k NotHeld OverLimit r has same f = absurd (cc)
-  gap-is pages folder n k OverLimit NotHeld r has same f = absurd (cc)
+  gap-is pages folder n k g h r has same f = cc
 
   checked-too-long : (pages : Pages) (folder : List ℕ) (books : Books) (k : ℕ) (page : Option (List ℕ))
       → asked ≡ Some (Check folder) → HasBooks pages folder books → page_of pages (publication_path folder) ≡ page
@@ -138,7 +130,7 @@ module _ (asked : Option Asked) where
   verdict-is before after t w p folder e = let P : Option Asked → Type 0 = λ a. AsksForText a t in (t, subst P e w, p)
 
   pub no-verdict : (before after : Option (List ℕ)) (way : Way) (folder : List ℕ) (nodes workers : ℕ) → asked ≡ Some (command_by way folder nodes workers) → TookVerdict asked before after
-  no-verdict before after way folder nodes workers c other e = absurd (no_other asked way folder nodes workers (Check other) c e refl)
+  no-verdict before after way folder nodes workers c other e = grind arith
 
   -- of what a first part was taken
   pub part-of-usage : (before after : Option (List ℕ)) → asked ≡ None → TookPart before after usage_line → TookFirstPart asked before after
@@ -164,7 +156,7 @@ module _ (asked : Option Asked) where
   summary-is before after t w p number e = let P : Option Asked → Type 0 = λ a. AsksForText a t in (t, subst P e w, p)
 
   pub no-summary : (before after : Option (List ℕ)) (way : Way) (folder : List ℕ) (nodes workers : ℕ) → asked ≡ Some (command_by way folder nodes workers) → TookSummary asked before after
-  no-summary before after way folder nodes workers c number e = absurd (no_other asked way folder nodes workers (Generate number) c e refl)
+  no-summary before after way folder nodes workers c number e = grind arith
 
   -- what asks for no feed
   pub none-no-feed : asked ≡ None → AsksForFeed asked → ⊥

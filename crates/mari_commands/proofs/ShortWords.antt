@@ -17,14 +17,9 @@ place_of (true ∷ w) = place_of w + place_of w + 2
 
 one-place : (v w : List Bool) → place_of v ≡ place_of w → v ≡ w
 one-place [] [] e = refl
-one-place [] (false ∷ w) e = absurd (omega (arith, e))
-one-place [] (true ∷ w) e = absurd (omega (arith, e))
-one-place (false ∷ v) [] e = absurd (omega (arith, e))
-one-place (true ∷ v) [] e = absurd (omega (arith, e))
-one-place (false ∷ v) (true ∷ w) e = absurd (omega (arith, e))
-one-place (true ∷ v) (false ∷ w) e = absurd (omega (arith, e))
 one-place (false ∷ v) (false ∷ w) e = ap (λ u. false ∷ u) (one-place v w (omega (arith, e)))
 one-place (true ∷ v) (true ∷ w) e = ap (λ u. true ∷ u) (one-place v w (omega (arith, e)))
+one-place v w e = grind arith
 
 -- how many words there are of at most n bits
 abbrev pub count_to : ℕ → ℕ

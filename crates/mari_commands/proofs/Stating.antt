@@ -1,5 +1,5 @@
 -- What an outcome says of the words and the pages, by how it came.
-use Rattle.std.proofs.Common.{ℕ, List, Option, Some, inl, inr, refl}
+use Rattle.std.proofs.Common.{ℕ, List, Option, Some, inl, refl, arith}
 use Rattle.std.specs.Prelude.{Err}
 use Rattle.mari_io.specs.declared.shelf.Fetch.TheVariants as fetch
 use Rattle.mari_io.specs.Outside.{Pages}
@@ -11,7 +11,7 @@ use Rattle.mari_day.specs.Reading.{BooksReport, NamesAFile}
 use Rattle.mari_day.specs.declared.reading.BooksFault.{BooksFault}
 use Rattle.mari_day.specs.declared.reading.BooksFault.TheVariants as why
 use Rattle.mari_words.specs.Asked.{Asked}
-use Rattle.mari_words.specs.Asked.Asked.{Check, Clear, Generate, Migrate, Split, Value}
+use Rattle.mari_words.specs.Asked.Asked.{Check, Generate, Migrate}
 use Rattle.mari_words.specs.declared.command.FilePart.{FilePart}
 use Rattle.mari_commands.specs.declared.outcome.Outcome.{Outcome}
 use Rattle.mari_commands.specs.declared.outcome.Outcome.TheVariants.{Text, Refused, Memory as NoMemory}
@@ -33,21 +33,14 @@ says-fault asked pages folder fault r states = says-folder asked pages (no_books
 
 -- whatever the words ask for there may be no memory
 pub says-memory : (asked : Option Asked) (pages : Pages) → Says asked pages NoMemory
-says-memory (Some (Clear folder nodes workers)) pages = Starves refl
-says-memory (Some (Check folder)) pages = Starves refl
-says-memory (Some (Migrate folder part)) pages = Starves refl
-says-memory (Some (Split folder nodes workers)) pages = Starves refl
-says-memory (Some (Value folder more)) pages = Starves refl
-says-memory _ pages = tt
+says-memory asked pages = grind arith
 
 -- words that ask for no lines of a publication
 pub check-no-lines : (folder : List ℕ) → AsksForLines (Some (Check folder)) → ⊥
-check-no-lines folder (inl (other, e)) = absurd (cc e)
-check-no-lines folder (inr (other, more, e)) = absurd (cc e)
+check-no-lines folder h = grind arith
 
 migrate-no-lines : (folder : List ℕ) (part : FilePart) → AsksForLines (Some (Migrate folder part)) → ⊥
-migrate-no-lines folder part (inl (other, e)) = absurd (cc e)
-migrate-no-lines folder part (inr (other, more, e)) = absurd (cc e)
+migrate-no-lines folder part h = grind arith
 
 -- what the words ask for, by the outcome
 pub words-of-fault : (asked : Option Asked) (folder : List ℕ) (fault : BooksFault) → ReadsFolder asked folder → NamesAFile {T = Books} (Err fault) → IsOfWords asked (no_books fault)
@@ -62,9 +55,7 @@ words-of-migrated folder part books NoMemory is = tt
 words-of-migrated folder part books _ is = absurd is
 
 pub words-of-summary : (number : ℕ) (o : Outcome) → IsSummarised number o → IsOfWords (Some (Generate number)) o
-words-of-summary number (Text t) is = is
-words-of-summary number NoMemory is = tt
-words-of-summary number _ is = absurd is
+words-of-summary number o is = grind arith
 
 pub words-of-text : (folder : List ℕ) (f : TextFault) → IsOfWords (Some (Check folder)) (text_outcome f)
 words-of-text folder (text_fault.BadLine n) = ((folder, refl), λ lines. absurd (check-no-lines folder lines))

@@ -1,5 +1,5 @@
 -- What each answer says where the words ask for the values of limits.
-use Rattle.std.proofs.Common.{◌≡◌, ◌∙◌, inl, inr, ℕ, List, ◌++◌, Option, ap, append-nil, refl, subst, sym}
+use Rattle.std.proofs.Common.{◌≡◌, ◌∙◌, inl, inr, ℕ, List, ◌++◌, Option, ap, append-nil, refl, subst, sym, arith}
 use Rattle.mari_io.specs.Outside.{Pages}
 use Rattle.mari_io.specs.Taken.{then_took}
 use Rattle.mari_io.specs.declared.shelf.Fetch.TheVariants as fetch
@@ -54,10 +54,10 @@ module _ (asked : Option Asked) (pages : Option Pages) (failed : Type 0) (before
   first-part = record { usage = λ e. absurd (let f = words.2 in cc (e, f)); summary = λ number e. absurd (let f = words.2 in cc (e, f)) }
 
   no-summary : TookSummary asked before after
-  no-summary number e = absurd (let f = words.2 in cc (e, f))
+  no-summary number e = grind arith
 
   no-verdict : TookVerdict asked before after
-  no-verdict other e = absurd (let f = words.2 in cc (e, f))
+  no-verdict other e = grind arith
 
   -- the lines, and after them the line of the status
   took : (Took : List ℕ → Option (List ℕ) → Option (List ℕ) → Type 0) (E : ValueEnd → Type 0) (end : ValueEnd) → E end
@@ -71,14 +71,7 @@ module _ (asked : Option Asked) (pages : Option Pages) (failed : Type 0) (before
 
   -- so the valuing ends, unless a call of the shelf failed
   ends : (end : ValueEnd) → (end ≡ values.Fetch fetch.Failed → ⊥) → (reported : Pages) → StatesValues asked reported end lines → EndsValues asked reported end
-  ends end not reported t = record {
-    folder = t.folder;
-    more = t.more;
-    value = t.value;
-    books = t.books;
-    gives = t.gives;
-    ends = elim (is-end-of t.books t.more _ lines end t.states) [ inl is ↦ is | inr e ↦ absurd (not e) ];
-  }
+  ends end not reported t = grind (arith, is-end-of)
 
   of-publication : (f : TextFault) → PUBLICATION ≡ (text_refusal f).file
   of-publication (text_fault.BadLine n) = refl
@@ -110,7 +103,6 @@ module _ (asked : Option Asked) (pages : Option Pages) (failed : Type 0) (before
   printed (values.Text (text_fault.BadLine n)) never states p = refused (text_fault.BadLine n) (text-reportable (text_fault.BadLine n)).1 states p
   printed (values.Text (text_fault.BadOrder n)) never states p = refused (text_fault.BadOrder n) (text-reportable (text_fault.BadOrder n)).1 states p
   printed (values.Text (text_fault.Truncated n)) never states p = refused (text_fault.Truncated n) (text-reportable (text_fault.Truncated n)).1 states p
-  printed (values.Text text_fault.Memory) never states p = absurd (never refl)
   printed (values.Fetch fetch.Failed) never states p = (inl files, (PUBLICATION, wanted, took _ IsFailedEnd (values.Fetch fetch.Failed) refl states p))
   printed (values.Fetch fetch.Missing) never states p = (
     inl files,
@@ -130,7 +122,7 @@ module _ (asked : Option Asked) (pages : Option Pages) (failed : Type 0) (before
       line = took _ (IsGapEnd OverLimit) (values.Fetch fetch.TooLong) refl states p;
     },
   )
-  printed (values.Fetch fetch.Memory) never states p = absurd (never refl)
+  printed end never states p = grind arith
 
   of-report : (end : ValueEnd) → (IsWrapped end → ⊥) → States end → (IsPageEnd fetch.Failed end → failed) → (result : Status) → ReportsValues lines end before after result → Ends result
   of-report end never states cause result (Printed e p) = subst Ends (sym e) (printed end never states p)

@@ -1,5 +1,5 @@
 -- The keys of a value state the kind of the part.
-use Rattle.std.proofs.Common.{◌≡◌, ℕ, Bool, true, false, List, codes, sym, ap, ◌∙◌}
+use Rattle.std.proofs.Common.{◌≡◌, ℕ, Bool, true, false, List, codes, sym, ap, ◌∙◌, arith}
 use Rattle.std.specs.Prelude.{is_some}
 use Rattle.serde_json.specs.Data.{Data}
 use Rattle.serde_json.specs.Find.{get}
@@ -32,14 +32,10 @@ unpublished_part (block.Unpublished heading nodes) d r e there = ((heading, node
 -- a part that has a budget
 pub head_part : (p : Part) (d : Data) → PartFits p → part_value p ≡ d → true ≡ has (codes "budget") d → (x : List ℕ × ℕ × ℕ) × InRange (line.Head x.0 x.1 x.2) × (head_value x.0 x.1 x.2 ≡ d)
 head_part (part.Head date quarters budget) d r e there = ((date, quarters, budget), r, e)
-head_part (part.Block (block.Published g)) d r e there = absurd (never (there ∙ sym (ap (has (codes "budget")) e)))
-head_part (part.Block (block.Unpublished heading nodes)) d r e there = absurd (never (there ∙ sym (ap (has (codes "budget")) e)))
-head_part (part.Totals operators providers) d r e there = absurd (never (there ∙ sym (ap (has (codes "budget")) e)))
+head_part p d r e there = grind arith
 
 -- a part that has neither a budget nor a run
 pub totals_part : (p : Part) (d : Data) → PartFits p → part_value p ≡ d → false ≡ has (codes "budget") d → false ≡ has (codes "run") d
     → (x : List MoneyLine × List AmountLine) × SumsFit x.0 x.1 × (totals_value x.0 x.1 ≡ d)
-totals_part (part.Head date quarters budget) d r e unbudgeted none = absurd (never (ap (has (codes "budget")) e ∙ sym unbudgeted))
-totals_part (part.Block (block.Published g)) d r e unbudgeted none = absurd (never (ap (has (codes "run")) e ∙ sym none))
-totals_part (part.Block (block.Unpublished heading nodes)) d r e unbudgeted none = absurd (never (ap (has (codes "run")) e ∙ sym none))
 totals_part (part.Totals operators providers) d r e unbudgeted none = ((operators, providers), r, e)
+totals_part p d r e unbudgeted none = grind arith

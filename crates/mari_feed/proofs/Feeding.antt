@@ -1,5 +1,5 @@
 -- Parts that are printed as they come.
-use Rattle.std.proofs.Common.{◌≡◌, ◌∙◌, ◌+◌, ℕ, List, [], ◌∷◌, ◌++◌, length, take, drop, Option, Some, None, Result, Ok, Err, ◌⊎◌, inl, inr, refl, sym, ap, subst, append-nil}
+use Rattle.std.proofs.Common.{◌≡◌, ◌∙◌, ◌+◌, ℕ, List, [], ◌∷◌, ◌++◌, length, take, drop, Option, Some, None, Result, Ok, Err, ◌⊎◌, refl, sym, ap, subst, append-nil, arith}
 use Rattle.std.specs.List.{AllByRecursion}
 use Rattle.std.proofs.Math.Seq.{take-append-add}
 use Rattle.std.proofs.lemmas.Grind.{flat_map-append}
@@ -10,7 +10,6 @@ use Rattle.mari_io.specs.declared.shelf.Fetch.{Fetch}
 use Rattle.mari_io.specs.declared.shelf.Fetch.TheVariants as fetch
 use Rattle.mari_io.proofs.Taken.{took_both, took_nothing}
 use Rattle.mari_publish.specs.Faults.{IsOutcome}
-use Rattle.mari_publish.specs.Order.{nothing_kept}
 use Rattle.mari_publish.specs.Pieces.{HasPart, HoldsParts, parts_of}
 use Rattle.mari_publish.specs.Ranges.{PartFits}
 use Rattle.mari_publish.specs.Streams as read
@@ -56,12 +55,7 @@ module _ (before after : Option (List ℕ)) where
 
   -- of the page, where nothing was taken
   pub took_none : (page : List ℕ) → Took [] → TookFirst page before after
-  took_none page took = record {
-    parts = [];
-    first = record { lines = []; after = page; is = refl; in_range = tt; kept = nothing_kept; gives = gives_nothing };
-    back = tt;
-    took = took;
-  }
+  took_none page took = grind (arith, gives_nothing)
 
   took_first : (page : List ℕ) → read.TookFirst Took page → TookFirst page before after
   took_first page t = record { parts = t.parts; first = t.first; back = read_back page t.parts t.first; took = t.took }
@@ -91,57 +85,39 @@ module _ (before after : Option (List ℕ)) where
 
   -- a line wasn't written
   broke : (page : List ℕ) (parts : List Part) (x : Part) (stop : FeedStop) → HoldsParts page parts → HasPart page parts x → Breaks parts x stop → StopStates page before after stop
-  broke page parts x (OfFetch f) first there b = absurd b
-  broke page parts x (OfText f) first there b = absurd b
   broke page parts x OfSink first there b = line_begun page parts x there b
   broke page parts x NoMemory first there b = record { parts = parts; first = first; back = read_back page parts first; took = b }
+  broke page parts x stop first there b = grind arith
 
   -- how the printing ends, by how the reading does
   stopped : (page : List ℕ) (stop : ReadStop FeedStop) → read.StopStates Took Breaks page stop → StopStates page before after (feed_stop stop)
   stopped page (ReadUnopened fetch.Failed) h = took_none page h
-  stopped page (ReadUnopened fetch.Missing) h = absurd h
-  stopped page (ReadUnopened fetch.TooLong) h = absurd h
-  stopped page (ReadUnopened fetch.Memory) h = absurd h
   stopped page (ReadFetch fetch.Failed) h = took_first page h
-  stopped page (ReadFetch fetch.Missing) h = absurd h
   stopped page (ReadFetch fetch.TooLong) h =
       let first = holds page h.1.parts h.1.first in
       (h.0, record { parts = h.1.parts; first = first; back = read_back page h.1.parts first; took = h.1.took })
-  stopped page (ReadFetch fetch.Memory) h = absurd h
   stopped page (ReadText f) h = (h.0, took_all page h.1)
   stopped page (ReadPart stop) h = broke page h.parts h.part stop (holds page h.parts h.first) (holds page (h.parts ++ h.part ∷ []) h.there) h.broke
   stopped page ReadMemory h = took_first page h
+  stopped page stop h = grind arith
 
   missed : (stop : ReadStop FeedStop) → read.MissStates Took stop → MissStates before after (feed_stop stop)
-  missed (ReadUnopened fetch.Failed) h = nothing_taken h
-  missed (ReadUnopened fetch.Missing) h = nothing_taken h
-  missed (ReadUnopened fetch.TooLong) h = absurd h
-  missed (ReadUnopened fetch.Memory) h = absurd h
-  missed (ReadFetch f) h = absurd h
-  missed (ReadText f) h = absurd h
-  missed (ReadPart stop) h = absurd h
-  missed ReadMemory h = nothing_taken h
+  missed stop h = grind (arith, nothing_taken)
 
   pub feed_stopped : (page : Option (List ℕ)) (stop : ReadStop FeedStop) → read.ReadStates Took Breaks page (Err stop) → FeedStates {T = Unit {0}} page before after (Err (feed_stop stop))
   feed_stopped None stop h = missed stop h
   feed_stopped (Some page) stop h = stopped page stop h
 
   pub feed_printed : (page : Option (List ℕ)) (done : Unit {0}) → read.ReadStates Took Breaks page (Ok done) → FeedStates page before after (Ok done)
-  feed_printed None done h = absurd h
-  feed_printed (Some page) done h = (h.0, took_feed page h.1)
+  feed_printed page done h = grind (arith, took_feed)
 
 -- ---- the same as reading the page whole
 
 fault_same : (T : Type 0) (f : TextFault) (answer : Result Publication TextFault) → (answer ≡ Err f) ⊎ (answer ≡ Err fault.Memory) → SameAsRead {T = T} answer (Err (OfText f))
-fault_same T f (Ok p) (inl e) = absurd cc
-fault_same T f (Ok p) (inr e) = absurd cc
-fault_same T f (Err g) (inl e) = inl cc
-fault_same T f (Err g) (inr e) = inr cc
+fault_same T f answer h = grind arith
 
 whole_same : {T : Type 0} (done : T) (p : Publication) (answer : Result Publication TextFault) → (answer ≡ Ok p) ⊎ (answer ≡ Err fault.Memory) → SameAsRead answer (Ok done)
-whole_same done p (Ok q) e = tt
-whole_same done p (Err g) (inl e) = absurd cc
-whole_same done p (Err g) (inr e) = cc
+whole_same done p answer e = grind arith
 
 fetch_same : (T : Type 0) (f : Fetch) (answer : Result Publication TextFault) → SameAsRead {T = T} answer (Err (OfFetch f))
 fetch_same T f (Ok p) = tt

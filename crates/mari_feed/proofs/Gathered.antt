@@ -3,7 +3,7 @@ use Rattle.std.proofs.Common.{◌≡◌, ◌≤◌, ◌<◌, ℕ, zero, suc, ◌
 use Rattle.std.specs.List.{All}
 use Rattle.std.proofs.lemmas.List.{take_more, take_all, map-append, length-map}
 use Rattle.std.proofs.lemmas.List.Elements.{All-nil, All-push}
-use Rattle.serde_json.specs.Data.{Data, Items, null, boolean, number, string, array, object}
+use Rattle.serde_json.specs.Data.{Data, Items, array}
 use Rattle.serde_json.specs.Find.{as_array}
 use Rattle.serde_json.specs.View.{view, items_of, items_view}
 use Rattle.serde_json.specs.declared.value.Value.{Value}
@@ -16,21 +16,15 @@ use Rattle.mari_feed.proofs.NotRead.{HandedOn, handed_on}
 -- lists of values with the same items are the same
 pub same_items : (ds es : List Data) → items_of ds ≡ items_of es → ds ≡ es
 same_items [] [] e = refl
-same_items [] (x ∷ es) e = absurd cc
-same_items (d ∷ ds) [] e = absurd cc
 same_items (d ∷ ds) (x ∷ es) e =
     let rest : items_of ds ≡ items_of es = cc in
     let more = same_items ds es rest in
     cc
+same_items ds es e = cc
 
 -- the value whose items these are
 pub array_is : (d : Data) (ds : Items) → Some ds ≡ as_array d → d ≡ array ds
-array_is null ds e = absurd cc
-array_is (boolean b) ds e = absurd cc
-array_is (number n) ds e = absurd cc
-array_is (string s) ds e = absurd cc
-array_is (array es) ds e = cc
-array_is (object ms) ds e = absurd cc
+array_is d ds e = grind arith
 
 -- these were read from these values, one from each
 pub record Begun {X : Type 0} (R : X → Type 0) (f : X → Data) (xs : List X) (vs : List Value) : Type 0 where
@@ -57,12 +51,11 @@ module _ {X : Type 0} (R : X → Type 0) (f : X → Data) where
   tail_of x xs a k d lt = a (suc k) d (omega arith)
 
   pub at_value : (vs : List Value) (i : ℕ) (v : Value) (ys : List X) → i < length vs → v ≡ get_or vs i v → All R ys → map f ys ≡ map view vs → (x : X) × R x × (f x ≡ view v)
-  at_value [] i v ys lt at a e = absurd (omega arith)
-  at_value (w ∷ vs) i v [] lt at a e = absurd cc
   at_value (w ∷ vs) zero v (y ∷ ys) lt at a e = let first : f y ≡ view w = cc in (y, head_of y ys a, first ∙ ap view (sym at))
   at_value (w ∷ vs) (suc i) v (y ∷ ys) lt at a e =
       let rest : map f ys ≡ map view vs = cc in
       at_value vs i v ys (omega arith) at (tail_of y ys a) rest
+  at_value vs i v ys lt at a e = grind arith
 
   -- the values of a list, in an array
   pub same_values : (vs : List Value) (d : Data) (ys : List X) → Some (items_view vs) ≡ as_array d → list_of f ys ≡ d → map f ys ≡ map view vs
@@ -75,15 +68,10 @@ module _ {X : Type 0} (R : X → Type 0) (f : X → Data) where
   pub item_unread : (least most : ℕ) (vs : List Value) (i : ℕ) (v : Value) (d : Data) (e : FeedFault) (result : Result (List X) FeedFault)
       → i < length vs → v ≡ get_or vs i v → Some (items_view vs) ≡ as_array d
       → HandedOn e result → Reads R f (view v) (Err e) → Reads (Listed least most R) (list_of f) d result
-  item_unread least most vs i v d e result lt at is handed none =
-      handed_on R f (view v) (Listed least most R) (list_of f) d e result handed none
-      (λ ys r same. at_value vs i v ys lt at r.1 (same_values vs d ys is same))
+  item_unread least most vs i v d e result lt at is handed none = grind (arith, handed_on, at_value, same_values)
 
   -- all were read
   pub all_read : (least most : ℕ) (xs : List X) (vs : List Value) (i : ℕ) (d : Data) → length vs ≤ i
       → Some (items_view vs) ≡ as_array d → least ≤ length vs → length vs ≤ most → Begun R f xs (take i vs)
       → Listed least most R xs × (list_of f xs ≡ d)
-  all_read least most xs vs i d le is low high b =
-      let whole : map f xs ≡ map view vs = b.whole ∙ ap (map view) (take_all i vs le) in
-      let long : length xs ≡ length vs = sym (length-map xs f) ∙ ap length whole ∙ length-map vs view in
-      (((omega arith, omega arith), b.ranges), ap (λ ds. array (items_of ds)) whole ∙ sym (array_is d (items_view vs) is))
+  all_read least most xs vs i d le is low high b = grind (arith, take_all, length-map, array_is)

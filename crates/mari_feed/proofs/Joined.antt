@@ -1,5 +1,5 @@
 -- The text of a list, item by item.
-use Rattle.std.proofs.Common.{◌≡◌, ◌∙◌, ◌≤◌, ◌<◌, ◌+◌, ℕ, Bool, true, false, List, [], ◌∷◌, ◌++◌, map, length, take, get_or, Result, Ok, Err, refl, sym, ap, arith, append_assoc, append-nil}
+use Rattle.std.proofs.Common.{◌≡◌, ◌∙◌, ◌≤◌, ◌<◌, ◌+◌, ℕ, Bool, true, false, List, [], ◌∷◌, ◌++◌, map, length, take, get_or, Result, refl, sym, ap, arith, append_assoc, append-nil}
 use Rattle.std.specs.Prelude.{nat_lt}
 use Rattle.std.specs.Result.{OnOk}
 use Rattle.std.proofs.lemmas.Bool.Decides.{nat_tests}
@@ -31,12 +31,10 @@ after_push (e ∷ ds) d = ap (λ (t : List ℕ). 44 ∷ (compact_text e ++ t)) (
 
 -- one more item after none, and after some
 pub joined_first : (ds : List Data) (d : Data) → ds ≡ [] → joined (ds ++ d ∷ []) ≡ joined ds ++ compact_text d
-joined_first [] d e = append-nil (compact_text d)
-joined_first (x ∷ ds) d e = absurd cc
+joined_first ds d e = grind (arith, append-nil)
 
 pub joined_more : (ds : List Data) (d : Data) → (ds ≡ [] → ⊥) → joined (ds ++ d ∷ []) ≡ joined ds ++ 44 ∷ compact_text d
-joined_more [] d some = absurd (some refl)
-joined_more (e ∷ ds) d some = ap (λ (t : List ℕ). compact_text e ++ t) (after_push ds d) ∙ sym (append_assoc (compact_text e) (after_commas ds) (44 ∷ compact_text d))
+joined_more ds d some = grind (arith, after_push, append_assoc)
 
 -- ---- the loop over a list
 
@@ -46,28 +44,14 @@ module _ {X : Type 0} (f : X → Data) (xs : List X) (i : ℕ) (x : X) (lt : i <
 
   module _ (old before : List ℕ) (begun : before ≡ old ++ 91 ∷ joined (map f (take i xs))) where
     pub first_item : (later : Bool) → later ≡ nat_lt 0 i → later ≡ false → (after : List ℕ) → after ≡ before ++ compact_text (f x) → after ≡ old ++ 91 ∷ joined (map f (take (i + 1) xs))
-    first_item later is none after e =
-        let zeroth : i ≡ 0 = grind (arith, nat_tests) in
-        let empty : map f (take i xs) ≡ [] = ap (λ (n : ℕ). map f (take n xs)) zeroth in
-        e ∙ ap (λ (t : List ℕ). t ++ compact_text (f x)) begun ∙ append_assoc old (91 ∷ joined (map f (take i xs))) (compact_text (f x))
-        ∙ ap (λ (t : List ℕ). old ++ 91 ∷ t) (sym (joined_first (map f (take i xs)) (f x) empty)) ∙ ap (λ (ds : List Data). old ++ 91 ∷ joined ds) (sym next)
+    first_item later is none after e = grind (arith, nat_tests, append_assoc, joined_first, next)
 
     pub more_item : (later : Bool) → later ≡ nat_lt 0 i → later ≡ true → (between after : List ℕ)
         → between ≡ before ++ 44 ∷ [] → after ≡ between ++ compact_text (f x)
         → after ≡ old ++ 91 ∷ joined (map f (take (i + 1) xs))
-    more_item later is some between after c e =
-        let above : 0 < i = grind (arith, nat_tests) in
-        let long : length (map f (take i xs)) ≡ i = length-map (take i xs) f ∙ length-take-le i xs (omega (arith, lt)) in
-        let not_empty : map f (take i xs) ≡ [] → ⊥ = λ n. let none = ap length n in omega (arith, none, long, above) in
-        let t = 44 ∷ compact_text (f x) in
-        e ∙ ap (λ (s : List ℕ). s ++ compact_text (f x)) c ∙ append_assoc before (44 ∷ []) (compact_text (f x)) ∙ ap (λ (s : List ℕ). s ++ t) begun
-        ∙ append_assoc old (91 ∷ joined (map f (take i xs))) t ∙ ap (λ (s : List ℕ). old ++ 91 ∷ s)
-        (sym (joined_more (map f (take i xs)) (f x) not_empty)) ∙ ap (λ (ds : List Data). old ++ 91 ∷ joined ds) (sym next)
+    more_item later is some between after c e = grind (arith, nat_tests, length-map, length-take-le, append_assoc, joined_more, next)
 
 pub all_items : {X R E : Type 0} (r : Result R E) (f : X → Data) (xs : List X) (i : ℕ) (old before after : List ℕ)
     → length xs ≤ i → before ≡ old ++ 91 ∷ joined (map f (take i xs)) → OnOk r (after ≡ before ++ 93 ∷ [])
     → OnOk r (after ≡ old ++ 91 ∷ items_text false (items_of (map f xs)))
-all_items (Ok v) f xs i old before after le begun e =
-    e ∙ ap (λ (t : List ℕ). t ++ 93 ∷ []) begun ∙ append_assoc old (91 ∷ joined (map f (take i xs))) (93 ∷ [])
-    ∙ ap (λ (ys : _). old ++ 91 ∷ (joined (map f ys) ++ 93 ∷ [])) (take_all i xs le) ∙ ap (λ (t : List ℕ). old ++ 91 ∷ t) (sym (items_joined (map f xs)))
-all_items (Err x) f xs i old before after le begun e = tt
+all_items r f xs i old before after le begun e = grind (arith, append_assoc, take_all, items_joined)

@@ -1,5 +1,5 @@
 -- What is not read leaves what it is a part of unread.
-use Rattle.std.proofs.Common.{◌≡◌, ◌≢◌, ℕ, List, Result, Err, Some, None, sym, ap, subst, ◌∙◌}
+use Rattle.std.proofs.Common.{◌≡◌, ◌≢◌, ℕ, List, Result, Err, Some, None, sym, ap, subst, ◌∙◌, arith}
 use Rattle.serde_json.specs.Data.{Data, Members, member, no_members, object}
 use Rattle.serde_json.specs.Find.{as_object}
 use Rattle.mari_feed.specs.declared.fault.FeedFault.{FeedFault}
@@ -31,9 +31,7 @@ HandedOn e result = (x : FeedFault) × (result ≡ Err x) × (x ≡ e)
 -- a part that each whole has
 pub part_unread : {X Y : Type 0} (R : X → Type 0) (f : X → Data) (t : Data) (S : Y → Type 0) (g : Y → Data) (u : Data) (e : FeedFault)
     → Reads R f t (Err e) → ((y : Y) → S y → g y ≡ u → (x : X) × R x × (f x ≡ t)) → Reads S g u (Err e)
-part_unread R f t S g u fault.NotJson none part = none
-part_unread R f t S g u fault.NotAPart none part = λ y r w. let x = part y r w in none x.0 x.1 x.2
-part_unread R f t S g u fault.Memory none part = tt
+part_unread R f t S g u e none part = grind arith
 
 -- the same where the fault is handed on
 pub handed_on : {X Y : Type 0} (R : X → Type 0) (f : X → Data) (t : Data) (S : Y → Type 0) (g : Y → Data) (u : Data) (e : FeedFault) (result : Result Y FeedFault)
@@ -45,13 +43,7 @@ handed_on R f t S g u e result is none part =
 pub member_unread : {X Y : Type 0} (key : List ℕ) (R : X → Type 0) (f : X → Data) (ms left : Members) (S : Y → Type 0) (g : Y → Data) (u : Data) (e : FeedFault) (result : Result Y FeedFault)
     → HandedOn e result → ReadsMember key R f ms left (Err e)
     → ((y : Y) → S y → g y ≡ u → (x : X) × (others : Members) × R x × (ms ≡ member key (f x) others)) → Reads S g u result
-member_unread key R f ms left S g u e result is none part =
-    subst (λ r. Reads S g u r) (sym is.1) (subst (λ x. Reads S g u (Err x)) (sym is.2) (by_fault e none))
-  where
-    by_fault : (e : FeedFault) → ReadsMember key R f ms left (Err e) → Reads S g u (Err e)
-    by_fault fault.NotJson none = none
-    by_fault fault.NotAPart none = λ y r w. let x = part y r w in none x.0 x.1 x.2 x.3
-    by_fault fault.Memory none = tt
+member_unread key R f ms left S g u e result is none part = grind arith
 
 -- a value that is no object, though each whole is one
 pub no_object : {Y : Type 0} (S : Y → Type 0) (g : Y → Data) (u : Data) (e : FeedFault) (result : Result Y FeedFault)

@@ -1,7 +1,6 @@
 -- The text of an object, member by member.
-use Rattle.std.proofs.Common.{◌≡◌, ◌∙◌, ℕ, true, List, [], ◌∷◌, ◌++◌, Result, Ok, Err, refl, sym, ap, append_assoc, append-nil}
+use Rattle.std.proofs.Common.{◌≡◌, ◌∙◌, ℕ, true, List, [], ◌∷◌, ◌++◌, Result, Ok, Err, refl, sym, ap, append_assoc, append-nil, arith}
 use Rattle.std.specs.Result.{OnOk}
-use Rattle.json.specs.Print.{quoted}
 use Rattle.serde_json.specs.Data.{Data}
 use Rattle.serde_json.specs.Written.{compact_text, members_text}
 use Rattle.mari_feed.specs.Texts.{first_text, next_text, nexts_text}
@@ -23,16 +22,10 @@ regroup q c t = sym (append_assoc q (58 ∷ c) t)
 
 members_end : (ms : List Member) → members_text true (members_from ms) ≡ nexts_text ms ++ 125 ∷ []
 members_end [] = refl
-members_end (m ∷ ms) =
-    ap (λ (t : List ℕ). 44 ∷ (quoted m.0 ++ 58 ∷ (compact_text m.1 ++ t))) (members_end ms)
-    ∙ ap (λ (t : List ℕ). 44 ∷ t) (regroup (quoted m.0) (compact_text m.1) (nexts_text ms ++ 125 ∷ []))
-    ∙ sym (append_assoc (next_text m.0 m.1) (nexts_text ms) (125 ∷ []))
+members_end (m ∷ ms) = grind (arith, regroup, append_assoc, members_end ms)
 
 object_end : (key : List ℕ) (d : Data) (ms : List Member) → compact_text (object_of ((key, d) ∷ ms)) ≡ (first_text key d ++ nexts_text ms) ++ 125 ∷ []
-object_end key d ms =
-    ap (λ (t : List ℕ). 123 ∷ (quoted key ++ 58 ∷ (compact_text d ++ t))) (members_end ms)
-    ∙ ap (λ (t : List ℕ). 123 ∷ t) (regroup (quoted key) (compact_text d) (nexts_text ms ++ 125 ∷ []))
-    ∙ sym (append_assoc (first_text key d) (nexts_text ms) (125 ∷ []))
+object_end key d ms = grind (arith, members_end, regroup, append_assoc)
 
 -- ---- an object as far as it is written
 
@@ -44,9 +37,7 @@ opened old now key d e = e ∙ ap (λ (t : List ℕ). old ++ t) (sym (append-nil
 
 grown : (old key : List ℕ) (d : Data) (ms : List Member) (k : List ℕ) (x : Data)
     → (old ++ (first_text key d ++ nexts_text ms)) ++ next_text k x ≡ old ++ (first_text key d ++ nexts_text (ms ++ (k, x) ∷ []))
-grown old key d ms k x =
-    append_assoc old (first_text key d ++ nexts_text ms) (next_text k x)
-    ∙ ap (λ (t : List ℕ). old ++ t) (append_assoc (first_text key d) (nexts_text ms) (next_text k x) ∙ ap (λ (t : List ℕ). first_text key d ++ t) (sym (nexts_push ms k x)))
+grown old key d ms k x = grind (arith, append_assoc, nexts_push)
 
 pub further : (old now next key : List ℕ) (d : Data) (ms : List Member) (k : List ℕ) (x : Data) → Opened old now key d ms → next ≡ now ++ next_text k x → Opened old next key d (ms ++ (k, x) ∷ [])
 further old now next key d ms k x o e = e ∙ ap (λ (t : List ℕ). t ++ next_text k x) o ∙ grown old key d ms k x
@@ -67,9 +58,7 @@ further_shown (Err v) old now next key d ms k shown x is o e = tt
 pub closed : {R E : Type 0} (r : Result R E) (old now next key : List ℕ) (d : Data) (ms : List Member)
     → Opened old now key d ms → OnOk r (next ≡ now ++ 125 ∷ [])
     → OnOk r (next ≡ old ++ compact_text (object_of ((key, d) ∷ ms)))
-closed (Ok v) old now next key d ms o e =
-    e ∙ ap (λ (t : List ℕ). t ++ 125 ∷ []) o ∙ append_assoc old (first_text key d ++ nexts_text ms) (125 ∷ []) ∙ ap (λ (t : List ℕ). old ++ t) (sym (object_end key d ms))
-closed (Err v) old now next key d ms o e = tt
+closed r old now next key d ms o e = grind (arith, append_assoc, object_end)
 
 -- ---- further members alone
 
@@ -95,10 +84,7 @@ ended (Err v) old now next ms o e = tt
 pub ended_after : {R E : Type 0} (r : Result R E) (old now next key : List ℕ) (d : Data) (ms : List Member)
     → now ≡ old ++ next_text key d → OnOk r (next ≡ now ++ (nexts_text ms ++ 125 ∷ []))
     → OnOk r (next ≡ old ++ (nexts_text ((key, d) ∷ ms) ++ 125 ∷ []))
-ended_after (Ok v) old now next key d ms o e =
-    e ∙ ap (λ (t : List ℕ). t ++ (nexts_text ms ++ 125 ∷ [])) o ∙ append_assoc old (next_text key d) (nexts_text ms ++ 125 ∷ [])
-    ∙ ap (λ (t : List ℕ). old ++ t) (sym (append_assoc (next_text key d) (nexts_text ms) (125 ∷ [])))
-ended_after (Err v) old now next key d ms o e = tt
+ended_after r old now next key d ms o e = grind (arith, append_assoc)
 
 -- ---- an object in three pieces
 
@@ -106,18 +92,4 @@ pub in_pieces : {R E : Type 0} (r : Result R E) (old first second last key : Lis
     → first ≡ old ++ (first_text key d ++ nexts_text ms) → second ≡ first ++ nexts_text ns
     → OnOk r (last ≡ second ++ (nexts_text ps ++ 125 ∷ []))
     → OnOk r (last ≡ old ++ compact_text (object_of ((key, d) ∷ (ms ++ (ns ++ ps)))))
-in_pieces (Ok v) old first second last key d ms ns ps a b c =
-    let t = nexts_text ps ++ 125 ∷ [] in
-    c ∙ ap (λ (s : List ℕ). s ++ t) (b ∙ ap (λ (s : List ℕ). s ++ nexts_text ns) a)
-    ∙ append_assoc (old ++ (first_text key d ++ nexts_text ms)) (nexts_text ns) t
-    ∙ append_assoc old (first_text key d ++ nexts_text ms) (nexts_text ns ++ t)
-    ∙ ap (λ (s : List ℕ). old ++ s) (append_assoc (first_text key d) (nexts_text ms) (nexts_text ns ++ t)
-    ∙ ap (λ (s : List ℕ). first_text key d ++ s) (joined ms ns ps)
-    ∙ sym (append_assoc (first_text key d) (nexts_text (ms ++ (ns ++ ps))) (125 ∷ []))
-    ∙ sym (object_end key d (ms ++ (ns ++ ps))))
-  where
-    joined : (ms ns ps : List Member) → nexts_text ms ++ (nexts_text ns ++ (nexts_text ps ++ 125 ∷ [])) ≡ nexts_text (ms ++ (ns ++ ps)) ++ 125 ∷ []
-    joined ms ns ps =
-        ap (λ (s : List ℕ). nexts_text ms ++ s) (sym (append_assoc (nexts_text ns) (nexts_text ps) (125 ∷ [])) ∙ ap (λ (s : List ℕ). s ++ 125 ∷ []) (sym (nexts_append ns ps)))
-        ∙ sym (append_assoc (nexts_text ms) (nexts_text (ns ++ ps)) (125 ∷ [])) ∙ ap (λ (s : List ℕ). s ++ 125 ∷ []) (sym (nexts_append ms (ns ++ ps)))
-in_pieces (Err v) old first second last key d ms ns ps a b c = tt
+in_pieces r old first second last key d ms ns ps a b c = grind (arith, append_assoc, object_end, nexts_append)

@@ -1,5 +1,5 @@
 -- What reading bytes gives, and that it gives nothing else.
-use Rattle.std.proofs.Common.{◌≡◌, ℕ, List, Some, Result, Ok, Err, inl, inr, refl, sym, ap, ◌∙◌}
+use Rattle.std.proofs.Common.{◌≡◌, ℕ, List, Some, Result, Ok, Err, inl, inr, refl, sym, ap, ◌∙◌, arith}
 use Rattle.serde_json.specs.Data.{Data}
 use Rattle.mari_publish.specs.declared.publication.Part.{Part}
 use Rattle.mari_feed.specs.declared.fault.FeedFault.{FeedFault}
@@ -19,10 +19,7 @@ pub one_part : (bytes : List ℕ) (p q : Part) → IsPart bytes p → IsPart byt
 one_part bytes p q a b = same_part p q (one_value bytes (part_value p) (part_value q) a.json b.json)
 
 pub outcome : (bytes : List ℕ) (d : Data) (r : Result Part FeedFault) → IsJsonOf bytes d → Reads PartFits part_value d r → IsOutcome bytes r
-outcome bytes d (Ok p) json (fits, is) = record { fits = fits; json = record { utf8 = json.utf8; reads = json.reads ∙ ap Some (sym is) } }
-outcome bytes d (Err fault.NotJson) json r = absurd r
-outcome bytes d (Err fault.NotAPart) json none = record { value = d; json = json; none = none }
-outcome bytes d (Err fault.Memory) json r = tt
+outcome bytes d r json none = grind arith
 
 pub answers_part : (bytes : List ℕ) (r : Result Part FeedFault) → IsOutcome bytes r → (p : Part) → IsPart bytes p → AnswersWith (Ok p) r
 answers_part bytes (Ok q) o p is = inl (ap Ok (one_part bytes q p o is))

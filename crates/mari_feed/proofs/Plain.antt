@@ -2,7 +2,6 @@
 -- Such a text is graphic ASCII, so it stands on one line, and it is read back as its value.
 use Rattle.std.proofs.Common.{◌≡◌, ◌∙◌, ◌≤◌, ◌<◌, ◌^◌, ◌==◌, ◌&&◌, ℕ, zero, suc, Bool, true, false, not, ltb, List, [], ◌∷◌, ◌++◌, pos, negsuc, Some, Greater, decimal, IsAscii, refl, sym, ap, subst, arith, append-nil}
 use Rattle.std.specs.Prelude.{⊤, option_map, option_and_then}
-use Rattle.std.specs.Char.{is_ascii_digit}
 use Rattle.std.specs.List.{list_all}
 use Rattle.std.specs.Ordering.{nat_cmp}
 use Rattle.std.specs.Cmp.Lexicographic.{slice_cmp}
@@ -78,10 +77,7 @@ both : (xs ys : List ℕ) → IsLine xs → IsLine ys → IsLine (xs ++ ys)
 both xs ys a b = list_all-append is_text_byte xs ys ∙ rw (a, b) refl
 
 plain_line : (s : List ℕ) → is_plain_text s ≡ true → IsLine s
-plain_line s e = weaken is_plain_byte is_text_byte own s e
-  where
-    own : (b : ℕ) → is_plain_byte b ≡ true → is_text_byte b ≡ true
-    own b h = grind (arith, nat_tests)
+plain_line s e = grind (arith, weaken, nat_tests)
 
 escape_plain : (s : List ℕ) → is_plain_text s ≡ true → escape s ≡ s
 escape_plain [] e = refl
@@ -105,16 +101,10 @@ quoted_line : (s : List ℕ) → is_plain_text s ≡ true → IsLine (quoted s)
 quoted_line s e = subst IsLine (sym (quoted_plain s e)) (both (34 ∷ []) (s ++ 34 ∷ []) refl (both s (34 ∷ []) (plain_line s e) refl))
 
 digit_line : (n : ℕ) → n < 2 ^ 64 → IsLine (decimal n)
-digit_line n small = weaken is_ascii_digit is_text_byte own (decimal n) (digits_decimal numeral n small)
-  where
-    own : (b : ℕ) → is_ascii_digit b ≡ true → is_text_byte b ≡ true
-    own b h = grind (arith, nat_tests)
+digit_line n small = grind (arith, weaken, digits_decimal, numeral, nat_tests)
 
 number_line : (n : Num) → IsWhole n → IsLine (number_text n)
-number_line (unsigned n) w = digit_line n w
-number_line (negative (pos n)) w = absurd w
-number_line (negative (negsuc n)) w = both (45 ∷ []) (decimal (suc n)) refl (digit_line (suc n) (omega (arith, w)))
-number_line (float x) w = absurd w
+number_line n w = grind (arith, digit_line, both)
 
 comma_line : (later : Bool) → IsLine (comma_if later)
 comma_line true = refl
@@ -174,10 +164,7 @@ joined_all no_members = refl
 joined_all (member l e before) = ap (λ rest. member l e rest) (joined_all before)
 
 number_back : (n : Num) → IsWhole n → option_map number (number_of (number_text n)) ≡ Some (number n)
-number_back (unsigned n) w = rw (number_of-decimal n w) refl
-number_back (negative (pos n)) w = absurd w
-number_back (negative (negsuc n)) w = rw (number_of-negative n (omega (arith, w))) refl
-number_back (float x) w = absurd w
+number_back n w = grind (arith, number_of-decimal, number_of-negative)
 
 mutual
   value_back : (d : Data) → IsPlain d → of_json (outline d) ≡ Some d
@@ -202,9 +189,8 @@ mutual
 
 number_is : (n : Num) → IsWhole n → IsNumber (number_text n)
 number_is (unsigned n) w = IsNumber-decimal n w
-number_is (negative (pos n)) w = absurd w
 number_is (negative (negsuc n)) w = IsNumber-signed_decimal (negsuc n) (omega (arith, w))
-number_is (float x) w = absurd w
+number_is n w = grind arith
 
 mutual
   numbers : (d : Data) → IsPlain d → tree.HasNumbers (outline d)

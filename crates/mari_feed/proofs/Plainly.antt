@@ -26,10 +26,8 @@ use Rattle.mari_lines.specs.declared.line.MoneyLine.{MoneyLine}
 use Rattle.mari_lines.specs.declared.line.ZoneLine.{ZoneLine}
 use Rattle.mari_publish.specs.Ranges.{BlockFits, FullFits, ItemFits, PartFits, SumsFit}
 use Rattle.mari_publish.specs.declared.publication.Block.{Block}
-use Rattle.mari_publish.specs.declared.publication.Block.TheVariants as block
 use Rattle.mari_publish.specs.declared.publication.FullBlock.{FullBlock}
 use Rattle.mari_publish.specs.declared.publication.Part.{Part}
-use Rattle.mari_publish.specs.declared.publication.Part.TheVariants as part
 use Rattle.mari_feed.specs.Ranges.{FitsButTree}
 use Rattle.mari_feed.specs.Texts.{IsLineOf, json_of}
 use Rattle.mari_feed.specs.Values.{natural, whole, price_value, money_value, kind_value, side_value, zone_number, list_of, zone_value, border_value, bid_value, operator_value, provider_value, item_value, full_value, block_value, totals_value, part_value}
@@ -73,81 +71,16 @@ plain_list R f plain (x ∷ xs) a = (plain x (head_of R x xs a), plain_list R f 
 -- ---- lines
 
 pub plain_zone : (z : ZoneLine) → InRange (line.Zone z) → IsPlain (zone_value z)
-plain_zone z h = (
-  refl,
-  tt,
-  omega (arith, h.4),
-  (
-    refl,
-    (refl, tt),
-    plain_price z.greatest h.3,
-    (
-      refl,
-      (refl, (refl, tt)),
-      plain_price z.least h.2,
-      (
-        refl,
-        (refl, (refl, (refl, tt))),
-        plain_name z.name h.0,
-        (
-          refl,
-          (refl, (refl, (refl, (refl, tt)))),
-          plain_price z.price h.1,
-          tt,
-        ),
-      ),
-    ),
-  ),
-)
+plain_zone z h = grind (arith, plain_price, plain_name)
 
 pub plain_border : (b : BorderLine) → InRange (line.Border b) → IsPlain (border_value b)
-plain_border b h = (
-  refl,
-  tt,
-  plain_flow b.flow h.2,
-  (
-    refl,
-    (refl, tt),
-    plain_name b.from h.0,
-    (
-      refl,
-      (refl, (refl, tt)),
-      plain_money b.rent h.3,
-      (
-        refl,
-        (refl, (refl, (refl, tt))),
-        plain_name b.to h.1,
-        tt,
-      ),
-    ),
-  ),
-)
+plain_border b h = grind (arith, plain_flow, plain_name, plain_money)
 
 pub plain_bid : (b : BidLine) → InRange (line.Bid b) → IsPlain (bid_value b)
 plain_bid b h = (refl, tt, plain_name b.id h.0, (refl, (refl, tt), omega (arith, h.1), tt))
 
 pub plain_operator : (o : MoneyLine) → IsMoneyLine o → IsPlain (operator_value o)
-plain_operator o h = (
-  refl,
-  tt,
-  plain_name o.name h.0,
-  (
-    refl,
-    (refl, tt),
-    plain_money o.net h.3,
-    (
-      refl,
-      (refl, (refl, tt)),
-      plain_money o.payment h.1,
-      (
-        refl,
-        (refl, (refl, (refl, tt))),
-        plain_money o.rent h.2,
-        tt,
-      ),
-    ),
-  ),
-)
+plain_operator o h = grind (arith, plain_name, plain_money)
 
 pub plain_provider : (p : AmountLine) → IsAmountLine p → IsPlain (provider_value p)
 plain_provider p h = (refl, tt, plain_money p.amount h.1, (refl, (refl, tt), plain_name p.name h.0, tt))
@@ -197,16 +130,7 @@ plain_item (item.Leaf (leaf.Conflict c)) h = (
 -- ---- parts
 
 pub but_tree : (b : FullBlock) → FullFits b → FitsButTree b
-but_tree b h = record {
-  heading = h.heading;
-  welfare = h.welfare;
-  zones = h.zones;
-  borders = h.borders;
-  bids = h.bids;
-  demands = h.demands;
-  operators = h.operators;
-  providers = h.providers;
-}
+but_tree b h = grind arith
 
 plain_full : (b : FullBlock) → FullFits b → IsPlain (full_value b)
 plain_full b h = (
@@ -267,28 +191,7 @@ plain_full b h = (
 )
 
 plain_block : (b : Block) → BlockFits b → IsPlain (block_value b)
-plain_block (block.Published b) h = plain_full b h
-plain_block (block.Unpublished heading nodes) h = (
-  refl,
-  tt,
-  plain_kind heading.direct,
-  (
-    refl,
-    (refl, tt),
-    omega (arith, h),
-    (
-      refl,
-      (refl, (refl, tt)),
-      omega (arith, h),
-      (
-        refl,
-        (refl, (refl, (refl, tt))),
-        omega (arith, h),
-        tt,
-      ),
-    ),
-  ),
-)
+plain_block b h = grind (arith, plain_full, plain_kind)
 
 plain_totals : (os : List MoneyLine) (ps : List AmountLine) → SumsFit os ps → IsPlain (totals_value os ps)
 plain_totals os ps h = (
@@ -304,31 +207,9 @@ plain_totals os ps h = (
 )
 
 pub plain_part : (p : Part) → PartFits p → IsPlain (part_value p)
-plain_part (part.Head date quarters budget) h = (
-  refl,
-  tt,
-  omega (arith, h.2),
-  (
-    refl,
-    (refl, tt),
-    plain_name date h.0.0,
-    (
-      refl,
-      (refl, (refl, tt)),
-      omega (arith, h.1),
-      tt,
-    ),
-  ),
-)
-plain_part (part.Block b) h = plain_block b h
-plain_part (part.Totals os ps) h = plain_totals os ps h
+plain_part p h = grind (arith, plain_name, plain_block, plain_totals)
 
 -- ---- the text of a part
 
 pub line_is : (p : Part) → PartFits p → IsLineOf (json_of p) p
-line_is p fits =
-    let plain = plain_part p fits in
-    record {
-      part = record { fits = fits; json = record { utf8 = plain_utf8 (part_value p) plain; reads = read_plain (part_value p) plain (shallow_part p) } };
-      one = one_line (part_value p) plain;
-    }
+line_is p fits = grind (arith, plain_part, plain_utf8, read_plain, shallow_part, one_line)

@@ -2,14 +2,10 @@
 use Rattle.std.proofs.Common.{◌≡◌, ◌≤◌, ◌+◌, ℕ, List, [], ◌∷◌, refl, arith}
 use Rattle.serde_json.specs.Data.{Data, depth}
 use Rattle.serde_json.specs.Read.{max_depth}
-use Rattle.mari_market.specs.declared.certificate.Leaf.TheVariants as leaf
 use Rattle.mari_market.specs.declared.certificate.TreeItem.{TreeItem}
-use Rattle.mari_market.specs.declared.certificate.TreeItem.TheVariants as item
-use Rattle.mari_publish.specs.declared.publication.Block.TheVariants as block
 use Rattle.mari_publish.specs.declared.publication.FullBlock.{FullBlock}
 use Rattle.mari_publish.specs.declared.publication.Part.{Part}
-use Rattle.mari_publish.specs.declared.publication.Part.TheVariants as part
-use Rattle.mari_feed.specs.Values.{natural, whole, price_value, zone_number, list_of, zone_value, border_value, bid_value, operator_value, provider_value, item_value, full_value, part_value}
+use Rattle.mari_feed.specs.Values.{natural, list_of, zone_value, border_value, bid_value, operator_value, provider_value, item_value, full_value, part_value}
 
 pub shallow_list : {X : Type 0} (f : X → Data) (n : ℕ) → ((x : X) → depth (f x) ≤ n) → (xs : List X) → depth (list_of f xs) ≤ n + 1
 shallow_list f n each [] = omega arith
@@ -22,12 +18,7 @@ pub lines : {X : Type 0} (f : X → Data) → ((x : X) → depth (f x) ≡ 1) �
 lines f flat xs = shallow_list f 1 (λ x. omega (arith, flat x)) xs
 
 pub shallow_item : (x : TreeItem) → depth (item_value x) ≤ 2
-shallow_item item.Branch = omega arith
-shallow_item (item.Leaf (leaf.Bound p)) = omega (arith, numbers price_value (λ _. refl) p.cents)
-shallow_item (item.Leaf (leaf.Cut c)) = omega (arith, numbers zone_number (λ _. refl) c.zones)
-shallow_item (item.Leaf (leaf.Conflict c)) =
-    omega
-    (arith, numbers price_value (λ _. refl) c.potentials.cents, numbers zone_number (λ _. refl) c.chain, numbers whole (λ _. refl) c.activation.flow, numbers natural (λ _. refl) c.activation.mw)
+shallow_item x = grind (arith, numbers)
 
 shallow_full : (b : FullBlock) → depth (full_value b) ≤ max_depth
 shallow_full b = omega (
@@ -42,7 +33,4 @@ shallow_full b = omega (
 )
 
 pub shallow_part : (p : Part) → depth (part_value p) ≤ max_depth
-shallow_part (part.Head date quarters budget) = omega arith
-shallow_part (part.Block (block.Published b)) = shallow_full b
-shallow_part (part.Block (block.Unpublished heading nodes)) = omega arith
-shallow_part (part.Totals operators providers) = omega (arith, lines operator_value (λ _. refl) operators, lines provider_value (λ _. refl) providers)
+shallow_part p = grind (arith, shallow_full, lines)

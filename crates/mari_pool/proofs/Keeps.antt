@@ -1,5 +1,5 @@
 -- What always holds of a pool is kept by an entry, and where seats meet.
-use Rattle.std.proofs.Common.{◌≡◌, Bool, true, false, ℕ, ◌+◌, ◌*◌, ◌-◌, ◌<◌, ◌≤◌, max, pos, List, [], ◌∷◌, ◌++◌, length, if◌then◌else◌, nat_le, Option, Some, None, arith, refl, sym, ap, subst, ◌∙◌, length-append, zero, suc, replicate, get_or}
+use Rattle.std.proofs.Common.{◌≡◌, Bool, true, false, ℕ, ◌+◌, ◌*◌, ◌-◌, ◌<◌, ◌≤◌, max, pos, List, [], ◌∷◌, ◌++◌, length, nat_le, Option, Some, arith, refl, sym, ap, subst, ◌∙◌, length-append, zero, suc, replicate, get_or}
 use Rattle.std.specs.Prelude.{slice_get, IfSome}
 use Rattle.std.proofs.lemmas.Int.{ints}
 use Rattle.std.proofs.lemmas.List.{length-replicate}
@@ -10,7 +10,7 @@ use Rattle.mari_market.specs.declared.finding.Finding.{Finding}
 use Rattle.mari_core.specs.declared.node.NodeState.TheVariants.{Untaken, Taken, Closed}
 use Rattle.mari_core.specs.declared.journal.JournalEntry.{JournalEntry}
 use Rattle.mari_core.specs.Nodes.{TreeNode, new_node, words_of, state_at}
-use Rattle.mari_core.specs.Growth.{Grown, Entry, seed, grown, children_at, settling, settling_by, in_journal, IsAllowed, IsCutoff, IsGrowth, IsEntryCutAt, closing_leaf, MaySettle}
+use Rattle.mari_core.specs.Growth.{Grown, Entry, seed, grown, settling, settling_by, in_journal, IsAllowed, IsCutoff, IsGrowth, IsEntryCutAt, closing_leaf, MaySettle}
 use Rattle.mari_core.specs.Growth.Entry.{Take, Close, Branch, Full, GiveBack}
 use Rattle.mari_core.specs.declared.journal.JournalEntry.TheVariants as journal
 use Rattle.mari_pool.specs.declared.ticket.Settled.TheVariants as settled
@@ -47,19 +47,7 @@ pub entry_keeps_by : (m : Market) (budget workers : ℕ) (incumbent : IncumbentI
     → length keys ≡ length (grown p.tree e).nodes → length turns ≡ length p.turns
     → length returned ≡ length p.returned → AreTurns (grown p.tree e).nodes turns (p.journal ++ in_journal e ∷ [])
     → IsPool m budget workers incumbent (pool_of (grown p.tree e) keys (p.journal ++ in_journal e ∷ []) p.room turns returned p.seat)
-entry_keeps_by m budget workers incumbent p e keys turns returned h may room cut ks t r report = record {
-  market_is = grown_market p.tree e ∙ h.market_is;
-  budget_is = grown_budget p.tree e ∙ h.budget_is;
-  grows = entry_kept p.tree e h.grows may;
-  leads = leads_on p.journal p.seat.seen p.tree e h.leads may cut;
-  keys_are = ks;
-  closed = h.closed;
-  fresh = h.fresh;
-  room_is = omega (arith, room, length-append p.journal (in_journal e ∷ []));
-  turns_are = t ∙ h.turns_are;
-  turns_report = report;
-  returned_are = r ∙ h.returned_are;
-}
+entry_keeps_by m budget workers incumbent p e keys turns returned h may room cut ks t r report = grind (arith, grown_market, grown_budget, entry_kept, leads_on, length-append)
 
 -- a paid entry keeps what holds
 pub entry_keeps : (m : Market) (budget workers : ℕ) (incumbent : IncumbentId) (p : Pooled) (e : Entry) (keys turns : List ℕ) (returned : List Bool)
@@ -78,27 +66,13 @@ back_owed g k x returned grows taken = omega (arith, entry_paid g (GiveBack k x)
 
 -- where the pool's seat sees more
 pub meeting_keeps : (m : Market) (budget workers : ℕ) (incumbent : IncumbentId) (p : Pooled) (seen : ℕ) → IsPool m budget workers incumbent p → IsPool m budget workers incumbent (meeting p seen)
-meeting_keeps m budget workers incumbent p seen h = record {
-  market_is = h.market_is;
-  budget_is = h.budget_is;
-  grows = h.grows;
-  leads = leads_above p.journal p.seat.seen (max p.seat.seen seen) p.tree (omega arith) h.leads;
-  keys_are = h.keys_are;
-  closed = h.closed;
-  fresh = h.fresh;
-  room_is = h.room_is;
-  turns_are = h.turns_are;
-  turns_report = h.turns_report;
-  returned_are = h.returned_are;
-}
+meeting_keeps m budget workers incumbent p seen h = grind (arith, leads_above)
 
 pub may_settle_node : (m : Market) (seen : ℕ) (f : Finding) (word : List Bool) (nodes : List TreeNode) (x : ℕ)
     → slice_get (words_of nodes) x ≡ Some word → MaySettle m seen f (new_node word)
     → IfSome (slice_get nodes x) (MaySettle m seen f)
 may_settle_node m seen f word [] x e may = absurd (cc)
-may_settle_node m seen f word (n ∷ ns) zero e may =
-    let same : n.word ≡ word = cc in
-    subst (λ w. MaySettle m seen f n) same (subst (λ w. MaySettle m seen f (record { word = w; state = n.state })) (sym same) record { finding_is = may.finding_is; reached = may.reached })
+may_settle_node m seen f word (n ∷ ns) zero e may = grind arith
 may_settle_node m seen f word (n ∷ ns) (suc x) e may = may_settle_node m seen f word ns x e may
 
 -- a seat of the incumbent has seen a cutoff
@@ -141,20 +115,13 @@ grown_longer g (GiveBack k x) = omega (arith, length-with_state Untaken g.nodes 
 
 -- each node has a key after an entry
 keys_enough : (g : Grown) (e : Entry) (keys : List ℕ) (key : ℕ) → length keys ≡ length g.nodes → length (keys_after g e keys key) ≡ length (grown g e).nodes
-keys_enough g e keys key h =
-    let more = length (grown g e).nodes - length g.nodes in
-    omega (arith, length-append keys (replicate more key), length-replicate more key, grown_longer g e, h)
+keys_enough g e keys key h = grind (arith, length-append, length-replicate, grown_longer)
 
 -- a node that is settled leaves the turns of all others
 settling_turns : (g : Grown) (k x cutoff : ℕ) (turns : List ℕ) (entries : List JournalEntry) (o : Option Leaf)
     → AreTurns g.nodes turns entries
     → AreTurns (grown g (settling_by g k x cutoff o)).nodes turns (entries ++ in_journal (settling_by g k x cutoff o) ∷ [])
-settling_turns g k x cutoff turns entries (Some leaf) h = turns_close g k x cutoff leaf turns entries h
-settling_turns g k x cutoff turns entries None h = by_fit (nat_le (length g.nodes + length (children_at g x)) g.budget)
-  where
-    by_fit : (b : Bool) → AreTurns (grown g (if b then Branch k x cutoff else Full k x cutoff)).nodes turns (entries ++ in_journal (if b then Branch k x cutoff else Full k x cutoff) ∷ [])
-    by_fit true = turns_branch g k x cutoff turns entries h
-    by_fit false = turns_full g k x cutoff turns entries h
+settling_turns g k x cutoff turns entries o h = grind (arith, turns_close, nat_le, turns_branch, turns_full)
 
 -- the seats meet, and a taken node is settled
 pub settle_keeps : (m : Market) (budget workers : ℕ) (incumbent : IncumbentId) (p : Pooled) (k x seen : ℕ) (f : Finding)
@@ -170,25 +137,13 @@ settle_keeps m budget workers incumbent p k x seen f h may =
 -- ---- what became of a node
 
 pub answer_close : (g : Grown) (e : Entry) (a b c : ℕ) → in_journal e ≡ journal.Close a b c → answer_of g e ≡ settled.Closed
-answer_close g (Take k x) a b c e = absurd (cc)
-answer_close g (Close k x leaf cutoff) a b c e = refl
-answer_close g (Branch k x cutoff) a b c e = absurd (cc)
-answer_close g (Full k x cutoff) a b c e = absurd (cc)
-answer_close g (GiveBack k x) a b c e = absurd (cc)
+answer_close g e a b c h = grind arith
 
 pub answer_branch : (g : Grown) (e : Entry) (a b c : ℕ) → in_journal e ≡ journal.Branch a b c → answer_of g e ≡ settled.Branched
-answer_branch g (Take k x) a b c e = absurd (cc)
-answer_branch g (Close k x leaf cutoff) a b c e = absurd (cc)
-answer_branch g (Branch k x cutoff) a b c e = refl
-answer_branch g (Full k x cutoff) a b c e = absurd (cc)
-answer_branch g (GiveBack k x) a b c e = absurd (cc)
+answer_branch g e a b c h = grind arith
 
 pub answer_full : (g : Grown) (e : Entry) (a b c : ℕ) → in_journal e ≡ journal.Full a b c → answer_of g e ≡ settled.Full (length (grown g e).nodes)
-answer_full g (Take k x) a b c e = absurd (cc)
-answer_full g (Close k x leaf cutoff) a b c e = absurd (cc)
-answer_full g (Branch k x cutoff) a b c e = absurd (cc)
-answer_full g (Full k x cutoff) a b c e = ap (λ (n : ℕ). settled.Full n) (sym (length-with_state Untaken g.nodes x))
-answer_full g (GiveBack k x) a b c e = absurd (cc)
+answer_full g e a b c h = grind (arith, length-with_state)
 
 -- ---- the start
 

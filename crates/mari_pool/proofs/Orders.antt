@@ -1,5 +1,5 @@
 -- Which node a queue gives, and that each waits with its key.
-use Rattle.std.proofs.Common.{◌≡◌, ◌∙◌, Bool, true, false, cond, ℕ, ◌≤◌, ◌==◌, nat_lt, Less, Equal, Greater, nat_cmp, is_lt, List, [], ◌∷◌, ◌++◌, map, get_or, All, IsPermutation, arith, refl, sym, true≢false, ltb-false, eq-eqb}
+use Rattle.std.proofs.Common.{◌≡◌, ◌∙◌, Bool, true, false, cond, ℕ, ◌≤◌, nat_lt, Less, Equal, Greater, nat_cmp, is_lt, List, [], ◌∷◌, ◌++◌, map, get_or, All, IsPermutation, arith, ltb-false, eq-eqb}
 use Rattle.std.specs.Ordering.{ordering_then}
 use Rattle.std.specs.BinaryHeap.{IsUpperBound}
 use Rattle.std.proofs.lemmas.Option.{get_or_from_slice_get, slice_get_within}
@@ -11,28 +11,16 @@ use Rattle.mari_pool.specs.Queued.{Waiting, number_in, by_key, IsAhead, IsKeyed}
 -- ---- the order
 
 by_tests : (s e t u : Bool) → is_lt (ordering_then (cond s Less (cond e Equal Greater)) (cond t Less (cond u Equal Greater))) ≡ false → (s ≡ false) × (e ≡ true → t ≡ false)
-by_tests true e t u h = absurd (true≢false h)
-by_tests false true true u h = absurd (true≢false h)
-by_tests false true false u h = (refl, λ _. refl)
-by_tests false false t u h = (refl, λ e. absurd (true≢false (sym e)))
+by_tests s e t u h = grind arith
 
 not_lt : (a b n m : ℕ) → is_lt (ordering_then (nat_cmp a b) (nat_cmp n m)) ≡ false → (b ≤ a) × (b ≡ a → m ≤ n)
-not_lt a b n m h =
-    let t = by_tests (nat_lt a b) (a == b) (nat_lt n m) (n == m) h in
-    (ltb-false a b t.0, λ e. ltb-false n m (t.1 (eq-eqb a b (sym e))))
+not_lt a b n m h = grind (arith, by_tests, nat_lt, ltb-false, eq-eqb)
 
 key_is : (keys : List ℕ) (w : Waiting) → IsKeyed keys w → get_or keys (number_in w) 0 ≡ w.0
 key_is keys w h = get_or_from_slice_get keys (number_in w) w.0 0 h
 
 ahead_of : (keys : List ℕ) (v w : Waiting) → IsKeyed keys v → IsKeyed keys w → is_lt (by_key v w) ≡ false → IsAhead keys (number_in v) (number_in w)
-ahead_of keys v w hv hw h =
-    let t = not_lt v.0 w.0 (number_in w) (number_in v) h in
-    let kv = key_is keys v hv in
-    let kw = key_is keys w hw in
-    record {
-      none_greater = omega (arith, kv, kw, t.0);
-      none_lower = λ e. t.1 (sym kw ∙ e ∙ kv);
-    }
+ahead_of keys v w hv hw h = grind (arith, not_lt, key_is)
 
 -- the one that leaves was ahead of each
 pub first_ahead : (keys : List ℕ) (xs ys : List Waiting) (w : Waiting) → All (IsKeyed keys) xs

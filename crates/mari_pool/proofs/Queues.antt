@@ -9,14 +9,14 @@ use Rattle.std.proofs.lemmas.List.Sums.{sum_by-cons, sum_by-append, sum_by_push}
 use Rattle.std.proofs.lemmas.List.Sorted.{IsPermutation-trans, IsPermutation-append_left, IsPermutation-to_front, length_permutation, sum_by-IsPermutation}
 use Rattle.std.proofs.lemmas.Option.{slice_get-map, slice_get_past}
 use Rattle.mari_core.specs.declared.node.NodeState.{NodeState}
-use Rattle.mari_core.specs.declared.node.NodeState.TheVariants.{Untaken, Taken, Branched, Closed}
+use Rattle.mari_core.specs.declared.node.NodeState.TheVariants.{Untaken, Taken, Closed}
 use Rattle.mari_core.specs.Nodes.{TreeNode, new_node, words_of, state_at, branch_of}
 use Rattle.mari_core.specs.Growth.{Grown, Entry, grown, with_state, children_at, in_journal, IsAllowed, NoneWaits}
 use Rattle.mari_core.specs.Growth.Entry.{Take, Close, Branch, Full, GiveBack}
 use Rattle.mari_core.proofs.Changes.{IsAt, node_at, length-with_state, state_other, state_same}
 use Rattle.mari_core.proofs.Entries.{within_nodes}
 use Rattle.mari_units.proofs.Lists.{get_back, get_front}
-use Rattle.mari_pool.specs.Pooled.{keys_after, taken_in, taken_among}
+use Rattle.mari_pool.specs.Pooled.{keys_after, taken_among}
 use Rattle.mari_pool.specs.Queued.{Queued, no_nodes, numbers_from, first_key, waits_in, untaken_among, CanFollow, Follows, IsAhead, IsBack, LeavesFirst, IsFirstWaiting, IsMore, IsQueueOf}
 use Rattle.mari_pool.proofs.Rooms.{comes, taken_state}
 
@@ -77,11 +77,7 @@ length_numbers x (suc n) = length-append (numbers_from x n) ((x + n) ∷ []) ∙
 -- ---- nodes that wait
 
 pub waits_is : (o : Option NodeState) → 1 ≤ waits_in o → o ≡ Some Untaken
-waits_is None l = absurd (omega (arith, l))
-waits_is (Some Untaken) l = refl
-waits_is (Some (Taken k)) l = absurd (omega (arith, l))
-waits_is (Some (Branched closed opened)) l = absurd (omega (arith, l))
-waits_is (Some (Closed leaf cutoff)) l = absurd (omega (arith, l))
+waits_is o l = grind arith
 
 pub untaken_state : (s t : NodeState) (nodes : List TreeNode) (x : ℕ) → state_at nodes x ≡ Some t → untaken_among (with_state s nodes x) + waits_in (Some t) ≡ untaken_among nodes + waits_in (Some s)
 untaken_state s t [] x e = absurd (cc)
@@ -99,13 +95,7 @@ untaken_new (w ∷ ws) = omega (arith, untaken_new ws)
 -- a node doesn't wait where it is taken
 pub untaken_few : (nodes : List TreeNode) → untaken_among nodes + taken_among nodes ≤ length nodes
 untaken_few [] = omega arith
-untaken_few (n ∷ ns) = omega (arith, untaken_few ns, by_state n.state)
-  where
-    by_state : (s : NodeState) → waits_in (Some s) + taken_in s ≤ 1
-    by_state Untaken = omega arith
-    by_state (Taken k) = omega arith
-    by_state (Branched closed opened) = omega arith
-    by_state (Closed leaf cutoff) = omega arith
+untaken_few (n ∷ ns) = grind (arith, untaken_few ns)
 
 pub state_same_as : (s t : NodeState) (nodes : List TreeNode) (x : ℕ) → state_at nodes x ≡ Some t → state_at (with_state s nodes x) x ≡ Some s
 state_same_as s t nodes x e = let at : IsAt nodes x t = node_at nodes x t e in state_same s nodes x at.node at.there
@@ -120,10 +110,7 @@ state_past nodes y l = ap (λ (o : Option TreeNode). option_map (λ (n : TreeNod
 
 -- a node has a word
 pub has_word : (nodes : List TreeNode) (x : ℕ) (s : NodeState) → state_at nodes x ≡ Some s → slice_get (words_of nodes) x ≡ None → ⊥
-has_word nodes x s e none =
-    let at : IsAt nodes x s = node_at nodes x s e in
-    let there : slice_get (words_of nodes) x ≡ Some at.node.word = slice_get-map (λ (n : TreeNode). n.word) nodes x ∙ ap (option_map (λ (n : TreeNode). n.word)) at.there in
-    absurd (cc)
+has_word nodes x s e none = grind (arith, node_at, slice_get-map)
 
 -- ---- one queue more
 
@@ -220,21 +207,7 @@ queue_back nodes q r x k h f taken = record {
 
 -- a taken node is done
 pub queue_done : (nodes : List TreeNode) (q : Queued) (s : NodeState) (x k : ℕ) → IsQueueOf nodes q → state_at nodes x ≡ Some (Taken k) → waits_in (Some s) ≡ 0 → IsQueueOf (with_state s nodes x) q
-queue_done nodes q s x k h taken done = record {
-  keys = h.keys ∙ sym (length-with_state s nodes x);
-  each = each;
-  many = omega (arith, untaken_state s (Taken k) nodes x taken, done, h.many);
-}
-  where
-    each : (y : ℕ) → count_by (λ z. z == y) q.waiting ≡ waits_in (state_at (with_state s nodes x) y)
-    each y = elim (cases_eq x y) [
-      | inl e ↦
-          let here : waits_in (state_at (with_state s nodes x) y) ≡ 0 =
-          ap (λ (z : ℕ). waits_in (state_at (with_state s nodes x) z)) (sym e) ∙ ap waits_in (state_same_as s (Taken k) nodes x taken) ∙ done in
-          let was : waits_in (state_at nodes y) ≡ 0 = ap (λ (z : ℕ). waits_in (state_at nodes z)) (sym e) ∙ ap waits_in taken in
-          omega (arith, here, was, h.each y)
-      | inr n ↦ h.each y ∙ sym (ap waits_in (state_other s nodes x y (λ e. n (sym e))))
-    ]
+queue_done nodes q s x k h taken done = grind (arith, length-with_state, untaken_state, count_by, cases_eq, state_same_as, state_other)
 
 -- nodes are made
 pub queue_more : (nodes : List TreeNode) (words : List (List Bool)) (q r : Queued) (key : ℕ) → IsQueueOf nodes q → IsMore key (length words) q r → IsQueueOf (nodes ++ map new_node words) r
@@ -313,9 +286,7 @@ can_follow g (GiveBack k x) q h room l may = back_room g.nodes q x k g.budget h 
 
 -- where no node is made, the keys stay
 pub keys_stay : (g : Grown) (e : Entry) (keys : List ℕ) (key : ℕ) → length (grown g e).nodes ≡ length g.nodes → keys_after g e keys key ≡ keys
-keys_stay g e keys key same =
-    let none : length (grown g e).nodes - length g.nodes ≡ 0 = omega (arith, same) in
-    ap (λ (n : ℕ). keys ++ replicate n key) none ∙ append-nil keys
+keys_stay g e keys key same = grind (arith, append-nil)
 
 -- what a queue is after it followed an entry
 pub record IsFollowed (g : Grown) (e : Entry) (key : ℕ) (q r : Queued) : Type 0 where
@@ -324,9 +295,7 @@ pub record IsFollowed (g : Grown) (e : Entry) (key : ℕ) (q r : Queued) : Type 
   pub room : r.room ≡ q.room
 
 pub branch_done : (first : ℕ) (words : List (List Bool)) → waits_in (Some (branch_of first words)) ≡ 0
-branch_done first [] = refl
-branch_done first (c ∷ []) = refl
-branch_done first (c ∷ o ∷ rest) = refl
+branch_done first words = grind arith
 
 pub follows_kept : (g : Grown) (e : Entry) (key : ℕ) (q r : Queued) → comes e ≡ 0 → IsQueueOf g.nodes q
     → IsAllowed g e → Follows key (length (grown g e).nodes) q r (in_journal e) → IsFollowed g e key q r

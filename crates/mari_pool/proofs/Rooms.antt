@@ -1,10 +1,10 @@
 -- The room of the journal: each entry takes one of those that may still come.
-use Rattle.std.proofs.Common.{◌≡◌, Bool, true, false, ℕ, zero, suc, ◌+◌, ◌-◌, ◌*◌, ◌≤◌, if◌then◌else◌, List, [], ◌∷◌, ◌++◌, length, map, Option, Some, None, arith, refl, ap, length-append, set, replicate}
+use Rattle.std.proofs.Common.{◌≡◌, Bool, true, false, ℕ, zero, suc, ◌+◌, ◌-◌, ◌*◌, ◌≤◌, if◌then◌else◌, List, [], ◌∷◌, ◌++◌, length, map, Option, Some, arith, refl, ap, length-append, set, replicate}
 use Rattle.std.proofs.lemmas.List.{length-map}
-use Rattle.std.specs.Prelude.{slice_get, nat_le}
+use Rattle.std.specs.Prelude.{slice_get}
 use Rattle.mari_market.specs.declared.certificate.Leaf.{Leaf}
 use Rattle.mari_core.specs.declared.node.NodeState.{NodeState}
-use Rattle.mari_core.specs.declared.node.NodeState.TheVariants.{Untaken, Taken, Branched, Closed}
+use Rattle.mari_core.specs.declared.node.NodeState.TheVariants.{Untaken, Taken, Closed}
 use Rattle.mari_core.specs.Nodes.{TreeNode, new_node, state_at, branch_of}
 use Rattle.mari_core.specs.Growth.{Grown, Entry, grown, with_state, children_at, settling_by, IsAllowed}
 use Rattle.mari_core.specs.Growth.Entry.{Take, Close, Branch, Full, GiveBack}
@@ -45,23 +45,13 @@ taken_new (w ∷ ws) = omega (arith, taken_new ws)
 -- once a node could not branch, less is owed
 owed_falls : (nodes : List TreeNode) → owed_among true nodes ≤ owed_among false nodes
 owed_falls [] = omega arith
-owed_falls (n ∷ ns) = omega (arith, owed_falls ns, by_state n.state)
-  where
-    by_state : (s : NodeState) → owed_in true s ≤ owed_in false s
-    by_state Untaken = omega arith
-    by_state (Taken k) = omega arith
-    by_state (Branched closed opened) = omega arith
-    by_state (Closed leaf cutoff) = omega arith
+owed_falls (n ∷ ns) = grind (arith, owed_falls ns)
 
 branch_owes : (full : Bool) (first : ℕ) (words : List (List Bool)) → owed_in full (branch_of first words) ≡ 0
-branch_owes full first [] = refl
-branch_owes full first (c ∷ []) = refl
-branch_owes full first (c ∷ o ∷ rest) = refl
+branch_owes full first words = grind arith
 
 pub branch_untaken : (first : ℕ) (words : List (List Bool)) → taken_in (branch_of first words) ≡ 0
-branch_untaken first [] = refl
-branch_untaken first (c ∷ []) = refl
-branch_untaken first (c ∷ o ∷ rest) = refl
+branch_untaken first words = grind arith
 
 -- ---- entries
 
@@ -167,35 +157,15 @@ unreturned_all (suc n) = omega (arith, unreturned_all n)
 
 -- an entry that settles is paid by the node
 pub settling_paid : (g : Grown) (k x cutoff n : ℕ) (o : Option Leaf) → IsPaid g (settling_by g k x cutoff o) n n
-settling_paid g k x cutoff n (Some leaf) = refl
-settling_paid g k x cutoff n None = by_test (nat_le (length g.nodes + length (children_at g x)) g.budget)
-  where
-    by_test : (b : Bool) → IsPaid g (if b then Branch k x cutoff else Full k x cutoff) n n
-    by_test true = refl
-    by_test false = refl
+settling_paid g k x cutoff n o = grind arith
 
 pub settling_comes : (g : Grown) (k x cutoff : ℕ) (o : Option Leaf) → comes (settling_by g k x cutoff o) ≡ 0
-settling_comes g k x cutoff (Some leaf) = refl
-settling_comes g k x cutoff None = by_test (nat_le (length g.nodes + length (children_at g x)) g.budget)
-  where
-    by_test : (b : Bool) → comes (if b then Branch k x cutoff else Full k x cutoff) ≡ 0
-    by_test true = refl
-    by_test false = refl
+settling_comes g k x cutoff o = grind arith
 
 -- one more worker number owes two entries at most
 pub owed_more : (g : Grown) (n : ℕ) → still_owed g (n + 1) ≤ still_owed g n + 2
-owed_more g n = by_full g.full refl
-  where
-    by_full : (full : Bool) → g.full ≡ full → still_owed g (n + 1) ≤ still_owed g n + 2
-    by_full true e = rw e (omega arith)
-    by_full false e = rw e (omega arith)
+owed_more g n = grind arith
 
 pub taken_few : (nodes : List TreeNode) → taken_among nodes ≤ length nodes
 taken_few [] = omega arith
-taken_few (n ∷ ns) = omega (arith, taken_few ns, by_state n.state)
-  where
-    by_state : (s : NodeState) → taken_in s ≤ 1
-    by_state Untaken = omega arith
-    by_state (Taken k) = omega arith
-    by_state (Branched closed opened) = omega arith
-    by_state (Closed leaf cutoff) = omega arith
+taken_few (n ∷ ns) = grind (arith, taken_few ns)

@@ -6,7 +6,7 @@ use Rattle.mari_market.specs.declared.market.Market.{Market}
 use Rattle.mari_core.specs.declared.journal.JournalEntry.{JournalEntry}
 use Rattle.mari_core.specs.declared.journal.JournalEntry.TheVariants as journal
 use Rattle.mari_core.specs.declared.node.NodeState.{NodeState}
-use Rattle.mari_core.specs.declared.node.NodeState.TheVariants.{Untaken, Taken, Closed}
+use Rattle.mari_core.specs.declared.node.NodeState.TheVariants.{Taken}
 use Rattle.mari_core.specs.Nodes.{TreeNode, branch_of, new_node, state_at}
 use Rattle.mari_core.specs.Growth.{Grown, grown, in_journal, seed, with_state, children_at}
 use Rattle.mari_core.specs.Growth.Entry.{Take, Close, Branch, Full, GiveBack}
@@ -18,10 +18,7 @@ snoc_get : {X : Type 0} (xs : List X) (e d : X) (t : ℕ) → slice_get (xs ++ e
 snoc_get [] e d zero h = inr (refl, cc)
 snoc_get [] e d (suc t) h = absurd (cc)
 snoc_get (x ∷ xs) e d zero h = inl h
-snoc_get (x ∷ xs) e d (suc t) h = elim (snoc_get xs e d t h) [
-  | inl a ↦ inl a
-  | inr b ↦ inr (ap suc b.0, b.1)
-]
+snoc_get (x ∷ xs) e d (suc t) h = grind (arith, snoc_get xs e d t h)
 
 get_snoc : {X : Type 0} (xs : List X) (e d : X) (t : ℕ) → slice_get xs t ≡ Some d → slice_get (xs ++ e ∷ []) t ≡ Some d
 get_snoc [] e d t h = absurd (cc)
@@ -48,23 +45,11 @@ set_other (x ∷ xs) (suc i) (suc j) n un = set_other xs i j n (λ e. un (ap suc
 last_kept : (entries : List JournalEntry) (e : JournalEntry) (node worker turn : ℕ)
     → ((k : ℕ) → e ≡ journal.Take k node → ⊥) → IsLastTake entries node worker turn
     → IsLastTake (entries ++ e ∷ []) node worker turn
-last_kept entries e node worker turn other h = record {
-  taken = get_snoc entries e (journal.Take worker node) turn h.taken;
-  last = λ t k later at. elim (snoc_get entries e (journal.Take k node) t at) [
-    | inl before ↦ h.last t k later before
-    | inr now ↦ other k now.1
-  ];
-}
+last_kept entries e node worker turn other h = grind (arith, get_snoc, snoc_get)
 
 -- an entry that takes it is the last
 last_taken : (entries : List JournalEntry) (node worker : ℕ) → IsLastTake (entries ++ journal.Take worker node ∷ []) node worker (length entries)
-last_taken entries node worker = record {
-  taken = at_end entries (journal.Take worker node);
-  last = λ t k later at. elim (snoc_get entries (journal.Take worker node) (journal.Take k node) t at) [
-    | inl before ↦ absurd (omega (arith, later, slice_get_within entries t (journal.Take k node) before))
-    | inr now ↦ absurd (omega (arith, later, now.0))
-  ];
-}
+last_taken entries node worker = grind (arith, at_end, snoc_get, slice_get_within)
 
 -- ---- which nodes are taken after an entry
 
@@ -76,9 +61,8 @@ taken_before s (n ∷ ns) (suc x) zero k un h = h
 taken_before s (n ∷ ns) (suc x) (suc y) k un h = taken_before s ns x y k un h
 
 none_new : (words : List (List Bool)) (y k : ℕ) → state_at (map new_node words) y ≡ Some (Taken k) → ⊥
-none_new [] y k h = absurd (cc)
-none_new (w ∷ ws) zero k h = absurd (cc)
 none_new (w ∷ ws) (suc y) k h = none_new ws y k h
+none_new words y k h = cc
 
 taken_front : (nodes : List TreeNode) (words : List (List Bool)) (y k : ℕ) → state_at (nodes ++ map new_node words) y ≡ Some (Taken k) → state_at nodes y ≡ Some (Taken k)
 taken_front [] words y k h = absurd (none_new words y k h)
@@ -86,19 +70,14 @@ taken_front (n ∷ ns) words zero k h = h
 taken_front (n ∷ ns) words (suc y) k h = taken_front ns words y k h
 
 branch_not_taken : (first : ℕ) (words : List (List Bool)) (j : ℕ) → branch_of first words ≡ Taken j → ⊥
-branch_not_taken first [] j e = absurd (cc)
-branch_not_taken first (closed ∷ []) j e = absurd (cc)
-branch_not_taken first (closed ∷ opened ∷ rest) j e = absurd (cc)
+branch_not_taken first words j e = grind arith
 
 taken_or_other : (k : ℕ) (nodes : List TreeNode) (x y j : ℕ) → state_at (with_state (Taken k) nodes x) y ≡ Some (Taken j) → ((y ≡ x) × (k ≡ j)) ⊎ ((y ≡ x → ⊥) × (state_at nodes y ≡ Some (Taken j)))
 taken_or_other k [] x y j h = absurd (cc)
 taken_or_other k (n ∷ ns) zero zero j h = inl (refl, cc)
 taken_or_other k (n ∷ ns) zero (suc y) j h = inr (λ e. absurd (omega (arith, e)), h)
 taken_or_other k (n ∷ ns) (suc x) zero j h = inr (λ e. absurd (omega (arith, e)), h)
-taken_or_other k (n ∷ ns) (suc x) (suc y) j h = elim (taken_or_other k ns x y j h) [
-  | inl a ↦ inl (ap suc a.0, a.1)
-  | inr b ↦ inr (λ e. b.0 (omega (arith, e)), b.1)
-]
+taken_or_other k (n ∷ ns) (suc x) (suc y) j h = grind (arith, taken_or_other k ns x y j h)
 
 -- ---- the turns
 
@@ -114,9 +93,7 @@ turns_after nodes news turns entries e other before h y k taken =
 pub turns_close : (g : Grown) (k x cutoff : ℕ) (leaf : Rattle.mari_market.specs.declared.certificate.Leaf.Leaf) (turns : List ℕ) (entries : List JournalEntry)
     → AreTurns g.nodes turns entries
     → AreTurns (grown g (Close k x leaf cutoff)).nodes turns (entries ++ in_journal (Close k x leaf cutoff) ∷ [])
-turns_close g k x cutoff leaf turns entries h =
-    turns_after g.nodes (with_state (Closed leaf cutoff) g.nodes x) turns entries (in_journal (Close k x leaf cutoff)) (λ node j e. absurd (cc))
-    (λ y j t. taken_before (Closed leaf cutoff) g.nodes x y j (λ i e. absurd (cc)) t) h
+turns_close g k x cutoff leaf turns entries h = grind (arith, turns_after, taken_before)
 
 pub turns_branch : (g : Grown) (k x cutoff : ℕ) (turns : List ℕ) (entries : List JournalEntry)
     → AreTurns g.nodes turns entries
@@ -129,15 +106,11 @@ turns_branch g k x cutoff turns entries h =
 pub turns_full : (g : Grown) (k x cutoff : ℕ) (turns : List ℕ) (entries : List JournalEntry)
     → AreTurns g.nodes turns entries
     → AreTurns (grown g (Full k x cutoff)).nodes turns (entries ++ in_journal (Full k x cutoff) ∷ [])
-turns_full g k x cutoff turns entries h =
-    turns_after g.nodes (with_state Untaken g.nodes x) turns entries (in_journal (Full k x cutoff)) (λ node j e. absurd (cc))
-    (λ y j t. taken_before Untaken g.nodes x y j (λ i e. absurd (cc)) t) h
+turns_full g k x cutoff turns entries h = grind (arith, turns_after, taken_before)
 
 pub turns_back : (g : Grown) (k x : ℕ) (turns : List ℕ) (entries : List JournalEntry) → AreTurns g.nodes turns entries
     → AreTurns (grown g (GiveBack k x)).nodes turns (entries ++ in_journal (GiveBack k x) ∷ [])
-turns_back g k x turns entries h =
-    turns_after g.nodes (with_state Untaken g.nodes x) turns entries (in_journal (GiveBack k x)) (λ node j e. absurd (cc))
-    (λ y j t. taken_before Untaken g.nodes x y j (λ i e. absurd (cc)) t) h
+turns_back g k x turns entries h = grind (arith, turns_after, taken_before)
 
 -- the entry that takes a node gives it its turn
 pub turns_take : (g : Grown) (k x turn : ℕ) (turns : List ℕ) (entries : List JournalEntry) → x < length turns
@@ -165,5 +138,4 @@ turns_take g k x turn turns entries within place h y j taken = elim (taken_or_ot
 
 -- at the start no node is taken
 pub turns_start : (m : Market) (budget : ℕ) (turns : List ℕ) → AreTurns (seed m budget).nodes turns []
-turns_start m budget turns zero k taken = absurd (cc)
-turns_start m budget turns (suc x) k taken = absurd (cc)
+turns_start m budget turns h k taken = grind arith

@@ -1,5 +1,5 @@
 -- Which kind of line has a first word.
-use Rattle.std.proofs.Common.{◌≡◌, ℕ, Bool, true, false, IsTrue, List, refl, sym, ap, ◌∙◌}
+use Rattle.std.proofs.Common.{◌≡◌, ℕ, Bool, true, false, IsTrue, List, refl, sym, ap, ◌∙◌, arith}
 use Rattle.std.specs.Prelude.{◌||◌}
 use Rattle.std.specs.Str.{bytes_eq}
 use lib.Chars.{codes}
@@ -9,7 +9,6 @@ use Rattle.mari_lines.proofs.Splits.{some_words}
 use Rattle.mari_lines.specs.Spelling.{keyword_of, keyword_text}
 use Rattle.mari_lines.specs.declared.line.Heading.{Heading}
 use Rattle.mari_lines.specs.declared.line.Line.{Line}
-use Rattle.mari_lines.specs.declared.line.Line.TheVariants as line
 use Rattle.mari_reach_lines.specs.Ranges.{ReachInRange, is_shared}
 use Rattle.mari_reach_lines.specs.Spelling.{reach_fields, reach_word, words_of}
 use Rattle.mari_reach_lines.specs.declared.line.Claim.{Claim}
@@ -21,11 +20,7 @@ abbrev pub is_own : List ℕ → Bool
 is_own w = bytes_eq w (codes "mari") || bytes_eq w (codes "run") || bytes_eq w (codes "branch") || bytes_eq w (codes "price") || bytes_eq w (codes "none")
 
 shared_word : (l : Line) → is_shared l ≡ true → is_own (keyword_text (keyword_of l)) ≡ false
-shared_word (line.Head date quarters budget) s = absurd cc
-shared_word (line.Run heading) s = absurd cc
-shared_word (line.Unpublished heading count) s = absurd cc
-shared_word line.Branch s = absurd cc
-shared_word _ s = refl
+shared_word l s = grind arith
 
 -- no line of the first form that the second has too begins so
 pub apart : (l : Line) (w : List ℕ) → is_shared l ≡ true → is_own w ≡ true → keyword_text (keyword_of l) ≡ w → ⊥
@@ -33,23 +28,18 @@ apart l w s own e = both_ways (is_own w) (sym (ap is_own e) ∙ shared_word l s)
 
 pub is_head : (y : ReachLine) → ReachInRange y → reach_word y ≡ codes "mari" → (x : List ℕ × ℕ × ℕ) × (y ≡ reach.Head x.0 x.1 x.2)
 is_head (reach.Head date quarters budget) r e = ((date, quarters, budget), refl)
-is_head (reach.Shared l) r e = absurd (apart l (codes "mari") r.1 refl e)
-is_head y r e = absurd (both_ways (bytes_eq (reach_word y) (codes "mari")) refl (ap (λ w. bytes_eq w (codes "mari")) e))
+is_head y r e = grind arith
 
 pub is_run : (y : ReachLine) → ReachInRange y → reach_word y ≡ codes "run" → (x : Heading × Claim) × (y ≡ reach.Run x.0 x.1)
 is_run (reach.Run heading claim) r e = ((heading, claim), refl)
-is_run (reach.Shared l) r e = absurd (apart l (codes "run") r.1 refl e)
-is_run y r e = absurd (both_ways (bytes_eq (reach_word y) (codes "run")) refl (ap (λ w. bytes_eq w (codes "run")) e))
+is_run y r e = grind arith
 
 pub is_branch : (y : ReachLine) → ReachInRange y → reach_word y ≡ codes "branch" → (bid : List ℕ) × (y ≡ reach.Branch bid)
-is_branch (reach.Branch bid) r e = (bid, refl)
-is_branch (reach.Shared l) r e = absurd (apart l (codes "branch") r.1 refl e)
-is_branch y r e = absurd (both_ways (bytes_eq (reach_word y) (codes "branch")) refl (ap (λ w. bytes_eq w (codes "branch")) e))
+is_branch y r e = grind arith
 
 pub is_price : (y : ReachLine) → ReachInRange y → reach_word y ≡ codes "price" → (x : List ℕ × Cents) × (y ≡ reach.Price x.0 x.1)
 is_price (reach.Price zone price) r e = ((zone, price), refl)
-is_price (reach.Shared l) r e = absurd (apart l (codes "price") r.1 refl e)
-is_price y r e = absurd (both_ways (bytes_eq (reach_word y) (codes "price")) refl (ap (λ w. bytes_eq w (codes "price")) e))
+is_price y r e = grind arith
 
 -- a line of several words, of which the first is none of these, is one that the first form has too
 pub others_shared : (y : ReachLine) (w rest : List ℕ) → (w ≡ codes "mari" → IsTrue false) → (w ≡ codes "run" → IsTrue false) → (w ≡ codes "branch" → IsTrue false) → (w ≡ codes "price" → IsTrue false)

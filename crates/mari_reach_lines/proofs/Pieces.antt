@@ -165,8 +165,7 @@ claim_word First word gap e = let none : words_of gap ≡ [] = cc in absurd (som
 claim_word (Within g) word gap e = (g, refl, cc, cc)
 
 some_claim : (x : Claim) → claim_fields x ≡ [] → ⊥
-some_claim First e = absurd cc
-some_claim (Within g) e = absurd cc
+some_claim x e = grind arith
 
 -- a run's line has three words of its heading, and those of its claim
 pub parts_of_run : (h : Heading) (x : Claim) (run quarter kind : List ℕ) (said : List (List ℕ)) → run ∷ quarter ∷ kind ∷ said ≡ heading_fields h ++ claim_fields x

@@ -19,7 +19,6 @@ use Rattle.mari_reach_lines.specs.declared.line.Claim.{Claim}
 use Rattle.mari_reach_lines.specs.declared.line.Claim.TheVariants.{First, Within}
 use Rattle.mari_reach_lines.specs.declared.line.ReachLine.{ReachLine}
 use Rattle.mari_reach_lines.specs.declared.line.ReachLine.TheVariants as reach
-use Rattle.mari_reach_lines.proofs.OwnWords.{apart}
 use Rattle.mari_reach_lines.proofs.Words.{reach_words}
 
 -- lines of the first form with the same words are the same
@@ -35,20 +34,15 @@ same_headings g h rg rh e =
 
 same_claim : (a b : Claim) → IsClaim a → IsClaim b → claim_fields a ≡ claim_fields b → a ≡ b
 same_claim First First r s e = refl
-same_claim First (Within h) r s e = absurd cc
-same_claim (Within g) First r s e = absurd cc
 same_claim (Within g) (Within h) r s e =
     let text : money_text g ≡ money_text h = cc in
     ap (λ z. Within (record { 0 = z })) (same_money g.0 h.0 (omega arith) (omega arith) text)
+same_claim a b r s e = cc
 
 -- a line that the first form has too, and another with the same words
 with_shared : (l : Line) (z : ReachLine) → ReachInRange (reach.Shared l) → ReachInRange z → keyword_text (keyword_of l) ≡ reach_word z → fields l ≡ reach_fields z → reach.Shared l ≡ z
 with_shared l (reach.Shared m) r s k e = ap (λ x. reach.Shared x) (same_line l m r.0 s.0 (by_words l m k e))
-with_shared l (reach.Head date quarters budget) r s k e = absurd (apart l (codes "mari") r.1 refl k)
-with_shared l (reach.Run heading claim) r s k e = absurd (apart l (codes "run") r.1 refl k)
-with_shared l (reach.Branch bid) r s k e = absurd (apart l (codes "branch") r.1 refl k)
-with_shared l (reach.Price zone price) r s k e = absurd (apart l (codes "price") r.1 refl k)
-with_shared l reach.Void r s k e = absurd (apart l (codes "none") r.1 refl k)
+with_shared l z r s k e = grind arith
 
 same_heads : (c d : List ℕ) (p q m n : ℕ) → ReachInRange (reach.Head c p m) → ReachInRange (reach.Head d q n) → reach_fields (reach.Head c p m) ≡ reach_fields (reach.Head d q n)
     → reach.Head c p m ≡ reach.Head d q n

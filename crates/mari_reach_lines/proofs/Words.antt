@@ -3,9 +3,7 @@ use Rattle.std.proofs.Common.{◌≡◌, ℕ, List, [], ◌∷◌, ◌++◌, ref
 use Rattle.std.specs.List.{AllByRecursion}
 use Rattle.std.proofs.lemmas.List.{append-nil}
 use Rattle.mari_lines.specs.Reading.{Lacks}
-use Rattle.mari_lines.specs.Spelling.{keyword_of, keyword_text, spaced}
-use Rattle.mari_lines.specs.declared.line.Keyword.{Keyword}
-use Rattle.mari_lines.specs.declared.line.Keyword.TheVariants as first
+use Rattle.mari_lines.specs.Spelling.{keyword_of, spaced}
 use Rattle.mari_lines.specs.declared.line.Line.TheVariants as line
 use Rattle.mari_lines.proofs.Graphic.{IsGraphic, graphic_cents, graphic_euros, graphic_name, spelled, spelled_split, spelling_lacks, split_spaced}
 use Rattle.mari_lines.proofs.LineWords.{graphic_fields, graphic_keyword, small_price, no_feed as first_no_feed, words_of_line}
@@ -55,14 +53,8 @@ no_feed (reach.Branch bid) r = let y = reach.Branch bid in spelling_lacks (reach
 no_feed (reach.Price zone price) r = let y = reach.Price zone price in spelling_lacks (reach_word y) (reach_fields y) (graphic_word y) (graphic_reach y r)
 no_feed reach.Void r = refl
 
--- no first word is empty
-some_keyword : (k : Keyword) → keyword_text k ≡ [] → ⊥
-some_keyword first.Mari e = absurd cc
-some_keyword _ e = absurd cc
-
 some_word : (y : ReachLine) → reach_word y ≡ [] → ⊥
-some_word (reach.Shared l) e = some_keyword (keyword_of l) e
-some_word _ e = absurd cc
+some_word y e = grind arith
 
 pub never_empty : (y : ReachLine) → ReachInRange y → reach_spelling y ≡ [] → ⊥
 never_empty y r e =
@@ -77,8 +69,7 @@ after_word y w rest lacks r e =
 
 -- a text is its words, each after a space but the first
 spaced_spelled : (ws : List (List ℕ)) → (ws ≡ [] → ⊥) → spaced ws ≡ 32 ∷ spelled ws
-spaced_spelled [] some = absurd (some refl)
-spaced_spelled (w ∷ ws) some = refl
+spaced_spelled ws some = grind arith
 
 pub spaced_words : (rest : List ℕ) → spaced (words_of rest) ≡ 32 ∷ rest
 spaced_words rest = spaced_spelled (words_of rest) (some_words 32 rest) ∙ ap (λ (t : List ℕ). 32 ∷ t) (spelled_split rest)

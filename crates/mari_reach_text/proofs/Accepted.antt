@@ -4,8 +4,7 @@ use Rattle.std.specs.List.{All, AllByRecursion, flat_map}
 use Rattle.std.proofs.lemmas.List.{append-nil, length-map}
 use Rattle.std.proofs.lemmas.List.Elements.{All-nil}
 use Rattle.mari_market.specs.declared.certificate.TreeItem.TheVariants as items
-use Rattle.mari_units.specs.declared.limits.TheConstants.{MOST_NODES}
-use Rattle.mari_lines.specs.Ranges.{Between, InRange}
+use Rattle.mari_lines.specs.Ranges.{InRange}
 use Rattle.mari_lines.specs.declared.line.Line.{Line}
 use Rattle.mari_lines.specs.declared.line.Line.TheVariants as line
 use Rattle.mari_lines.proofs.Gathered.{cons_all, head_of, tail_of}
@@ -44,34 +43,14 @@ branches_fit [] = All-nil ItemFits
 branches_fit (i ∷ is) = cons_all ItemFits items.Branch (branches is) (tt, tt) (branches_fit is)
 
 block_fits : (b : NamedBlock) → NamedFits b → FullFits (first_block b)
-block_fits b f =
-    let many = f.tree.0 in
-    let len = length-map b.tree (λ item. items.Branch) in
-    record {
-      heading = f.heading;
-      welfare = f.welfare;
-      zones = f.zones;
-      borders = f.borders;
-      bids = f.bids;
-      demands = f.demands;
-      tree = (subst (λ (n : ℕ). Between 1 MOST_NODES n) (sym len) many, branches_fit b.tree);
-      operators = f.operators;
-      providers = f.providers;
-    }
+block_fits b f = grind (arith, length-map, branches_fit)
 
 blocks_fit : (bs : List NamedBlock) → All NamedFits bs → All BlockFits (map shown bs)
 blocks_fit [] a = All-nil BlockFits
 blocks_fit (b ∷ bs) a = cons_all BlockFits (shown b) (map shown bs) (block_fits b (head_of NamedFits b bs a)) (blocks_fit bs (tail_of NamedFits b bs a))
 
 pub first_has_text : (p : ReachPublication) → ReachHasText p → HasText (first_of p)
-first_has_text p h =
-    let runs = h.runs in
-    let len = length-map p.blocks shown in
-    record {
-      head = h.head;
-      blocks = blocks_fit p.blocks h.blocks;
-      totals = record { runs = omega (arith, runs, len); operators = h.totals.0; providers = h.totals.1 };
-    }
+first_has_text p h = grind (arith, length-map, shown, blocks_fit)
 
 -- each block states the first activation or one within a gap
 pub one_of_both : (c : Claim) → one_if_first c + one_if_within c ≡ 1
@@ -103,10 +82,7 @@ blocks_range (b ∷ bs) r a =
 blocks_give : (bs : List NamedBlock) (rest : List ReachLine) (ps : List ReachPart) (m n : ℕ) (c : Claim) → BlocksFit bs → All NamedFits bs → m + length bs ≤ 1000
     → after_lines reach_form ps (state (kept_at held.Between m 0) c [] n) (flat_map named_block_lines bs ++ rest)
     ≡ after_lines reach_form (ps ++ map parts.Block bs) (state (kept_at held.Between (m + length bs) 0) (last_claim c bs) [] (n + first_among bs)) rest
-blocks_give [] rest ps m n c r a few =
-    ap (λ (qs : List ReachPart). after_lines reach_form qs (state (kept_at held.Between m 0) c [] n) rest) (sym (append-nil ps))
-    ∙ ap (λ (x : ℕ). after_lines reach_form (ps ++ []) (state (kept_at held.Between x 0) c [] n) rest) (omega arith)
-    ∙ ap (λ (x : ℕ). after_lines reach_form (ps ++ []) (state (kept_at held.Between (m + 0) 0) c [] x) rest) (omega arith)
+blocks_give [] rest ps m n c r a few = grind (arith, state, append-nil)
 blocks_give (b ∷ bs) rest ps m n c r a few =
     let here = all_front InRange (full_lines (first_block b)) (flat_map block_lines (map shown bs)) r in
     let there = all_back InRange (full_lines (first_block b)) (flat_map block_lines (map shown bs)) r in

@@ -74,11 +74,7 @@ block_apart b rest =
 
 -- the items of a tree stand for branches
 a_branch : (i : NamedItem) → line_of (named_line i) ≡ line.Branch
-a_branch (named.Gate bid) = refl
-a_branch (named.Price zone price) = refl
-a_branch named.Void = refl
-a_branch (named.Bound potentials) = refl
-a_branch (named.Cut cut) = refl
+a_branch i = grind arith
 
 branch_lines : (tree : List NamedItem) → map line_of (map named_line tree) ≡ flat_map item_lines (branches tree)
 branch_lines [] = refl
@@ -114,11 +110,7 @@ item_range [] a = tt
 item_range (i ∷ is) a = (head_of (λ x. ReachInRange (named_line x)) i is a, item_range is (tail_of (λ x. ReachInRange (named_line x)) i is a))
 
 quiet_item : (i : NamedItem) → IsQuiet (named_line i)
-quiet_item (named.Gate bid) = refl
-quiet_item (named.Price zone price) = refl
-quiet_item named.Void = refl
-quiet_item (named.Bound potentials) = refl
-quiet_item (named.Cut cut) = refl
+quiet_item i = grind arith
 
 quiet_items : (tree : List NamedItem) → AllByRecursion IsQuiet (map named_line tree)
 quiet_items [] = tt
@@ -157,23 +149,10 @@ middle_range b r f =
     )
 
 middle_quiet : (b : NamedBlock) → AllByRecursion IsQuiet (middle b)
-middle_quiet b = (
-  refl,
-  all_join IsQuiet (map reach.Shared (market_lines b.block)) _ (own_quiet (market_lines b.block) (market_own b.block))
-      (all_join IsQuiet (named_tree_lines b.tree) (map reach.Shared (parties b.block)) (refl, quiet_items b.tree) (own_quiet (parties b.block) (parties_own b.block))),
-)
+middle_quiet b = grind (arith, all_join, own_quiet, market_own, quiet_items, parties_own)
 
 middle_items : (b : NamedBlock) → items_in (middle b) ≡ b.tree
-middle_items b =
-    let market = map reach.Shared (market_lines b.block) in
-    let tree = named_tree_lines b.tree in
-    let last = map reach.Shared (parties b.block) in
-    items_join market (tree ++ last)
-    ∙ ap (λ (is : List NamedItem). is ++ items_in (tree ++ last)) (own_items (market_lines b.block) (market_own b.block))
-    ∙ items_join tree last
-    ∙ ap (λ (is : List NamedItem). is ++ items_in last) (said_items b.tree)
-    ∙ ap (λ (is : List NamedItem). b.tree ++ is) (own_items (parties b.block) (parties_own b.block))
-    ∙ append-nil b.tree
+middle_items b = grind (arith, items_join, items_in, own_items, market_own, said_items, parties_own, append-nil)
 
 -- a block's lines are in range
 pub block_range : (b : NamedBlock) → RangeOf b → NamedFits b → AllByRecursion ReachInRange (named_block_lines b)
@@ -190,10 +169,7 @@ on_line ps s l rest y e = ap (option_and_then (λ (x : ReachKept × Option Reach
 
 -- the part of the first form is a block
 block_in : (o : Option Part) (b : Block) → (grown nothing_read o).blocks ≡ b ∷ [] → o ≡ Some (part.Block b)
-block_in None b e = absurd cc
-block_in (Some (part.Head date quarters budget)) b e = absurd cc
-block_in (Some (part.Totals os ps)) b e = absurd cc
-block_in (Some (part.Block c)) b e = let same : c ≡ b = cc in ap (λ x. Some (part.Block x)) same
+block_in o b e = grind arith
 
 block_is : (b : NamedBlock) (is : List NamedItem) → is ≡ b.tree → b.block.tree ≡ [] → parts.Block (record { block = without_tree (first_block b); claim = b.claim; tree = is }) ≡ parts.Block b
 block_is b is same none =
@@ -236,13 +212,7 @@ block_gives b rest ps m n claim r f room =
 
 -- the part of the first form is the totals
 totals_in : (o : Option Part) (os : List MoneyLine) (ps : List AmountLine) → 1 ≤ length os → grown nothing_read o ≡ grown nothing_read (Some (part.Totals os ps)) → o ≡ Some (part.Totals os ps)
-totals_in o [] ps some e = absurd (omega (arith, some))
-totals_in None (x ∷ os) ps some e = let no : [] ≡ x ∷ os = ap (λ (p : Publication). p.operators) e in absurd cc
-totals_in (Some (part.Head date quarters budget)) (x ∷ os) ps some e = let no : [] ≡ x ∷ os = ap (λ (p : Publication). p.operators) e in absurd cc
-totals_in (Some (part.Block b)) (x ∷ os) ps some e = let no : b ∷ [] ≡ [] = ap (λ (p : Publication). p.blocks) e in absurd cc
-totals_in (Some (part.Totals os2 ps2)) (x ∷ os) ps some e =
-    ap (λ (v : List MoneyLine). Some (part.Totals v ps2)) (ap (λ (p : Publication). p.operators) e)
-    ∙ ap (λ (v : List AmountLine). Some (part.Totals (x ∷ os) v)) (ap (λ (p : Publication). p.providers) e)
+totals_in o os ps some e = grind arith
 
 pub closing_apart : (os : List MoneyLine) (qs : List AmountLine) (first within : ℕ)
     → map reach.Shared (closing_lines_by os qs first within) ≡ map reach.Shared (map line.TotalOperator os ++ map line.TotalProvider qs) ++ reach.Shared (line.Done first within) ∷ []

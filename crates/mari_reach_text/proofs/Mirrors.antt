@@ -7,7 +7,6 @@ use Rattle.mari_market.specs.declared.certificate.TreeItem.{TreeItem}
 use Rattle.mari_market.specs.declared.certificate.TreeItem.TheVariants as items
 use Rattle.mari_lines.specs.Ranges.{InRange}
 use Rattle.mari_lines.specs.declared.line.Line.{Line}
-use Rattle.mari_lines.specs.declared.line.Line.TheVariants as line
 use Rattle.mari_publish.specs.Order.{HasRoom, after}
 use Rattle.mari_publish.specs.Pieces.{Gives}
 use Rattle.mari_publish.specs.Pieces.{with_part as with_first}
@@ -22,9 +21,7 @@ use Rattle.mari_publish.proofs.Progress.{counts_kept, number_fits, room_kept}
 use Rattle.mari_publish.proofs.Steps.{some_is}
 use Rattle.mari_publish.proofs.Whole.{all_push}
 use Rattle.mari_reach_lines.specs.Ranges.{IsClaim, ReachInRange}
-use Rattle.mari_reach_lines.specs.declared.line.Claim.TheVariants as claims
 use Rattle.mari_reach_lines.specs.declared.line.ReachLine.{ReachLine}
-use Rattle.mari_reach_lines.specs.declared.line.ReachLine.TheVariants as reach
 use Rattle.mari_stream.specs.Forms.{Follow, after_lines, with_part}
 use Rattle.mari_reach_text.specs.Order.{ClaimFits, after_reach, counts_right, given, kept_beside, line_of, noted, nothing_reached, reach_form, said, without_tree}
 use Rattle.mari_reach_text.specs.declared.kept.ReachKept.{ReachKept}
@@ -34,7 +31,6 @@ use Rattle.mari_reach_text.specs.declared.kept.Said.{Said}
 use Rattle.mari_reach_text.specs.declared.kept.Said.TheVariants as says
 use Rattle.mari_reach_text.specs.declared.named.NamedBlock.{NamedBlock}
 use Rattle.mari_reach_text.specs.declared.named.NamedItem.{NamedItem}
-use Rattle.mari_reach_text.specs.declared.named.NamedItem.TheVariants as named
 use Rattle.mari_reach_text.proofs.Stepped.{Counted, branch_in, is_plain, is_quiet, stepped, tree_of}
 
 -- a branch stands in place of each item
@@ -74,28 +70,10 @@ pub record Mirrors (lines : List ReachLine) (ps : List ReachPart) (s : ReachKept
 
 -- what stands for a line in range
 pub plain : (l : ReachLine) → ReachInRange l → is_plain (line_of l) ≡ true
-plain (reach.Head date quarters budget) r = refl
-plain (reach.Run heading claim) r = refl
-plain (reach.Branch bid) r = refl
-plain (reach.Price zone price) r = refl
-plain reach.Void r = refl
-plain (reach.Shared (line.Unpublished heading count)) r = absurd cc
-plain (reach.Shared (line.Conflict zones)) r = absurd cc
-plain (reach.Shared (line.At prices)) r = absurd cc
-plain (reach.Shared (line.Flows flows)) r = absurd cc
-plain (reach.Shared (line.Mws mws)) r = absurd cc
-plain (reach.Shared _) r = refl
+plain l r = grind arith
 
 range_of : (k : Kept) (l : ReachLine) → ReachInRange l → Counted k (line_of l) → k.counts.published + k.counts.unpublished ≤ 1000 → InRange (line_of l)
-range_of k (reach.Head date quarters budget) r c few = r
-range_of k (reach.Run heading claim) r c few = r.0
-range_of k (reach.Branch bid) r c few = tt
-range_of k (reach.Price zone price) r c few = tt
-range_of k reach.Void r c few = tt
-range_of k (reach.Shared (line.Bound potentials)) r c few = tt
-range_of k (reach.Shared (line.Cut cut)) r c few = tt
-range_of k (reach.Shared (line.Done first within)) r c few = (omega (arith, c, few), omega arith)
-range_of k (reach.Shared _) r c few = r.0
+range_of k l r c few = grind arith
 
 -- what is noted of a line
 pub noted_kept : (s : ReachKept) (x : Said) → (noted s x).kept ≡ s.kept
@@ -105,42 +83,20 @@ noted_kept s (says.First count) = refl
 noted_kept s says.Nothing = refl
 
 noted_first : (s : ReachKept) (x : Said) → (noted s x).first ≤ s.first + 1
-noted_first s (says.Claim claims.First) = omega arith
-noted_first s (says.Claim (claims.Within gap)) = omega arith
-noted_first s (says.Item item) = omega arith
-noted_first s (says.First count) = omega arith
-noted_first s says.Nothing = omega arith
+noted_first s x = grind arith
 
 noted_claim : (s : ReachKept) (l : ReachLine) → IsClaim s.claim → ReachInRange l → IsClaim (noted s (said l)).claim
-noted_claim s (reach.Head date quarters budget) c r = c
-noted_claim s (reach.Run heading claim) c r = r.1
-noted_claim s (reach.Branch bid) c r = c
-noted_claim s (reach.Price zone price) c r = c
-noted_claim s reach.Void c r = c
-noted_claim s (reach.Shared (line.Bound potentials)) c r = c
-noted_claim s (reach.Shared (line.Cut cut)) c r = c
-noted_claim s (reach.Shared (line.Done first within)) c r = c
-noted_claim s (reach.Shared _) c r = c
+noted_claim s l c r = grind arith
 
 more_branches : (s : ReachKept) (i : NamedItem) → branches (s.tree ++ i ∷ []) ≡ branches s.tree ++ items.Branch ∷ []
 more_branches s i = map_push (λ (item : NamedItem). items.Branch) s.tree i
 
 pub noted_tree : (s : ReachKept) (l : ReachLine) → ReachInRange l → branches (noted s (said l)).tree ≡ branches s.tree ++ branch_in (line_of l)
-noted_tree s (reach.Head date quarters budget) r = sym (append-nil (branches s.tree))
-noted_tree s (reach.Run heading claim) r = sym (append-nil (branches s.tree))
-noted_tree s (reach.Branch bid) r = more_branches s (named.Gate bid)
-noted_tree s (reach.Price zone price) r = more_branches s (named.Price zone price)
-noted_tree s reach.Void r = more_branches s named.Void
-noted_tree s (reach.Shared (line.Bound potentials)) r = more_branches s (named.Bound (record { cents = potentials }))
-noted_tree s (reach.Shared (line.Cut cut)) r = more_branches s (named.Cut cut)
-noted_tree s (reach.Shared line.Branch) r = absurd cc
-noted_tree s (reach.Shared (line.Done first within)) r = sym (append-nil (branches s.tree))
-noted_tree s (reach.Shared _) r = sym (append-nil (branches s.tree))
+noted_tree s l r = grind (arith, append-nil, more_branches)
 
 -- with a part an item's line isn't whole
 no_item : (l : Line) → is_quiet l ≡ false → branch_in l ≡ []
-no_item line.Branch e = absurd cc
-no_item _ e = refl
+no_item l e = grind arith
 
 pub quiet_tree : (s : ReachKept) (l : ReachLine) → ReachInRange l → is_quiet (line_of l) ≡ false → branches (noted s (said l)).tree ≡ branches s.tree
 quiet_tree s l r e = noted_tree s l r ∙ ap (λ (ts : List TreeItem). branches s.tree ++ ts) (no_item (line_of l) e) ∙ append-nil (branches s.tree)
@@ -222,8 +178,7 @@ by_part done ps s l k (Some (part.Block (block.Unpublished heading count))) y m 
 
 -- a choice that gives something
 pub if_so : {A : Type 0} (b : Bool) (o : Option A) (y : A) → cond b o None ≡ Some y → (b ≡ true) × (o ≡ Some y)
-if_so true o y e = (refl, e)
-if_so false o y e = absurd cc
+if_so b o y e = grind arith
 
 pub next : (done : List ReachLine) (ps : List ReachPart) (s : ReachKept) (l : ReachLine) (y : ReachKept × Option ReachPart) → Mirrors done ps s → ReachInRange l → after_reach s l ≡ Some y
     → Mirrors (done ++ l ∷ []) (with_part ps y.1) y.0

@@ -1,5 +1,5 @@
 -- The parts of lines that may follow one another are the first of some publication.
-use Rattle.std.proofs.Common.{◌≡◌, ◌∙◌, true, List, [], ◌∷◌, ◌++◌, map, refl, sym, ap}
+use Rattle.std.proofs.Common.{◌≡◌, ◌∙◌, true, List, [], ◌∷◌, ◌++◌, map, refl, sym, ap, arith}
 use Rattle.std.proofs.lemmas.List.{append-nil}
 use Rattle.mari_lines.specs.declared.line.AmountLine.{AmountLine}
 use Rattle.mari_lines.specs.declared.line.MoneyLine.{MoneyLine}
@@ -35,8 +35,6 @@ pub record Split (given : List ReachPart) (bs : List Block) (tail : List Part) :
   pub shown_are : bs ≡ map shown blocks
 
 one_more : (g : ReachPart) (gs : List ReachPart) (b : Block) (bs : List Block) (tail : List Part) → first_part g ≡ part.Block b → Split gs bs tail → Split (g ∷ gs) (b ∷ bs) tail
-one_more (parts.Head date quarters budget) gs b bs tail e s = absurd cc
-one_more (parts.Totals os ps) gs b bs tail e s = absurd cc
 one_more (parts.Block n) gs b bs tail e s =
     let same : b ≡ shown n = cc in
     record {
@@ -46,6 +44,7 @@ one_more (parts.Block n) gs b bs tail e s =
       stand = s.stand;
       shown_are = ap (λ x. x ∷ bs) same ∙ ap (λ (xs : List Block). shown n ∷ xs) s.shown_are;
     }
+one_more g gs b bs tail e s = cc
 
 split : (given : List ReachPart) (bs : List Block) (tail : List Part) → map first_part given ≡ map part.Block bs ++ tail → Split given bs tail
 split given [] tail e = record { blocks = []; others = given; are = refl; stand = e; shown_are = refl }
@@ -60,21 +59,14 @@ no_parts [] e = refl
 no_parts (g ∷ gs) e = absurd cc
 
 a_totals : (g : ReachPart) (os : List MoneyLine) (ps : List AmountLine) → first_part g ≡ part.Totals os ps → g ≡ parts.Totals os ps
-a_totals (parts.Head date quarters budget) os ps e = absurd cc
-a_totals (parts.Block n) os ps e = absurd cc
-a_totals (parts.Totals qs rs) os ps e = cc
+a_totals g os ps e = grind arith
 
 totals_alone : (given : List ReachPart) (os : List MoneyLine) (ps : List AmountLine) → map first_part given ≡ part.Totals os ps ∷ [] → given ≡ parts.Totals os ps ∷ []
 totals_alone [] os ps e = absurd cc
-totals_alone (g ∷ gs) os ps e =
-    let first : first_part g ≡ part.Totals os ps = cc in
-    let rest : map first_part gs ≡ [] = cc in
-    ap (λ x. x ∷ gs) (a_totals g os ps first) ∙ ap (λ (xs : List ReachPart). parts.Totals os ps ∷ xs) (no_parts gs rest)
+totals_alone (g ∷ gs) os ps e = grind (arith, first_part, a_totals, no_parts)
 
 a_head : (g : ReachPart) (p : Publication) → first_part g ≡ part.Head p.date p.quarters p.budget → g ≡ parts.Head p.date p.quarters p.budget
-a_head (parts.Head date quarters budget) p e = cc
-a_head (parts.Block n) p e = absurd cc
-a_head (parts.Totals os ps) p e = absurd cc
+a_head g p e = grind arith
 
 -- parts of a head, blocks and others
 pub record Front (given : List ReachPart) (p : Publication) (tail : List Part) : Type 0 where
@@ -85,20 +77,11 @@ pub record Front (given : List ReachPart) (p : Publication) (tail : List Part) :
   pub shown_are : p.blocks ≡ map shown blocks
 
 with_head : (g : ReachPart) (gs : List ReachPart) (p : Publication) (tail : List Part) → g ≡ parts.Head p.date p.quarters p.budget → Split gs p.blocks tail → Front (g ∷ gs) p tail
-with_head g gs p tail e s = record {
-  blocks = s.blocks;
-  others = s.others;
-  are = ap (λ x. x ∷ gs) e ∙ ap (λ (xs : List ReachPart). parts.Head p.date p.quarters p.budget ∷ xs) s.are;
-  stand = s.stand;
-  shown_are = s.shown_are;
-}
+with_head g gs p tail e s = grind arith
 
 pub front : (given : List ReachPart) (p : Publication) (tail : List Part) → map first_part given ≡ front_parts p ++ tail → Front given p tail
 front [] p tail e = absurd cc
-front (g ∷ gs) p tail e =
-    let first : first_part g ≡ part.Head p.date p.quarters p.budget = cc in
-    let rest : map first_part gs ≡ map part.Block p.blocks ++ tail = cc in
-    with_head g gs p tail (a_head g p first) (split gs p.blocks tail rest)
+front (g ∷ gs) p tail e = grind (arith, first_part, with_head, a_head, split)
 
 -- all parts of a publication
 pub record All (given : List ReachPart) (p : Publication) : Type 0 where
@@ -134,5 +117,4 @@ first_parts given p held.Done e = let a = all given p e in (made p a.blocks, [],
 first_parts given p _ e = in_front given p e
 
 pub done_parts : (given : List ReachPart) (p : Publication) (h : Held) → map first_part given ≡ parts_so_far p h → is_done h ≡ true → All given p
-done_parts given p held.Done e d = all given p e
-done_parts given p _ e d = absurd cc
+done_parts given p h e d = grind (arith, all)

@@ -1,22 +1,18 @@
 -- Lines with which no part is whole, and the next one after them.
-use Rattle.std.proofs.Common.{◌≡◌, ◌∙◌, Bool, true, false, cond, List, [], ◌∷◌, ◌++◌, Option, Some, None, map, option_and_then, refl, sym, ap, append_assoc}
+use Rattle.std.proofs.Common.{◌≡◌, ◌∙◌, Bool, true, false, cond, List, [], ◌∷◌, ◌++◌, Option, Some, None, map, option_and_then, refl, sym, ap, append_assoc, arith}
 use Rattle.std.specs.List.{AllByRecursion}
 use Rattle.std.proofs.lemmas.List.{append-nil}
 use Rattle.std.proofs.lemmas.Option.{option_and_then_some}
 use Rattle.mari_lines.specs.declared.line.Line.{Line}
-use Rattle.mari_lines.specs.declared.line.Line.TheVariants as line
 use Rattle.mari_publish.specs.Order.{after, after_all, grown}
 use Rattle.mari_publish.specs.declared.held.Held.{Held}
 use Rattle.mari_publish.specs.declared.held.Kept.{Kept}
-use Rattle.mari_publish.specs.declared.publication.Block.TheVariants as block
 use Rattle.mari_publish.specs.declared.publication.Part.{Part}
-use Rattle.mari_publish.specs.declared.publication.Part.TheVariants as part
 use Rattle.mari_publish.specs.declared.publication.Publication.{Publication}
 use Rattle.mari_publish.proofs.Follows.{in_parts}
 use Rattle.mari_publish.proofs.Steps.{some_is}
 use Rattle.mari_reach_lines.specs.Ranges.{ReachInRange}
 use Rattle.mari_reach_lines.specs.declared.line.ReachLine.{ReachLine}
-use Rattle.mari_reach_lines.specs.declared.line.ReachLine.TheVariants as reach
 use Rattle.mari_stream.specs.Forms.{after_lines, with_part}
 use Rattle.mari_reach_text.specs.Order.{after_reach, counts_right, given, kept_beside, line_of, noted, reach_form, said}
 use Rattle.mari_reach_text.specs.declared.kept.ReachKept.{ReachKept}
@@ -25,7 +21,7 @@ use Rattle.mari_reach_text.specs.declared.kept.Said.{Said}
 use Rattle.mari_reach_text.specs.declared.kept.Said.TheVariants as says
 use Rattle.mari_reach_text.specs.declared.named.NamedItem.{NamedItem}
 use Rattle.mari_reach_text.proofs.Mirrors.{plain}
-use Rattle.mari_reach_text.proofs.Stepped.{Ended, is_quiet, not_both, stepped}
+use Rattle.mari_reach_text.proofs.Stepped.{Ended, is_quiet, stepped}
 
 abbrev pub IsQuiet : ReachLine → Type 0
 IsQuiet l = is_quiet (line_of l) ≡ true
@@ -54,34 +50,16 @@ is_still (says.First count) = false
 is_still _ = true
 
 still : (l : ReachLine) → IsQuiet l → is_still (said l) ≡ true
-still (reach.Head date quarters budget) q = refl
-still (reach.Run heading claim) q = absurd cc
-still (reach.Branch bid) q = refl
-still (reach.Price zone price) q = refl
-still reach.Void q = refl
-still (reach.Shared (line.Done first within)) q = absurd cc
-still (reach.Shared (line.Bound potentials)) q = refl
-still (reach.Shared (line.Cut cut)) q = refl
-still (reach.Shared _) q = refl
+still l q = grind arith
 
 still_counts : (n : _) (x : Said) → is_still x ≡ true → counts_right n x ≡ true
-still_counts n (says.Claim claim) q = refl
-still_counts n (says.Item item) q = refl
-still_counts n (says.First count) q = absurd cc
-still_counts n says.Nothing q = refl
+still_counts n x q = grind arith
 
 still_noted : (s : ReachKept) (k : Kept) (x : Said) → is_still x ≡ true → noted (kept_beside s k) x ≡ more_kept s k (item_in x)
-still_noted s k (says.Claim claim) q = absurd cc
-still_noted s k (says.Item item) q = refl
-still_noted s k (says.First count) q = absurd cc
-still_noted s k says.Nothing q = ap (λ (is : List NamedItem). record { kept = k; claim = s.claim; tree = is; first = s.first }) (sym (append-nil s.tree))
+still_noted s k x q = grind (arith, append-nil)
 
 pub no_part : (h new : Held) (l : Line) (o : Option Part) → Ended h l new o → is_quiet l ≡ true → o ≡ None
-no_part h new l None e q = refl
-no_part h new l (Some (part.Head date quarters budget)) e q = absurd (not_both (sym q ∙ e.2))
-no_part h new l (Some (part.Block (block.Published b))) e q = absurd (not_both (sym q ∙ e.2))
-no_part h new l (Some (part.Block (block.Unpublished heading count))) e q = absurd e
-no_part h new l (Some (part.Totals os ps)) e q = absurd (not_both (sym q ∙ e.2))
+no_part h new l o e q = grind arith
 
 -- a line that may follow, by what comes of the line for which it stands
 pub follows_by : (s : ReachKept) (l : ReachLine) (z : Kept × Option Part) → counts_right s.first (said l) ≡ true → after s.kept s.kept.held (line_of l) ≡ Some z
@@ -104,13 +82,7 @@ quiet_step s l z r q a =
 -- quiet lines that may follow, by what comes of the lines for which they stand
 pub quiet_lines : (ls rest : List ReachLine) (ps : List ReachPart) (s : ReachKept) (p q : Publication) (k : Kept) → AllByRecursion ReachInRange ls → AllByRecursion IsQuiet ls
     → after_all p s.kept (map line_of ls) ≡ Some (q, k) → (q ≡ p) × (after_lines reach_form ps s (ls ++ rest) ≡ after_lines reach_form ps (more_kept s k (items_in ls)) rest)
-quiet_lines [] rest ps s p q k r a e =
-    let pair = some_is (p, s.kept) (q, k) e in
-    let kept : s.kept ≡ k = ap (λ (x : Publication × Kept). x.1) pair in (
-      sym (ap (λ (x : Publication × Kept). x.0) pair),
-      ap (λ (x : Kept). after_lines reach_form ps (record { kept = x; claim = s.claim; tree = s.tree; first = s.first }) rest) kept
-          ∙ ap (λ (is : List NamedItem). after_lines reach_form ps (record { kept = k; claim = s.claim; tree = is; first = s.first }) rest) (sym (append-nil s.tree)),
-    )
+quiet_lines [] rest ps s p q k r a e = grind (arith, some_is, append-nil)
 quiet_lines (l ∷ ls) rest ps s p q k r a e =
     option_and_then_some (λ (y : Kept × Option Part). after_all (grown p y.1) y.0 (map line_of ls)) (after s.kept s.kept.held (line_of l)) (q, k) e (λ z b g.
     let t = quiet_step s l z r.0 a.0 b in

@@ -1,10 +1,8 @@
 -- Lines that may follow one another, with the last one, are those of the publication whose parts they give; and it has a text.
-use Rattle.std.proofs.Common.{◌≡◌, ◌∙◌, ◌+◌, ◌-◌, ℕ, true, false, List, [], ◌∷◌, ◌++◌, map, refl, sym, ap, subst, arith}
+use Rattle.std.proofs.Common.{◌≡◌, ◌∙◌, ◌+◌, ◌-◌, ℕ, true, List, [], ◌∷◌, ◌++◌, map, refl, sym, ap, subst, arith}
 use Rattle.std.specs.List.{All, AllByRecursion, flat_map}
 use Rattle.std.proofs.lemmas.List.{length-map}
 use Rattle.std.proofs.lemmas.List.Elements.{All-nil}
-use Rattle.mari_units.specs.declared.limits.TheConstants.{MOST_NODES}
-use Rattle.mari_lines.specs.Ranges.{Between, InRange}
 use Rattle.mari_lines.specs.declared.line.AmountLine.{AmountLine}
 use Rattle.mari_lines.specs.declared.line.Line.{Line}
 use Rattle.mari_lines.specs.declared.line.Line.TheVariants as line
@@ -19,7 +17,6 @@ use Rattle.mari_publish.specs.declared.publication.Block.{Block}
 use Rattle.mari_publish.specs.declared.publication.Publication.{Publication}
 use Rattle.mari_publish.proofs.Fits.{has_text}
 use Rattle.mari_publish.proofs.PartsGiven.{stands_of}
-use Rattle.mari_publish.proofs.Steps.{HeldFits}
 use Rattle.mari_publish.proofs.Whole.{all_front}
 use Rattle.mari_reach_lines.specs.Ranges.{IsClaim, ReachInRange}
 use Rattle.mari_reach_lines.specs.declared.line.ReachLine.{ReachLine}
@@ -61,9 +58,7 @@ restores (reach.Price zone price ∷ ls) r = ap (λ (xs : List ReachLine). reach
 restores (reach.Void ∷ ls) r = ap (λ (xs : List ReachLine). reach.Void ∷ xs) (restores ls r.1)
 restores (reach.Shared (line.Bound potentials) ∷ ls) r = ap (λ (xs : List ReachLine). reach.Shared (line.Bound potentials) ∷ xs) (restores ls r.1)
 restores (reach.Shared (line.Cut cut) ∷ ls) r = ap (λ (xs : List ReachLine). reach.Shared (line.Cut cut) ∷ xs) (restores ls r.1)
-restores (reach.Shared (line.Done first within) ∷ ls) r =
-    ap (λ (n : ℕ). reach.Shared (line.Done first n) ∷ restored (map line_of ls) (saids ls)) (the_others first within)
-    ∙ ap (λ (xs : List ReachLine). reach.Shared (line.Done first within) ∷ xs) (restores ls r.1)
+restores (reach.Shared (line.Done first within) ∷ ls) r = grind (arith, saids, the_others, restores ls r.1)
 restores (reach.Shared (line.Head date quarters budget) ∷ ls) r = absurd (not_both (sym r.0.1))
 restores (reach.Shared (line.Run heading) ∷ ls) r = absurd (not_both (sym r.0.1))
 restores (reach.Shared line.Branch ∷ ls) r = absurd (not_both (sym r.0.1))
@@ -73,35 +68,19 @@ restores (reach.Shared l ∷ ls) r = ap (λ (xs : List ReachLine). reach.Shared 
 same_blocks : (xs ys : List NamedBlock) (os qs : List MoneyLine) (ps rs : List AmountLine) → map parts.Block xs ++ parts.Totals os ps ∷ [] ≡ map parts.Block ys ++ parts.Totals qs rs ∷ []
     → (xs ≡ ys) × (os ≡ qs) × (ps ≡ rs)
 same_blocks [] [] os qs ps rs e = (refl, cc, cc)
-same_blocks [] (y ∷ ys) os qs ps rs e = absurd cc
-same_blocks (x ∷ xs) [] os qs ps rs e = absurd cc
 same_blocks (x ∷ xs) (y ∷ ys) os qs ps rs e =
     let one : x ≡ y = cc in
     let rest : map parts.Block xs ++ parts.Totals os ps ∷ [] ≡ map parts.Block ys ++ parts.Totals qs rs ∷ [] = cc in
     let more = same_blocks xs ys os qs ps rs rest in
     (ap (λ z. z ∷ xs) one ∙ ap (λ (zs : List NamedBlock). y ∷ zs) more.0, more.1, more.2)
-
-abbrev put : List ℕ → (quarters budget : ℕ) → List NamedBlock → List MoneyLine → List AmountLine → ReachPublication
-put date quarters budget blocks operators providers = record { date = date; quarters = quarters; budget = budget; blocks = blocks; operators = operators; providers = providers }
+same_blocks xs ys os qs ps rs e = cc
 
 same_publication : (p q : ReachPublication) → reach_parts_of p ≡ reach_parts_of q → p ≡ q
-same_publication p q e =
-    let date : p.date ≡ q.date = cc in
-    let quarters : p.quarters ≡ q.quarters = cc in
-    let budget : p.budget ≡ q.budget = cc in
-    let rest : map parts.Block p.blocks ++ parts.Totals p.operators p.providers ∷ [] ≡ map parts.Block q.blocks ++ parts.Totals q.operators q.providers ∷ [] = cc in
-    let more = same_blocks p.blocks q.blocks p.operators q.operators p.providers q.providers rest in
-    ap (λ x. put x p.quarters p.budget p.blocks p.operators p.providers) date
-    ∙ ap (λ x. put q.date x p.budget p.blocks p.operators p.providers) quarters
-    ∙ ap (λ x. put q.date q.quarters x p.blocks p.operators p.providers) budget
-    ∙ ap (λ (x : List NamedBlock). put q.date q.quarters q.budget x p.operators p.providers) more.0
-    ∙ ap (λ (x : List MoneyLine). put q.date q.quarters q.budget q.blocks x p.providers) more.1
-    ∙ ap (λ (x : List AmountLine). put q.date q.quarters q.budget q.blocks q.operators x) more.2
+same_publication p q e = grind (arith, same_blocks)
 
 -- with the last line the lines stand for those of the publication of the first form
 is_the_last : (h : Held) → is_done h ≡ true → h ≡ held.Done
-is_the_last held.Done e = refl
-is_the_last _ e = absurd cc
+is_the_last h e = grind arith
 
 pub record Whole (lines : List ReachLine) (p : ReachPublication) (s : ReachKept) : Type 0 where
   pub mirrors : Mirrors lines (reach_parts_of p) s
@@ -125,14 +104,7 @@ stand_for : (lines : List ReachLine) (p : ReachPublication) (s : ReachKept) → 
 stand_for lines p s w = w.mirrors.gives.are ∙ ap (λ (h : Held). lines_so_far w.mirrors.gives.so_far h) w.done ∙ ap lines_of w.stands
 
 say : (lines : List ReachLine) (p : ReachPublication) (s : ReachKept) → Whole lines p s → saids lines ≡ flat_map part_saids (reach_parts_of p) ++ says.First (first_in (reach_parts_of p)) ∷ []
-say lines p s w =
-    let out : in_block s.kept.held ≡ false = ap in_block w.done in
-    let last : is_done s.kept.held ≡ true = ap is_done w.done in
-    let F = flat_map part_saids (reach_parts_of p) in
-    let counted = w.tells.counted in
-    let none = begun_outside s out in
-    let first : s.first ≡ first_in (reach_parts_of p) = omega (arith, counted, none) in
-    w.tells.tells ∙ ap (λ (xs : List Said). F ++ xs) (at_end s out last) ∙ ap (λ (n : ℕ). F ++ says.First n ∷ []) first
+say lines p s w = grind (arith, in_block, part_saids, begun_outside, first_in, at_end)
 
 pub same_lines : (xs ys : List ReachLine) (p : ReachPublication) (s t : ReachKept) → Whole xs p s → Whole ys p t → AllByRecursion ReachInRange xs → AllByRecursion ReachInRange ys → xs ≡ ys
 same_lines xs ys p s t v w a b =
@@ -141,31 +113,14 @@ same_lines xs ys p s t v w a b =
 
 -- the publication has a text
 first_fits : (lines : List ReachLine) (p : ReachPublication) (s : ReachKept) → Whole lines p s → HasText (first_of p)
-first_fits lines p s w =
-    let g = w.mirrors.gives in
-    let st = stands_of (map line_of lines) g.so_far s.kept g.follow in
-    let fits : HeldFits g.so_far held.Done = subst (HeldFits g.so_far) w.done st.fits in
-    let range : AllByRecursion InRange (lines_of g.so_far) = subst (λ (ls : List Line). AllByRecursion InRange ls) (g.are ∙ ap (λ (h : Held). lines_so_far g.so_far h) w.done) w.mirrors.in_range in
-    subst HasText w.stands (has_text g.so_far range st.blocks st.runs fits.0 fits.1)
+first_fits lines p s w = grind (arith, stands_of, has_text)
 
 each_item : (tree : List NamedItem) → AllByRecursion ItemFits tree → All ItemFits tree
 each_item [] a = All-nil ItemFits
 each_item (i ∷ is) a = cons_all ItemFits i is a.0 (each_item is a.1)
 
 pub block_fits : (b : NamedBlock) → FullFits (first_block b) → IsClaim b.claim → (b.block.tree ≡ []) × AllByRecursion ItemFits b.tree → NamedFits b
-block_fits b f c t = record {
-  heading = f.heading;
-  claim = c;
-  welfare = f.welfare;
-  zones = f.zones;
-  borders = f.borders;
-  bids = f.bids;
-  demands = f.demands;
-  no_tree = t.0;
-  tree = (subst (λ (n : ℕ). Between 1 MOST_NODES n) (length-map b.tree (λ item. _)) f.tree.0, each_item b.tree t.1);
-  operators = f.operators;
-  providers = f.providers;
-}
+block_fits b f c t = grind (arith, length-map, each_item)
 
 blocks_fit : (bs : List NamedBlock) → All BlockFits (map shown bs) → AllByRecursion ClaimFits (map parts.Block bs) → AllByRecursion PartFits (map parts.Block bs) → All NamedFits bs
 blocks_fit [] a c t = All-nil NamedFits

@@ -1,5 +1,5 @@
 -- What a line of the first form does to the tree that has come.
-use Rattle.std.proofs.Common.{◌≡◌, Bool, true, false, cond, ◌&&◌, List, [], ◌∷◌, ◌++◌, Option, Some, None, refl, sym, subst, eqb}
+use Rattle.std.proofs.Common.{◌≡◌, Bool, true, false, cond, ◌&&◌, List, [], ◌∷◌, ◌++◌, Option, Some, None, refl, sym, subst, eqb, arith}
 use Rattle.std.proofs.lemmas.Bool.{and_parts, eqb-true}
 use Rattle.std.proofs.lemmas.List.{append-nil}
 use Rattle.std.proofs.lemmas.Option.{cond_some}
@@ -15,7 +15,7 @@ use Rattle.mari_publish.specs.declared.held.Held.TheVariants as held
 use Rattle.mari_publish.specs.declared.held.Kept.{Kept}
 use Rattle.mari_publish.specs.declared.held.Listing.{Listing}
 use Rattle.mari_publish.specs.declared.held.Pending.{Pending}
-use Rattle.mari_publish.specs.declared.held.Pending.TheVariants.{Nothing, Zones, At, Flows}
+use Rattle.mari_publish.specs.declared.held.Pending.TheVariants.{Nothing}
 use Rattle.mari_publish.specs.declared.publication.Block.TheVariants as block
 use Rattle.mari_publish.specs.declared.publication.Part.{Part}
 use Rattle.mari_publish.specs.declared.publication.Part.TheVariants as part
@@ -23,7 +23,7 @@ use Rattle.mari_reach_text.specs.Order.{is_done}
 use Rattle.mari_publish.proofs.Steps.{some_is}
 
 pub not_both : true ≡ false → ⊥
-not_both e = absurd cc
+not_both e = grind arith
 
 -- the items of a tree so far, and whether a block is open
 abbrev pub tree_of : Held → List TreeItem
@@ -125,10 +125,7 @@ listing_step k b _ new e = absurd cc
 growing_step : (k : Kept) (g : Growing) (pending : Pending) (l : Line) (new : Held) → is_plain l ≡ true → after_growing g pending l ≡ Some new → HeldStep k (held.Growing g) l new
 growing_step k g Nothing line.Branch new plain e = if_held k (held.Growing g) line.Branch _ _ new e (tt, (refl, (refl, refl)), refl, refl)
 growing_step k g Nothing (line.Operator o) new plain e = if_held k (held.Growing g) (line.Operator o) _ _ new e (tt, (sym (append-nil g.tree), refl), refl, refl)
-growing_step k g (Zones zones) (line.At prices) new plain e = absurd cc
-growing_step k g (At zones prices) (line.Flows flows) new plain e = absurd cc
-growing_step k g (Flows zones prices flows) (line.Mws mws) new plain e = absurd cc
-growing_step k g _ _ new plain e = absurd cc
+growing_step k g pending l new plain e = grind arith
 
 ending_step : (k : Kept) (n : Ending) (l : Line) (new : Held) → after_ending n l ≡ Some new → HeldStep k (held.Ending n) l new
 ending_step k n (line.Operator o) new e = if_held k (held.Ending n) (line.Operator o) _ _ new e (tt, (sym (append-nil n.tree), refl), refl, refl)
@@ -141,9 +138,7 @@ totals_step k os ps (line.TotalProvider a) new e = if_held k (held.Totals os ps)
 totals_step k os ps _ new e = absurd cc
 
 between_step : (k : Kept) (l : Line) (y : Kept × Option Part) → is_plain l ≡ true → starts_block k l ≡ Some y → Stepped k held.Between l y
-between_step k (line.Run h) y plain e = if_step k held.Between (line.Run h) _ _ y e (tt, (refl, (refl, refl)), refl, refl)
-between_step k (line.TotalOperator o) y plain e = subst (Stepped k held.Between (line.TotalOperator o)) (some_is (kept_with k (held.Totals (o ∷ []) []), None) y e) (tt, (refl, refl), refl, refl)
-between_step k _ y plain e = absurd cc
+between_step k l y plain e = grind arith
 
 -- each line for which one of the second form stands
 pub stepped : (k : Kept) (h : Held) (l : Line) (y : Kept × Option Part) → is_plain l ≡ true → after k h l ≡ Some y → Stepped k h l y

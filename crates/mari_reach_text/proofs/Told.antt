@@ -1,7 +1,6 @@
 -- What lines say besides the lines for which they stand: the parts say it too.
 use Rattle.std.proofs.Common.{◌≡◌, ◌∙◌, ◌+◌, ℕ, Bool, true, false, cond, List, [], ◌∷◌, ◌++◌, Option, Some, None, map, refl, sym, ap, subst, append_assoc, arith}
 use Rattle.std.specs.List.{AllByRecursion, flat_map}
-use Rattle.std.proofs.lemmas.Bool.{eqb-true}
 use Rattle.std.proofs.lemmas.Grind.{flat_map-append}
 use Rattle.std.proofs.lemmas.List.{append-nil, map_push}
 use Rattle.std.proofs.lemmas.Option.{option_and_then_some}
@@ -9,7 +8,6 @@ use Rattle.mari_lines.specs.declared.line.Line.{Line}
 use Rattle.mari_lines.specs.declared.line.Line.TheVariants as line
 use Rattle.mari_publish.specs.Order.{after}
 use Rattle.mari_publish.specs.declared.held.Held.{Held}
-use Rattle.mari_publish.specs.declared.held.Held.TheVariants as held
 use Rattle.mari_publish.specs.declared.held.Kept.{Kept}
 use Rattle.mari_publish.specs.declared.publication.Block.TheVariants as block
 use Rattle.mari_publish.specs.declared.publication.Part.{Part}
@@ -131,23 +129,13 @@ begun_outside s e = ap (λ (b : Bool). cond b (one_if_first s.claim) 0) e
 finish : (done : List ReachLine) (ps : List ReachPart) (s new : ReachKept) (l : ReachLine) (q : Option ReachPart) → Tells done ps s
     → coming s ++ listed (said l) ≡ saids_of q ++ coming new → new.first + begun s ≡ (s.first + one_of q) + begun new
     → ((x : ReachPart) → q ≡ Some x → PartFits x) → AllByRecursion ItemFits new.tree → Tells (done ++ l ∷ []) (with_part ps q) new
-finish done ps s new l q t told first fits items =
-    let F = flat_map part_saids ps in
-    let push = first_push ps q in
-    let before = t.counted in
-    record {
-      tells = saids_push done l ∙ ap (λ (xs : List Said). xs ++ listed (said l)) t.tells ∙ append_assoc F (coming s) (listed (said l))
-          ∙ ap (λ (xs : List Said). F ++ xs) told ∙ sym (append_assoc F (saids_of q) (coming new)) ∙ ap (λ (xs : List Said). xs ++ coming new) (sym (push_saids ps q));
-      counted = omega (arith, push, before, first);
-      fit = push_fits ps q t.fit fits;
-      items = items;
-    }
+finish done ps s new l q t told first fits items = grind (arith, first_push, saids_push, append_assoc, push_saids, push_fits)
 
 abbrev Next : List ReachLine → List ReachPart → ReachLine → ReachKept × Option ReachPart → Type 0
 Next done ps l y = Tells (done ++ l ∷ []) (with_part ps y.1) y.0
 
 no_more : (x : ReachPart) → None ≡ Some x → PartFits x
-no_more x e = absurd cc
+no_more x e = grind arith
 
 -- a line that says nothing besides
 says_nothing : (done : List ReachLine) (ps : List ReachPart) (s : ReachKept) (l : ReachLine) (k : Kept) → Tells done ps s → said l ≡ says.Nothing
@@ -177,9 +165,7 @@ says_item done ps s l k i t is fits was now =
 
 -- a run's line
 no_tree : (h : Held) → in_block h ≡ false → tree_of h ≡ []
-no_tree (held.Growing g) e = absurd cc
-no_tree (held.Ending n) e = absurd cc
-no_tree _ e = refl
+no_tree h e = grind arith
 
 no_items : (tree : List NamedItem) → [] ≡ branches tree → tree ≡ []
 no_items [] e = refl
@@ -218,30 +204,13 @@ no_part done ps s (reach.Shared l) k m t r st = says_nothing done ps s (reach.Sh
 -- a line with which the head or a block is whole says nothing besides, and the last line says how many runs state the first
 -- activation
 ending_says : (l : ReachLine) → is_ending (line_of l) ≡ true → said l ≡ says.Nothing
-ending_says (reach.Head date quarters budget) e = refl
-ending_says (reach.Run heading claim) e = absurd cc
-ending_says (reach.Branch bid) e = absurd cc
-ending_says (reach.Price zone price) e = absurd cc
-ending_says reach.Void e = absurd cc
-ending_says (reach.Shared (line.Bound potentials)) e = absurd cc
-ending_says (reach.Shared (line.Cut cut)) e = absurd cc
-ending_says (reach.Shared (line.Done first within)) e = absurd cc
-ending_says (reach.Shared _) e = refl
+ending_says l e = grind arith
 
 ending_not_last : (l : Line) → is_ending l ≡ true → is_last l ≡ false
-ending_not_last (line.Done m n) e = absurd cc
-ending_not_last _ e = refl
+ending_not_last l e = grind arith
 
 last_says : (l : ReachLine) (first : ℕ) → is_last (line_of l) ≡ true → counts_right first (said l) ≡ true → said l ≡ says.First first
-last_says (reach.Shared (line.Done count within)) first e c = ap says.First (eqb-true count first c)
-last_says (reach.Head date quarters budget) first e c = absurd cc
-last_says (reach.Run heading claim) first e c = absurd cc
-last_says (reach.Branch bid) first e c = absurd cc
-last_says (reach.Price zone price) first e c = absurd cc
-last_says reach.Void first e c = absurd cc
-last_says (reach.Shared (line.Bound potentials)) first e c = absurd cc
-last_says (reach.Shared (line.Cut cut)) first e c = absurd cc
-last_says (reach.Shared _) first e c = absurd cc
+last_says l first e c = grind arith
 
 by_part : (done : List ReachLine) (ps : List ReachPart) (s : ReachKept) (l : ReachLine) (k : Kept) (o : Option Part) (y : ReachKept × Option ReachPart)
     → Mirrors done ps s → Tells done ps s → ReachInRange l → counts_right s.first (said l) ≡ true

@@ -1,6 +1,6 @@
 -- What has come of a text, line by line.
 use Rattle.std.proofs.Common.{◌≡◌, ◌∙◌, ◌+◌, ◌-◌, ◌<◌, ◌^◌, ℕ, true, not, eqb, List, [], ◌∷◌, ◌++◌}
-use Rattle.std.proofs.Common.{length, take, drop, Option, Some, None, Ok, Err, refl, sym, ap, subst, append_assoc, append-nil, length-append, arith}
+use Rattle.std.proofs.Common.{length, take, drop, Option, None, Ok, Err, refl, sym, ap, subst, append_assoc, append-nil, length-append, arith}
 use Rattle.std.specs.List.{list_all}
 use Rattle.std.specs.Prelude.{MatchOption, is_some}
 use Rattle.std.proofs.Math.Seq.{drop-append-add, take-length}
@@ -38,8 +38,7 @@ drop-line bytes here following handled e = sym (drop-drop (length here + 1) hand
 
 -- what is there where something is
 pub there : {X : Type 0} (A : Type 0) (Q : X → Type 0) (o : Option X) → is_some o ≡ true → MatchOption o A Q → (x : X) × Q x
-there A Q None e h = absurd cc
-there A Q (Some x) e h = (x, h)
+there A Q o e h = grind arith
 
 -- ---- the bytes after the handled lines
 
@@ -57,9 +56,7 @@ long-ends u v piece front following rest whole is h =
 
 -- where no whole line is left
 no-line-in : (a : Ahead) (unread rest : List ℕ) → IsAhead a unread rest → NoLineIn a unread → Lacks 10 rest
-no-line-in mark.Whole unread rest e none = subst (λ (w : List ℕ). Lacks 10 w) (sym e) none
-no-line-in mark.TooLong unread rest e none = e.0
-no-line-in mark.Ended unread rest e none = absurd none
+no-line-in a unread rest e none = grind arith
 
 pub all-there : (a : Ahead) (unread rest : List ℕ) → a ≡ mark.Whole → IsAhead a unread rest → rest ≡ unread
 all-there a unread rest e h = subst (λ b. IsAhead b unread rest) e h
@@ -69,9 +66,7 @@ ended-there a unread rest e h = subst (λ b. IsAhead b unread rest) e h
 
 -- nothing is left, and no mark
 pub at-end : (a : Ahead) (unread rest : List ℕ) → NoLineIn a unread → IsAhead a unread rest → rest ≡ [] → (a ≡ mark.Whole) × (unread ≡ [])
-at-end mark.Whole unread rest none h e = (refl, sym h ∙ e)
-at-end mark.TooLong unread rest none h e = let long = h.1 in let len = ap length e in absurd (omega (arith, long, len))
-at-end mark.Ended unread rest none h e = absurd none
+at-end a unread rest none h e = grind arith
 
 module _ {K L P : Type 0} (form : Form K L P) where
   -- other bytes ahead

@@ -1,11 +1,10 @@
 -- Of a page whose text is whole no fault is reported.
-use Rattle.std.proofs.Common.{◌≡◌, ◌∙◌, ℕ, List, ◌∷◌, ◌++◌, take, drop, subst, ap, append_assoc}
+use Rattle.std.proofs.Common.{◌≡◌, ◌∙◌, ℕ, List, ◌∷◌, ◌++◌, take, drop, subst, ap, append_assoc, arith}
 use Rattle.std.proofs.lemmas.List.{take-append-drop}
 use Rattle.mari_io.specs.Outside.{most_given}
 use Rattle.mari_publish.specs.declared.fault.TextFault.{TextFault}
-use Rattle.mari_publish.specs.declared.fault.TextFault.TheVariants as fault
 use Rattle.mari_stream.specs.Coming.{LinesKeep}
-use Rattle.mari_stream.specs.Forms.{Form, IsLineFault, IsTextFault, IsWhole, text_by}
+use Rattle.mari_stream.specs.Forms.{Form, IsLineFault, IsTextFault, IsWhole}
 use Rattle.mari_stream.specs.Streams.{IsReportedFault}
 use Rattle.mari_stream.specs.Streams.IsReportedFault.{OfPage, OfGiven}
 use Rattle.mari_stream.proofs.Stops.{whole-fault}
@@ -15,31 +14,7 @@ longer before here after more = append_assoc before (here ++ 10 ∷ after) more 
 
 -- a fault of a line stays where more is after it
 line-stays : {K L P : Type 0} (form : Form K L P) (text more : List ℕ) (f : TextFault) → IsLineFault form text f → IsTextFault form (text ++ more) f
-line-stays form text more (fault.BadLine n) h = record {
-  before = h.before;
-  parts = h.parts;
-  kept = h.kept;
-  here = h.here;
-  after = h.after ++ more;
-  is = ap (λ (t : List ℕ). t ++ more) h.is ∙ longer (text_by form h.before) h.here h.after more;
-  whole = h.whole;
-  follow = h.follow;
-  number = h.number;
-  formless = h.formless;
-}
-line-stays form text more (fault.BadOrder n) h = record {
-  before = h.before;
-  parts = h.parts;
-  kept = h.kept;
-  here = h.here;
-  after = h.after ++ more;
-  is = ap (λ (t : List ℕ). t ++ more) h.is ∙ longer (text_by form h.before) (form.spelled h.here) h.after more;
-  follow = h.follow;
-  number = h.number;
-  in_range = h.in_range;
-  misplaced = h.misplaced;
-}
-line-stays form text more _ h = absurd h
+line-stays form text more f h = grind (arith, longer)
 
 pub no-reported : {K L P : Type 0} (form : Form K L P) → LinesKeep form → (page : List ℕ) (parts : List P) (f : TextFault) → IsWhole form page parts → IsReportedFault form page f → ⊥
 no-reported form keep page parts f whole (OfPage short h) = whole-fault form keep page parts f whole h

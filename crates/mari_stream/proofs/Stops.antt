@@ -1,5 +1,5 @@
 -- Where the lines of a text stop that may follow one another: a text has one such place, and so one answer.
-use Rattle.std.proofs.Common.{◌≡◌, ◌∙◌, ◌+◌, ℕ, Bool, true, false, not, eqb, List, [], ◌∷◌, ◌++◌, length, Option, Some, None, ◌⊎◌, inl, inr, refl, sym, ap, subst, append_assoc, length-append, arith}
+use Rattle.std.proofs.Common.{◌≡◌, ◌∙◌, ◌+◌, ℕ, Bool, true, not, eqb, List, [], ◌∷◌, ◌++◌, length, Option, Some, None, ◌⊎◌, inl, inr, refl, sym, ap, subst, append_assoc, length-append, arith}
 use Rattle.std.specs.List.{AllByRecursion, list_all}
 use Rattle.std.proofs.lemmas.Bool.{eq-eqb, and_parts}
 use Rattle.std.proofs.lemmas.List.{append-nil}
@@ -14,8 +14,7 @@ not-feed : (b : ℕ) → not (eqb b 10) ≡ true → b ≡ 10 → ⊥
 not-feed b e is = by-test (eqb b 10) (eq-eqb b 10 is) e
   where
     by-test : (t : Bool) → t ≡ true → not t ≡ true → ⊥
-    by-test true a e = absurd cc
-    by-test false a e = absurd cc
+    by-test t a e = cc
 
 -- bytes up to a line feed are those up to the first
 line-cut : (u v x y : List ℕ) → Lacks 10 u → Lacks 10 v → u ++ 10 ∷ x ≡ v ++ 10 ∷ y → (u ≡ v) × (x ≡ y)
@@ -259,12 +258,8 @@ module _ {K L P : Type 0} (form : Form K L P) (law : LinesKeep form) where
   no-more text more parts (fault.BadOrder n) a none =
       none-stays text more parts none a.before a.parts a.kept (form.spelled a.here ++ 10 ∷ a.after) (form.spelled a.here ++ 10 ∷ (a.after ++ more)) a.is
       (order-stop (text ++ more) n (order-stays text more n a))
-  no-more text more parts (fault.Truncated n) a none = absurd a
-  no-more text more parts fault.Memory a none = absurd a
+  no-more text more parts f a none = grind arith
 
   -- the fault of a whole line is the first of the text
   pub fault-first : (text : List ℕ) (f : TextFault) → IsLineFault form text f → IsTextFault form text f
-  fault-first text (fault.BadLine n) a = a
-  fault-first text (fault.BadOrder n) a = a
-  fault-first text (fault.Truncated n) a = absurd a
-  fault-first text fault.Memory a = absurd a
+  fault-first text f a = grind arith

@@ -13,7 +13,7 @@ use Rattle.mari_publish.specs.declared.fault.TextFault.TheVariants as fault
 use Rattle.mari_publish.specs.declared.stream.ReadStop.{ReadStop}
 use Rattle.mari_publish.specs.declared.stream.ReadStop.TheVariants.{Unopened, Fetch as OfFetch, Text as OfText, Part as OfPart, Memory as NoMemory}
 use Rattle.mari_stream.specs.Coming.{AllCome, ComeState, ComesFrom, GivesNext, IsEnd, IsFirstFault, LinesKeep}
-use Rattle.mari_stream.specs.Forms.{Form, HasPart, HoldsParts, IsLineFault, NoFault, NoPart}
+use Rattle.mari_stream.specs.Forms.{Form, HasPart, HoldsParts, IsLineFault, NoFault}
 use Rattle.mari_stream.specs.Streams.{AllTaken, BrokeAt, HasTaken, IsReportedFault, IsTooLong, PartsReport, ReadStates, ReadStops, SomeStates, StopStates, StopsAtFault, TookAll, TookFirst, TookWhole}
 use Rattle.mari_stream.specs.Streams.IsReportedFault.{OfPage as of-page, OfGiven as of-given}
 use Rattle.mari_stream.proofs.LineByLine.{come-parts}
@@ -48,19 +48,10 @@ module _ {K L P : Type 0} (form : Form K L P) where
   none-there come text parts o e h = subst (λ (y : Option P). GivesNext form come text parts (Ok y)) e h
 
   module _ (Took : List P → Type 0) (text : List ℕ) (parts : List P) (come : ComeState K) (taken : HasTaken form Took text parts come) where
-    took-first : TookFirst form Took text
-    took-first = record { parts = parts; first = come-parts form come text parts taken.stands; took = taken.took }
-
-    took-all : NoPart form text parts → TookAll form Took text
-    took-all none = record { parts = parts; first = come-parts form come text parts taken.stands; none = none; took = taken.took }
-
     -- the text has a fault
     pub fault-reported : {X : Type 0} (Breaks : List P → P → X → Type 0) (new : ComeState K) (f : TextFault) → IsFirstFault form text parts f
         → PartsReport form Took Breaks text new (Err (stop_of_text f))
-    fault-reported Breaks new (fault.BadLine n) h = (h.0, took-all h.1)
-    fault-reported Breaks new (fault.BadOrder n) h = (h.0, took-all h.1)
-    fault-reported Breaks new (fault.Truncated n) h = absurd h.0
-    fault-reported Breaks new fault.Memory h = took-first
+    fault-reported Breaks new f h = grind arith
 
     -- a part wasn't taken
     pub part-broke : {X : Type 0} (Breaks : List P → P → X → Type 0) (x : P) (stop : X) → HasPart form text parts x → Breaks parts x stop → BrokeAt form Breaks text stop
@@ -100,13 +91,12 @@ module _ {K L P : Type 0} (form : Form K L P) where
     -- so is whatever stopped the taking of what has come
     stop-stays : {X : Type 0} (Took : List P → Type 0) (Breaks : List P → P → X → Type 0) (come : ComeState K) (text more : List ℕ) → length text ≤ most_given → (stop : ReadStop X)
         → PartsReport form Took Breaks text come (Err stop) → StopStates form Took Breaks (text ++ more) stop
-    stop-stays Took Breaks come text more few (Unopened f) h = absurd h
-    stop-stays Took Breaks come text more few (OfFetch f) h = absurd h
     stop-stays Took Breaks come text more few (OfText f) h = (line-reported text more f few h.0, all-stays Took text more f h.0 h.1)
     stop-stays Took Breaks come text more few (OfPart stop) h =
         let front = given-front text more few in
         subst (λ (xs : List ℕ). BrokeAt form Breaks xs stop) front.1 (broke-stays Breaks text front.0 stop h)
     stop-stays Took Breaks come text more few NoMemory h = first-stays Took text more h
+    stop-stays Took Breaks come text more few stop h = grind arith
 
     module _ (Took : List P → Type 0) (old : ComeState K) (page rest : Option (List ℕ)) (given : ℕ) (u : Under (TakesSome Took old) page rest given) where
       pub of-page-so-far : (whole : List ℕ) → page ≡ Some whole → TookFirst form Took whole
@@ -128,10 +118,7 @@ module _ {K L P : Type 0} (form : Form K L P) where
             (long, subst (TookAll form Took) front (all-all Took old u.text u.known))
 
         pub piece-any : (f : Fetch) → (f ≡ fetch.Missing → ⊥) → SomeStates form Took Breaks (Err (stop_of_fetch f))
-        piece-any fetch.Failed not = some-so-far
-        piece-any fetch.Missing not = absurd (not refl)
-        piece-any fetch.TooLong not = some-so-far
-        piece-any fetch.Memory not = some-so-far
+        piece-any f not = grind arith
 
       module _ (piece : List ℕ) (n : ℕ) (p : IsGiven rest given piece n) where
         -- the taking of what has come stops
@@ -188,31 +175,17 @@ module _ {K L P : Type 0} (form : Form K L P) where
   -- what stopped the taking, on any shelf
   module _ {X : Type 0} (Took : List P → Type 0) (Breaks : List P → P → X → Type 0) (text : List ℕ) (come : ComeState K) where
     pub parts-any : (stop : ReadStop X) → PartsReport form Took Breaks text come (Err stop) → SomeStates form Took Breaks (Err stop)
-    parts-any (Unopened f) h = absurd h
-    parts-any (OfFetch f) h = absurd h
-    parts-any (OfText f) h = (text, record { parts = h.1.parts; first = h.1.first; took = h.1.took })
-    parts-any (OfPart stop) h = (text, h)
-    parts-any NoMemory h = (text, h)
+    parts-any stop h = grind arith
 
   -- ---- the page as a whole
 
   module _ {X : Type 0} (Took : List P → Type 0) (Breaks : List P → P → X → Type 0) where
     -- opening it gave none
     pub open-fault : (T : Type 0) (page rest : Option (List ℕ)) (f : Fetch) → Took [] → OpenStates {T = T} page rest (Err f) → ReadStates form Took Breaks page (Err (stop_of_opening f))
-    open-fault T None rest fetch.Failed none h = none
-    open-fault T None rest fetch.Missing none h = none
-    open-fault T None rest fetch.TooLong none h = absurd h
-    open-fault T None rest fetch.Memory none h = none
-    open-fault T (Some page) rest fetch.Failed none h = none
-    open-fault T (Some page) rest fetch.Missing none h = absurd cc
-    open-fault T (Some page) rest fetch.TooLong none h = absurd h
-    open-fault T (Some page) rest fetch.Memory none h = record { parts = []; first = nothing page; took = none }
+    open-fault T page rest f none h = grind (arith, nothing)
 
     pub open-any : (f : Fetch) → (f ≡ fetch.TooLong → ⊥) → Took [] → SomeStates form Took Breaks (Err (stop_of_opening f))
-    open-any fetch.Failed not none = none
-    open-any fetch.Missing not none = none
-    open-any fetch.TooLong not none = absurd (not refl)
-    open-any fetch.Memory not none = ([], record { parts = []; first = nothing []; took = none })
+    open-any f not none = grind (arith, nothing)
 
     module _ (page : List ℕ) (come : ComeState K) (all : AllTaken form Took page come) where
       -- its end was read
@@ -226,16 +199,11 @@ module _ {K L P : Type 0} (form : Form K L P) where
       end-any done e = (page, whole done e)
 
       pub end-reported : (T : Type 0) (f : TextFault) → length page ≤ most_given → IsEnd {T = T} form page all.parts (Err f) → ReadStates form Took Breaks (Some page) (Err (stop_of_text f))
-      end-reported T (fault.BadLine n) short h = absurd h
-      end-reported T (fault.BadOrder n) short h = absurd h
-      end-reported T (fault.Truncated n) short h = (of-page short h, all-all Took come page all)
-      end-reported T fault.Memory short h = absurd h
+      end-reported T f short h = grind arith
 
       pub end-cut : (T : Type 0) (f : TextFault) → IsEnd {T = T} form page all.parts (Err f) → SomeStates form Took Breaks (Err (stop_of_text f))
-      end-cut T (fault.BadLine n) h = absurd h
-      end-cut T (fault.BadOrder n) h = absurd h
       end-cut T (fault.Truncated n) h = (page, all-first Took come page all)
-      end-cut T fault.Memory h = absurd h
+      end-cut T f h = grind arith
 
   -- ---- no fault of the shelf is one of a line, nor is one at the end of the text
 
@@ -253,7 +221,4 @@ module _ {K L P : Type 0} (form : Form K L P) where
     opening-stops fetch.Memory = tt
 
     pub end-stops : (T : Type 0) (text : List ℕ) (parts : List P) (f : TextFault) → IsEnd {T = T} form text parts (Err f) → ReadStops {X = X} form rest-of calls page shelf (stop_of_text f)
-    end-stops T text parts (fault.BadLine n) h = absurd h
-    end-stops T text parts (fault.BadOrder n) h = absurd h
-    end-stops T text parts (fault.Truncated n) h = tt
-    end-stops T text parts fault.Memory h = tt
+    end-stops T text parts f h = grind arith

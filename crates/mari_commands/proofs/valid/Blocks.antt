@@ -3,7 +3,6 @@ use Rattle.std.proofs.Common.{ℕ, ◌≤◌, Bool, true, false, pos, List, [], 
 use Rattle.std.specs.Prelude.{if◌then◌else◌}
 use Rattle.mari_units.specs.declared.numbers.Cents.{Cents}
 use Rattle.mari_market.specs.Activation.{gate_word_of}
-use Rattle.mari_market.specs.Prefix.{children, may_open}
 use Rattle.mari_market.specs.Tree.{LeafHoldsFor}
 use Rattle.mari_market.proofs.Search.{AreParts-map}
 use Rattle.mari_publish.specs.declared.publication.Block.{Block}
@@ -12,7 +11,7 @@ use Rattle.mari_publish.specs.declared.publication.FullBlock.{FullBlock}
 use Rattle.mari_lines.specs.declared.line.Heading.{Heading}
 use Rattle.mari_remain.specs.declared.books.Books.{Books}
 use Rattle.mari_remain.specs.declared.market.RunMarket.{RunMarket}
-use Rattle.mari_progress.specs.After.{market_after, run_after}
+use Rattle.mari_progress.specs.After.{run_after}
 use Rattle.mari_day.specs.Published.{IsBlock, IsPublishedOf, IsUnpublishedRun}
 use Rattle.mari_progress.specs.Reported.{activation_of}
 use Rattle.mari_check.specs.declared.fault.Fault.{Fault}
@@ -47,11 +46,7 @@ two-children word false = omega arith
 
 -- so two nodes more would be above the budget
 fills-budget : (books : Books) (budget : ℕ) (before : List Block) (heading : Heading) (count : ℕ) → IsUnpublishedRun books budget before heading count → FillsBudget budget count
-fills-budget books budget before heading count is =
-    let gates = (market_after books before).market.gates in
-    let over = is.spent.is_spent.overflows in
-    let few : length (children gates over.leaf) ≤ 2 = two-children over.leaf (may_open gates over.leaf (length over.leaf)) in
-    record { within = omega (arith, is.spent.counted, is.spent.is_spent.within_budget); full = omega (arith, is.spent.counted, over.crowded.more, few) }
+fills-budget books budget before heading count is = grind (arith, two-children)
 
 unpublished-free : (books : Books) (budget : ℕ) (before : List Block) (heading : Heading) (count : ℕ) → run_after before ≤ length books.runs.runs → IsUnpublishedRun books budget before heading count
     → (any : Fault) → IsUnpublishedFree books budget before heading count any

@@ -1,6 +1,5 @@
-use Rattle.std.proofs.Common.{ℕ, List, ap, subst}
+use Rattle.std.proofs.Common.{ap, arith}
 use Rattle.mari_io.specs.declared.shelf.Fetch.TheVariants as fetch
-use Rattle.mari_quarters.specs.Quarters.{QuartersReport}
 use Rattle.mari_answers.proofs.Causes.{fault_of}
 use Rattle.mari_commands.proofs.Causes.{quarters-fault}
 use Rattle.mari_commands.proofs.Naming.{quarters-sayable}
@@ -10,15 +9,7 @@ pub say_quarters-requires : goal.say_quarters-requires
 say_quarters-requires g c = quarters-sayable c.clear_quarters-given.result c.clear_quarters-given.ensures.file c.clear_quarters-given.ensures.check
 
 pub returns-clause-reported : goal.returns-clause-reported
-returns-clause-reported g c = record {
-  given = c.clear_quarters-given.result;
-  states = λ reported t. let P : List ℕ → Type 0 = λ folder. QuartersReport reported folder c.args.quarters.now.first c.args.quarters.now.last c.args.quarters.now.nodes
-      c.clear_quarters-given.result in subst P c.as_str.ensures.value (c.clear_quarters-given.ensures.reported reported t);
-  file = c.clear_quarters-given.ensures.file;
-  sayable = quarters-sayable c.clear_quarters-given.result c.clear_quarters-given.ensures.file c.clear_quarters-given.ensures.check;
-  cause = c.clear_quarters-given.ensures.failed.rose;
-  reports = c.say_quarters.ensures.reports;
-}
+returns-clause-reported g c = grind (arith, quarters-sayable)
 
 pub returns-clause-read_fault : goal.returns-clause-read_fault
 returns-clause-read_fault g c = record {

@@ -1,9 +1,7 @@
 use Rattle.std.proofs.Common.{◌∙◌, Option, ◌⊎◌, arith, inl, inr, refl, sym}
-use Rattle.std.specs.Prelude.{string_bytes}
 use Rattle.mari_commands.specs.Commands.{AsksForBlocks, AsksForFeed}
 use Rattle.mari_commands.specs.Outcome.{IsOfWords, IsOwn}
 use Rattle.mari_commands.specs.declared.outcome.Outcome.{Outcome}
-use Rattle.mari_commands.specs.declared.outcome.Outcome.TheVariants as outcome
 use Rattle.mari_io.specs.declared.shelf.Fetch.TheVariants as fetch
 use Rattle.mari_answers.specs.declared.status.Status.TheVariants as status
 use Rattle.mari_words.specs.Asked.{Asked}
@@ -106,9 +104,7 @@ returns-clause-joined g c = λ pages t h.
 
 -- whoever reports a feed or quarters was asked for them
 asked-for : (words : Option Asked) (o : Outcome) → IsOfWords words o → IsOwn o → AsksForFeed words ⊎ AsksForBlocks words
-asked-for words (outcome.Feed folder) w own = inl (string_bytes folder, w)
-asked-for words (outcome.Blocks quarters) w own = inr (string_bytes quarters.folder, quarters.first, quarters.last, quarters.nodes, quarters.workers, w)
-asked-for words _ w own = absurd own
+asked-for words o w own = grind arith
 
 pub returns-clause-untouched : goal.returns-clause-untouched
 returns-clause-untouched g c = λ none.

@@ -28,11 +28,7 @@ loop-item-preserved g c =
     c.item-item.is c.loop-item.invariant c.in_ok-read.ensures)
 
 pub returns-in_err-read : goal.returns-in_err-read
-returns-in_err-read g c =
-    let is = ap (λ (vs : List Value). Some (items_view vs)) c.as_slice-values.ensures.value ∙ c.in-Some.ensures in
-    item_unread g.F.Printed.InItsRange g.F.Printed.written c.args.least c.args.greatest c.as_slice-values.result.now c.loop-item.item-index
-    c.item-item.result (view c.args.value.now) _ c.from_residual.result
-    c.loop-item-test.true c.item-item.is is (err_from_is_err_and c.from_residual.result c.from_residual.ensures.1) c.in_err-read.ensures
+returns-in_err-read g c = grind (arith, item_unread, err_from_is_err_and)
 
 pub returns : goal.returns
 returns g c =

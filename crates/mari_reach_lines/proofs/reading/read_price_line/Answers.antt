@@ -1,4 +1,4 @@
-use Rattle.std.proofs.Common.{◌≡◌, ◌∷◌, [], ◌++◌, List, ℕ, sym, ap, ◌∙◌}
+use Rattle.std.proofs.Common.{◌≡◌, ◌∷◌, [], ◌++◌, List, ℕ, sym, ap, ◌∙◌, arith}
 use lib.Chars.{codes}
 use Rattle.std.proofs.lemmas.Result.{err_from_is_err_and}
 use Rattle.mari_units.specs.Names.{IsName}
@@ -16,7 +16,7 @@ words_apart : (zone price a b : List ℕ) → zone ∷ words_of price ≡ a ∷ 
 words_apart zone price a b e = let last : words_of price ≡ b ∷ [] = cc in (cc, one_word b price last)
 
 not_one : (a b d : List ℕ) → a ∷ [] ≡ b ∷ d ∷ [] → ⊥
-not_one a b d e = absurd cc
+not_one a b d e = grind arith
 
 pub returns-in_err-zone : goal.returns-in_err-zone
 returns-in_err-zone c =

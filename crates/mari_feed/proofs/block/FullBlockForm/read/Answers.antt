@@ -1,35 +1,16 @@
-use Rattle.std.proofs.Common.{codes, refl, sym, ap, ◌∙◌}
+use Rattle.std.proofs.Common.{codes, refl, sym, ap, ◌∙◌, arith, rules}
 use Rattle.std.proofs.lemmas.Result.{err_from_is_err_and}
 use Rattle.serde_json.specs.Data.{member, no_members, object}
 use Rattle.serde_json.specs.View.{view}
-use Rattle.mari_feed.specs.Values.{border_value, item_value, kind_value, list_of, natural, operator_value, provider_value, zone_value}
+use Rattle.mari_feed.specs.Values.{item_value, kind_value, list_of, natural, operator_value, provider_value, zone_value}
 use Rattle.mari_feed.proofs.NotRead.{begins, after, going_on, member_unread, no_object, not_the_end}
 use Rattle.mari_feed.proofs.block.FullBlockForm.read.Goals as goal
 
 pub returns-in_err-bids : goal.returns-in_err-bids
-returns-in_err-bids c = member_unread _ _ _ _ no_members _ _ (view c.args.value.now) _ c.from_residual-in_err-bids.result
-    (err_from_is_err_and c.from_residual-in_err-bids.result c.from_residual-in_err-bids.ensures.1) c.in_err-bids.ensures (λ b r e.
-    let m0 = begins _ _ _ c.in_ok-members.ensures e in (
-      b.bids,
-      member (codes "borders") (list_of border_value b.borders) (member (codes "demands") (list_of natural b.demands) (member (codes "kind") (kind_value b.heading.direct) (member (codes "operators")
-          (list_of operator_value b.operators) (member (codes "providers") (list_of provider_value b.providers) (member (codes "quarter") (natural b.heading.quarter) (member (codes "run") (natural
-          b.heading.run) (member (codes "tree") (list_of item_value b.tree) (member (codes "welfare") (natural b.welfare) (member (codes "zones") (list_of zone_value b.zones) no_members))))))))),
-      r.bids,
-      m0,
-    ))
+returns-in_err-bids c = grind (arith, member_unread, err_from_is_err_and, begins)
 
 pub returns-in_err-borders : goal.returns-in_err-borders
-returns-in_err-borders c = member_unread _ _ _ _ no_members _ _ (view c.args.value.now) _ c.from_residual-in_err-borders.result
-    (err_from_is_err_and c.from_residual-in_err-borders.result c.from_residual-in_err-borders.ensures.1) c.in_err-borders.ensures (λ b r e.
-    let m0 = begins _ _ _ c.in_ok-members.ensures e in
-    let m1 = after _ _ _ _ _ _ c.in_ok-bids.ensures.1 m0 in (
-      b.borders,
-      member (codes "demands") (list_of natural b.demands) (member (codes "kind") (kind_value b.heading.direct) (member (codes "operators") (list_of operator_value b.operators)
-          (member (codes "providers") (list_of provider_value b.providers) (member (codes "quarter") (natural b.heading.quarter) (member (codes "run") (natural b.heading.run)
-          (member (codes "tree") (list_of item_value b.tree) (member (codes "welfare") (natural b.welfare) (member (codes "zones") (list_of zone_value b.zones) no_members)))))))),
-      r.borders,
-      m1,
-    ))
+returns-in_err-borders c = grind (arith, member_unread, err_from_is_err_and, begins, after)
 
 pub returns-in_err-demands : goal.returns-in_err-demands
 returns-in_err-demands c = member_unread _ _ _ _ no_members _ _ (view c.args.value.now) _ c.from_residual-in_err-demands.result
@@ -46,19 +27,7 @@ returns-in_err-demands c = member_unread _ _ _ _ no_members _ _ (view c.args.val
     ))
 
 pub returns-in_err-direct : goal.returns-in_err-direct
-returns-in_err-direct c = member_unread _ _ _ _ no_members _ _ (view c.args.value.now) _ c.from_residual-in_err-direct.result
-    (err_from_is_err_and c.from_residual-in_err-direct.result c.from_residual-in_err-direct.ensures.1) c.in_err-direct.ensures (λ b r e.
-    let m0 = begins _ _ _ c.in_ok-members.ensures e in
-    let m1 = after _ _ _ _ _ _ c.in_ok-bids.ensures.1 m0 in
-    let m2 = after _ _ _ _ _ _ c.in_ok-borders.ensures.1 m1 in
-    let m3 = after _ _ _ _ _ _ c.in_ok-demands.ensures.1 m2 in (
-      b.heading.direct,
-      member (codes "operators") (list_of operator_value b.operators)
-          (member (codes "providers") (list_of provider_value b.providers) (member (codes "quarter") (natural b.heading.quarter) (member (codes "run") (natural b.heading.run)
-          (member (codes "tree") (list_of item_value b.tree) (member (codes "welfare") (natural b.welfare) (member (codes "zones") (list_of zone_value b.zones) no_members)))))),
-      tt,
-      m3,
-    ))
+returns-in_err-direct c = search (rules, member_unread, err_from_is_err_and, begins, after)
 
 pub returns-in_err-operators : goal.returns-in_err-operators
 returns-in_err-operators c = member_unread _ _ _ _ no_members _ _ (view c.args.value.now) _ c.from_residual-in_err-operators.result
@@ -151,41 +120,14 @@ returns-in_err-welfare c = member_unread _ _ _ _ no_members _ _ (view c.args.val
     (b.welfare, member (codes "zones") (list_of zone_value b.zones) no_members, r.welfare, m9))
 
 pub returns-in_err-zones : goal.returns-in_err-zones
-returns-in_err-zones c = member_unread _ _ _ _ no_members _ _ (view c.args.value.now) _ c.from_residual-in_err-zones.result
-    (err_from_is_err_and c.from_residual-in_err-zones.result c.from_residual-in_err-zones.ensures.1) c.in_err-zones.ensures (λ b r e.
-    let m0 = begins _ _ _ c.in_ok-members.ensures e in
-    let m1 = after _ _ _ _ _ _ c.in_ok-bids.ensures.1 m0 in
-    let m2 = after _ _ _ _ _ _ c.in_ok-borders.ensures.1 m1 in
-    let m3 = after _ _ _ _ _ _ c.in_ok-demands.ensures.1 m2 in
-    let m4 = after _ _ _ _ _ _ c.in_ok-direct.ensures.1 m3 in
-    let m5 = after _ _ _ _ _ _ c.in_ok-operators.ensures.1 m4 in
-    let m6 = after _ _ _ _ _ _ c.in_ok-providers.ensures.1 m5 in
-    let m7 = after _ _ _ _ _ _ c.in_ok-quarter.ensures.1 m6 in
-    let m8 = after _ _ _ _ _ _ c.in_ok-run.ensures.1 m7 in
-    let m9 = after _ _ _ _ _ _ c.in_ok-tree.ensures.1 m8 in
-    let m10 = after _ _ _ _ _ _ c.in_ok-welfare.ensures.1 m9 in
-    (b.zones, no_members, r.zones, m10))
+returns-in_err-zones c = search (rules, member_unread, err_from_is_err_and, begins, after)
 
 pub returns-in_err-members : goal.returns-in_err-members
 returns-in_err-members c =
     no_object _ _ (view c.args.value.now) _ c.from_residual.result (err_from_is_err_and c.from_residual.result c.from_residual.ensures.1) c.in_err-members.ensures (λ b. (_, refl))
 
 pub returns-in_err-end : goal.returns-in_err-end
-returns-in_err-end c = not_the_end _ _ _ (view c.args.value.now) _ c.from_residual-in_err-end.result
-    (err_from_is_err_and c.from_residual-in_err-end.result c.from_residual-in_err-end.ensures.1) c.in_err-end.ensures (λ b r e.
-    let m0 = begins _ _ _ c.in_ok-members.ensures e in
-    let m1 = after _ _ _ _ _ _ c.in_ok-bids.ensures.1 m0 in
-    let m2 = after _ _ _ _ _ _ c.in_ok-borders.ensures.1 m1 in
-    let m3 = after _ _ _ _ _ _ c.in_ok-demands.ensures.1 m2 in
-    let m4 = after _ _ _ _ _ _ c.in_ok-direct.ensures.1 m3 in
-    let m5 = after _ _ _ _ _ _ c.in_ok-operators.ensures.1 m4 in
-    let m6 = after _ _ _ _ _ _ c.in_ok-providers.ensures.1 m5 in
-    let m7 = after _ _ _ _ _ _ c.in_ok-quarter.ensures.1 m6 in
-    let m8 = after _ _ _ _ _ _ c.in_ok-run.ensures.1 m7 in
-    let m9 = after _ _ _ _ _ _ c.in_ok-tree.ensures.1 m8 in
-    let m10 = after _ _ _ _ _ _ c.in_ok-welfare.ensures.1 m9 in
-    let m11 = after _ _ _ _ _ _ c.in_ok-zones.ensures.1 m10 in
-    m11)
+returns-in_err-end c = search (rules, not_the_end, err_from_is_err_and, begins, after)
 
 pub returns : goal.returns
 returns c =

@@ -1,21 +1,13 @@
-use Rattle.std.proofs.Common.{codes, sym, ap, ◌∙◌}
+use Rattle.std.proofs.Common.{codes, arith, rules}
 use Rattle.std.proofs.lemmas.Result.{err_from_is_err_and}
-use Rattle.serde_json.specs.Data.{member, no_members, object, string}
+use Rattle.serde_json.specs.Data.{member, no_members, string}
 use Rattle.serde_json.specs.View.{view}
 use Rattle.mari_feed.specs.Values.{price_value}
 use Rattle.mari_feed.proofs.NotRead.{begins, after, going_on, member_unread}
 use Rattle.mari_feed.proofs.lines.ZoneLineForm.read.Goals as goal
 
 pub returns-in_err-area : goal.returns-in_err-area
-returns-in_err-area c = member_unread _ _ _ _ no_members _ _ (view c.args.value.now) _ c.from_residual-in_err-area.result
-    (err_from_is_err_and c.from_residual-in_err-area.result c.from_residual-in_err-area.ensures.1) c.in_err-area.ensures (λ z r e.
-    let m0 = begins _ _ _ c.in_ok-members.ensures e in (
-      z.area,
-      member (codes "greatest") (price_value z.greatest)
-          (member (codes "least") (price_value z.least) (member (codes "name") (string z.name) (member (codes "price") (price_value z.price) no_members))),
-      r.4,
-      m0,
-    ))
+returns-in_err-area c = grind (arith, member_unread, err_from_is_err_and, begins)
 
 pub returns-in_err-greatest : goal.returns-in_err-greatest
 returns-in_err-greatest c = member_unread _ _ _ _ no_members _ _ (view c.args.value.now) _ c.from_residual-in_err-greatest.result
@@ -25,21 +17,10 @@ returns-in_err-greatest c = member_unread _ _ _ _ no_members _ _ (view c.args.va
     (z.greatest, member (codes "least") (price_value z.least) (member (codes "name") (string z.name) (member (codes "price") (price_value z.price) no_members)), r.3, m1))
 
 pub returns-in_err-least : goal.returns-in_err-least
-returns-in_err-least c = member_unread _ _ _ _ no_members _ _ (view c.args.value.now) _ c.from_residual-in_err-least.result
-    (err_from_is_err_and c.from_residual-in_err-least.result c.from_residual-in_err-least.ensures.1) c.in_err-least.ensures (λ z r e.
-    let m0 = begins _ _ _ c.in_ok-members.ensures e in
-    let m1 = after _ _ _ _ _ _ c.in_ok-area.ensures.1 m0 in
-    let m2 = after _ _ _ _ _ _ c.in_ok-greatest.ensures.1 m1 in
-    (z.least, member (codes "name") (string z.name) (member (codes "price") (price_value z.price) no_members), r.2, m2))
+returns-in_err-least c = grind (arith, member_unread, err_from_is_err_and, begins, after)
 
 pub returns-in_err-name : goal.returns-in_err-name
-returns-in_err-name c = member_unread _ _ _ _ no_members _ _ (view c.args.value.now) _ c.from_residual-in_err-name.result
-    (err_from_is_err_and c.from_residual-in_err-name.result c.from_residual-in_err-name.ensures.1) c.in_err-name.ensures (λ z r e.
-    let m0 = begins _ _ _ c.in_ok-members.ensures e in
-    let m1 = after _ _ _ _ _ _ c.in_ok-area.ensures.1 m0 in
-    let m2 = after _ _ _ _ _ _ c.in_ok-greatest.ensures.1 m1 in
-    let m3 = after _ _ _ _ _ _ c.in_ok-least.ensures.1 m2 in
-    (z.name, member (codes "price") (price_value z.price) no_members, r.0, m3))
+returns-in_err-name c = search (rules, member_unread, err_from_is_err_and, begins, after)
 
 pub returns-in_err-price : goal.returns-in_err-price
 returns-in_err-price c = member_unread _ _ _ _ no_members _ _ (view c.args.value.now) _ c.from_residual-in_err-price.result
@@ -52,10 +33,4 @@ returns-in_err-price c = member_unread _ _ _ _ no_members _ _ (view c.args.value
     (z.price, no_members, r.1, m4))
 
 pub returns : goal.returns
-returns c =
-    let m4 = going_on _ _ _ _ _ c.in_ok-price.ensures.1 c.in_ok-end.ensures in
-    let m3 = going_on _ _ _ _ _ c.in_ok-name.ensures.1 m4 in
-    let m2 = going_on _ _ _ _ _ c.in_ok-least.ensures.1 m3 in
-    let m1 = going_on _ _ _ _ _ c.in_ok-greatest.ensures.1 m2 in
-    let m0 = going_on _ _ _ _ _ c.in_ok-area.ensures.1 m1 in
-    ((c.in_ok-name.ensures.0, c.in_ok-price.ensures.0, c.in_ok-least.ensures.0, c.in_ok-greatest.ensures.0, c.in_ok-area.ensures.0), sym (c.in_ok-members.ensures ∙ ap object m0))
+returns c = grind (arith, going_on)

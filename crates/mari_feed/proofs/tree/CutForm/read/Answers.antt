@@ -1,10 +1,9 @@
-use Rattle.std.proofs.Common.{◌≡◌, List, ℕ, codes, sym, subst, ◌∙◌}
+use Rattle.std.proofs.Common.{codes, arith}
 use Rattle.std.proofs.lemmas.Result.{err_from_is_err_and}
 use Rattle.serde_json.specs.Data.{member, no_members}
 use Rattle.serde_json.specs.View.{view}
-use Rattle.mari_market.specs.Cut.{IsRising}
 use Rattle.mari_lines.proofs.Gathered.{rising_zones}
-use Rattle.mari_feed.specs.Values.{list_of, side_value, zone_number}
+use Rattle.mari_feed.specs.Values.{side_value}
 use Rattle.mari_feed.proofs.NotRead.{begins, after, member_unread, same_value}
 use Rattle.mari_feed.proofs.SameValue.{same_list, same_zone_number}
 use Rattle.mari_feed.proofs.tree.CutForm.read.Goals as goal
@@ -19,7 +18,4 @@ returns-in_err-side c = member_unread _ _ _ _ no_members _ _ (view c.args.value.
     c.from_residual-in_err-side.ensures.1) c.in_err-side.ensures (λ z r e. (z.side, no_members, tt, after _ _ _ _ _ _ c.in_ok-zones.ensures.1 (begins _ _ _ c.in_ok-members.ensures e)))
 
 pub returns-then-not-are_rising : goal.returns-then-not-are_rising
-returns-then-not-are_rising c = λ z r e.
-    let values : list_of zone_number z.zones ≡ list_of zone_number c.in_ok-zones.zones = sym (same_value _ _ _ _ _ _ c.in_ok-zones.ensures.1 (begins _ _ _ c.in_ok-members.ensures e)) in
-    let same = same_list zone_number same_zone_number z.zones c.in_ok-zones.zones values in
-    let yes = c.if-not-are_rising.ensures.1 (subst (λ (zs : List ℕ). IsRising 0 64 zs) (same ∙ sym c.as_slice.ensures) r.1) in absurd cc
+returns-then-not-are_rising c = grind (arith, same_value, begins, same_list, same_zone_number)

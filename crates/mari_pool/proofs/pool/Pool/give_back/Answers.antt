@@ -1,4 +1,4 @@
-use Rattle.std.proofs.Common.{◌≡◌, false, true, Some, [], ◌∷◌, ◌++◌, set, length-set, arith, refl, sym, ap, subst, ◌∙◌}
+use Rattle.std.proofs.Common.{◌≡◌, false, true, Some, [], ◌∷◌, ◌++◌, set, length-set, arith, refl, sym, ap, subst, ◌∙◌, rules}
 use Rattle.std.specs.Prelude.{vec_capacity, slice_get}
 use Rattle.mari_market.specs.Prefix.{word_of}
 use Rattle.mari_core.specs.declared.node.NodeState.TheVariants.{Untaken}
@@ -29,12 +29,7 @@ push_reserved-requires g c =
     omega (arith, room, c.self.inside.journal.ok.0)
 
 pub put_back-requires : goal.put_back-requires
-put_back-requires g c =
-    let fresh = subst (λ (q : Pooled). IsTakenAt q c.args.ticket.node c.args.ticket.turn c.args.ticket.worker (word_of c.args.ticket.prefix)) (sym c.self.view_is)
-    (c.is_fresh.ensures.0 c.if-not-is_fresh.false) in
-    let room = back_room c.self.inside.tree.nodes c.self.inside.queue c.args.ticket.node c.args.ticket.worker c.self.inside.tree.budget c.self.invariant.2 fresh.taken
-    c.self.invariant.0.grows.within_budget c.self.invariant.3 in
-    record { there = room.0; room = room.1 }
+put_back-requires g c = search (rules, back_room)
 
 pub overflow_sub-self : goal.overflow_sub-self
 overflow_sub-self g c =
@@ -77,7 +72,4 @@ invariant_of-self g c =
     )
 
 pub returns-clause-again : goal.returns-clause-again
-returns-clause-again g c = λ again.
-    absurd
-    (not_again c.self.inside.returned.items c.args.ticket.worker c.index.result.now c.index.ensures c.if-index.false
-    (ap (λ (q : Pooled). slice_get q.returned c.args.ticket.worker) c.self.view_is ∙ again))
+returns-clause-again g c = grind (arith, not_again)

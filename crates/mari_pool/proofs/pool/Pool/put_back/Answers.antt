@@ -1,4 +1,4 @@
-use Rattle.std.proofs.Common.{◌≡◌, ◌+◌, ◌≤◌, [], ◌∷◌, ◌++◌, length, arith, refl, sym, ap, subst, ◌∙◌}
+use Rattle.std.proofs.Common.{◌≡◌, ◌+◌, ◌≤◌, [], ◌∷◌, ◌++◌, length, arith, refl, sym, ap, subst, ◌∙◌, rules}
 use Rattle.std.specs.Prelude.{vec_capacity}
 use Rattle.mari_core.specs.declared.node.NodeState.TheVariants.{Untaken}
 use Rattle.mari_core.specs.Nodes.{state_at}
@@ -14,11 +14,7 @@ use Rattle.mari_pool.proofs.Keeps.{pool_of, pool_same, entry_keeps_by, back_owed
 use Rattle.mari_pool.proofs.pool.Pool.put_back.Goals as goal
 
 pub put_back-requires : goal.put_back-requires
-put_back-requires g c =
-    let may : IsAllowed c.self.inside.tree (GiveBack c.args.worker c.args.node) = ap (λ (q : Pooled). state_at q.tree.nodes c.args.node) c.self.view_is ∙ c.requires.taken in
-    let room =
-    back_room c.self.inside.tree.nodes c.self.inside.queue c.args.node c.args.worker c.self.inside.tree.budget c.self.invariant.2 may c.self.invariant.0.grows.within_budget c.self.invariant.3 in
-    record { there = room.0; room = room.1 }
+put_back-requires g c = search (rules, back_room)
 
 pub overflow_sub-self : goal.overflow_sub-self
 overflow_sub-self g c =

@@ -1,10 +1,8 @@
 use Rattle.std.proofs.Common.{◌≡◌, ℕ, ◌≤◌, max, [], ◌∷◌, ◌++◌, length, arith, sym, ap, subst, ◌∙◌}
-use Rattle.std.specs.Prelude.{slice_get, vec_capacity, IfSome}
-use Rattle.mari_market.specs.declared.market.Market.{Market}
+use Rattle.std.specs.Prelude.{vec_capacity}
 use Rattle.mari_market.specs.Prefix.{word_of}
 use Rattle.mari_core.specs.declared.journal.JournalEntry.{JournalEntry}
-use Rattle.mari_core.specs.Growth.{Grown, settling, closing_leaf, grown, in_journal, IsAllowed, IsCutoff, MaySettle}
-use Rattle.mari_core.specs.Nodes.{new_node}
+use Rattle.mari_core.specs.Growth.{Grown, settling, closing_leaf, grown, in_journal, IsAllowed, IsCutoff}
 use Rattle.mari_incumbent.specs.Incumbent.{IncumbentId, seat_view}
 use Rattle.mari_pool.specs.declared.ticket.Settled.TheVariants as settled
 use Rattle.mari_core.proofs.Journals.{grown_budget}
@@ -26,13 +24,7 @@ settle-requires-clause-cutoff g c =
     (seat_cutoff g.N.SearchName.market g.N.SearchName.budget g.N.SearchName.workers g.N.SearchName.incumbent p c.args.seat.now.seen c.self.invariant.0 above)
 
 pub settle-requires-clause-finding : goal.settle-requires-clause-finding
-settle-requires-clause-finding g c =
-    let seen = c.args.seat.now.seen in
-    let word = word_of c.args.ticket.prefix in
-    let fresh = subst (λ (q : Pooled). IsTakenAt q c.args.ticket.node c.args.ticket.turn c.args.ticket.worker word) (sym c.self.view_is) (c.is_fresh.ensures.0 c.if-not-is_fresh.false) in
-    let may = subst (λ (m : Market). MaySettle m seen c.args.finding (new_node word)) (sym c.self.invariant.0.market_is) c.requires.finding in
-    subst (λ (n : ℕ). IfSome (slice_get c.self.inside.tree.nodes c.args.ticket.node) (MaySettle c.self.inside.tree.market n c.args.finding)) (sym c.seen-cutoff.ensures.seen)
-    (may_settle_node c.self.inside.tree.market seen c.args.finding word c.self.inside.tree.nodes c.args.ticket.node fresh.word_is may)
+settle-requires-clause-finding g c = grind (arith, may_settle_node)
 
 pub follow-requires : goal.follow-requires
 follow-requires g c =

@@ -8,9 +8,9 @@ use Rattle.mari_core.specs.Growth.{Grown, grown, in_journal, take_refused, IsAll
 use Rattle.mari_core.specs.Growth.Entry.{Take}
 use Rattle.mari_core.proofs.Changes.{length-with_state}
 use Rattle.mari_core.proofs.Entries.{within_nodes}
-use Rattle.mari_pool.specs.Queued.{Queued, IsQueueOf, IsFirstWaiting}
+use Rattle.mari_pool.specs.Queued.{IsQueueOf, IsFirstWaiting}
 use Rattle.mari_pool.proofs.Queues.{first_waits, first_of_all, has_word, queue_taken}
-use Rattle.mari_pool.specs.Pooled.{Pooled, IsPool, taking, unreturned, taken_among}
+use Rattle.mari_pool.specs.Pooled.{Pooled, taking, unreturned, taken_among}
 use Rattle.mari_pool.specs.Taking.{IsTaken}
 use Rattle.mari_pool.proofs.Rooms.{taken_after, taken_few}
 use Rattle.mari_pool.proofs.Turns.{turns_take}
@@ -29,15 +29,7 @@ push_reserved-requires g c =
     omega (arith, room, c.self.inside.journal.ok.0)
 
 pub index_mut-requires : goal.index_mut-requires
-index_mut-requires g c =
-    omega (
-      arith,
-      within_nodes c.self.inside.tree.nodes c.in-Some.node Untaken (first_waits c.self.inside.tree.nodes c.self.inside.queue c.take_first.new.self c.in-Some.node c.self.invariant.2 c.in-Some.ensures),
-      c.self.invariant.0.grows.within_budget,
-      c.self.invariant.0.budget_is,
-      c.self.invariant.0.turns_are,
-      c.self.inside.turns.ok.0,
-    )
+index_mut-requires g c = grind (arith, within_nodes, first_waits)
 
 pub overflow_add-self : goal.overflow_add-self
 overflow_add-self g c =
@@ -70,11 +62,7 @@ invariant_of-self-2 g c =
     )
 
 pub invariant_of-self : goal.invariant_of-self
-invariant_of-self g c =
-    let idle = λ (q : Queued). IsPool g.N.SearchName.market g.N.SearchName.budget g.N.SearchName.workers g.N.SearchName.incumbent
-    (pool_of c.self.inside.tree q.keys c.self.inside.journal.items (vec_capacity c.self.inside.journal) c.self.inside.turns.items c.self.inside.returned.items c.self.inside.seat)
-    × (taken_among c.self.inside.tree.nodes ≡ c.self.inside.taken) × IsQueueOf c.self.inside.tree.nodes q × (q.room ≡ c.self.inside.tree.budget) in
-    subst idle (sym c.in_default.ensures.1) c.self.invariant
+invariant_of-self g c = grind (arith, pool_of)
 
 pub unreachable-requires : goal.unreachable-requires
 unreachable-requires g c =

@@ -1,28 +1,14 @@
-use Rattle.std.proofs.Common.{◌<◌, ℕ, ◌∷◌, [], List, length, length-append, map, heap_items, All, arith, refl, sym, ap, subst}
-use Rattle.mari_pool.specs.Queued.{Queued, number_in, IsKeyed, IsMore}
+use Rattle.std.proofs.Common.{length-append, map, heap_items, arith, refl, subst}
+use Rattle.mari_pool.specs.Queued.{Queued, number_in, IsMore}
 use Rattle.mari_pool.proofs.Orders.{keyed_more}
 use Rattle.mari_pool.proofs.Queues.{more_by_back}
 use Rattle.mari_pool.proofs.queue.Queue.add.Goals as goal
 
 pub invariant_of-self : goal.invariant_of-self
-invariant_of-self c =
-    let keys = c.self.inside.keys.items in
-    let room : length keys < c.self.inside.room = omega (arith, c.requires.keys, ap (λ (q : Queued). length q.keys) c.self.view_is, ap (λ (q : Queued). q.room) c.self.view_is) in (
-      c.self.invariant.0,
-      subst (λ (ks : List ℕ). All (IsKeyed ks) (heap_items c.self.inside.waiting)) (sym c.push_reserved.ensures.items)
-          (keyed_more keys c.args.key (heap_items c.self.inside.waiting) c.self.invariant.1),
-      omega (arith, room, ap length c.push_reserved.ensures.items, length-append keys (c.args.key ∷ [])),
-      c.self.invariant.3,
-      omega (arith, c.push_reserved.ensures.capacity, c.self.invariant.4),
-      c.self.invariant.5,
-    )
+invariant_of-self c = grind (arith, heap_items, keyed_more, length-append)
 
 pub put_back-requires : goal.put_back-requires
-put_back-requires c =
-    let keys = c.self.inside.keys.items in record {
-      there = omega (arith, c.len-node.ensures, c.self.inside.keys.ok.0, ap length c.push_reserved.ensures.items, length-append keys (c.args.key ∷ []));
-      room = omega (arith, c.requires.waiting, ap (λ (q : Queued). length q.waiting) c.self.view_is, ap (λ (q : Queued). q.room) c.self.view_is);
-    }
+put_back-requires c = grind (arith, length-append)
 
 pub returns : goal.returns
 returns c =

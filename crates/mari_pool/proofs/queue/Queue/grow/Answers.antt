@@ -3,16 +3,7 @@ use Rattle.mari_pool.proofs.Queues.{length_waiting, more_one}
 use Rattle.mari_pool.proofs.queue.Queue.grow.Goals as goal
 
 pub add-requires-clause-waiting : goal.add-requires-clause-waiting
-add-requires-clause-waiting c =
-    omega (
-      arith,
-      length_waiting c.args.key (c.loop.counter - length c.args.self.now.keys) c.args.self.now c.loop.self c.loop.invariant.more,
-      c.loop.invariant.more.room,
-      c.loop.invariant.from,
-      c.requires.waiting,
-      c.requires.count,
-      c.loop-test.true,
-    )
+add-requires-clause-waiting c = grind (arith, length_waiting)
 
 pub loop-preserved : goal.loop-preserved
 loop-preserved c = record {

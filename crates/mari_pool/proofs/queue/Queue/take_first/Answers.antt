@@ -5,15 +5,7 @@ use Rattle.mari_pool.proofs.Orders.{first_ahead, keyed_left}
 use Rattle.mari_pool.proofs.queue.Queue.take_first.Goals as goal
 
 pub invariant_of-self-2 : goal.invariant_of-self-2
-invariant_of-self-2 c =
-    let w : Waiting = (c.in-Some.field-0-0, c.in-Some.field-0-1) in (
-      (c.in-Some.ensures.heap_order c.self.invariant.0).0,
-      keyed_left c.self.inside.keys.items (heap_items c.self.inside.waiting) (heap_items c.pop.new.self) w c.self.invariant.1 c.in-Some.ensures.permutation,
-      c.self.invariant.2,
-      c.self.invariant.3,
-      c.self.invariant.4,
-      omega (arith, c.pop.ensures.capacity, c.self.invariant.5),
-    )
+invariant_of-self-2 c = grind (arith, keyed_left, heap_items)
 
 pub returns : goal.returns
 returns c =

@@ -59,17 +59,14 @@ fn border_carries(side: CutSide, zones: &[u32], border: &Border, state: &State) 
     ensures low { neg_ℤ (pos MOST_FLOW) ≤ℤ result }
     ensures high { result ≤ℤ pos MOST_FLOW }
 {
+    let is_first_inside = is_in(zones, border.from);
+    if is_first_inside == is_in(zones, border.to) {
+        return 0;
+    }
     let (limit, back) = state.flows(border);
-    match (is_in(zones, border.from), is_in(zones, border.to)) {
-        (true, false) => match side {
-            CutSide::Out => limit,
-            CutSide::In => back,
-        },
-        (false, true) => match side {
-            CutSide::Out => back,
-            CutSide::In => limit,
-        },
-        (true, true) | (false, false) => 0,
+    match (side, is_first_inside) {
+        (CutSide::Out, true) | (CutSide::In, false) => limit,
+        (CutSide::Out, false) | (CutSide::In, true) => back,
     }
 }
 

@@ -10,9 +10,11 @@ use Rattle.mari_market.specs.declared.market.Side.TheVariants.{Inject, Withdraw}
 use Rattle.mari_market.specs.Bounds.{Span, GateState}
 use Rattle.mari_market.specs.Flows.{FlowSpan}
 use Rattle.mari_market.specs.Activation.{is_gate}
+use Rattle.mari_market.specs.Cut.{is_in}
 use Rattle.mari_market.specs.Market.{IsValidOrder}
 use Rattle.mari_market.specs.Prefix.{opens_in}
 use Rattle.mari_market.specs.Sums.{int_at}
+use Rattle.mari_units.specs.declared.limits.TheConstants.{MOST_ZONES}
 use Rattle.mari_reach.specs.declared.decisions.Decision.{Decision}
 use Rattle.mari_reach.specs.declared.marks.Marks.{Marks}
 use Rattle.mari_reach.specs.declared.prices.PriceBox.{PriceBox}
@@ -21,6 +23,7 @@ use Rattle.mari_reach.specs.declared.sides.Ladders.{Ladders}
 use Rattle.mari_reach.specs.declared.survey.Survey.{Survey}
 use Rattle.mari_reach.specs.declared.ranks.Lone.{Lone}
 use Rattle.mari_reach.specs.declared.ranks.Twins.{Twins}
+use Rattle.mari_reach.specs.declared.zones.ZoneSet.{ZoneSet}
 use Rattle.mari_reach.specs.Ladders.{IsLadderOf}
 use Rattle.mari_reach.specs.Twins.{lone_order, outranks_by}
 use Rattle.mari_reach.specs.State.{border_span, gains_within, high_by, high_of, loses_within, low_by, low_of, opens, reached_span, shuts, state_by}
@@ -131,3 +134,7 @@ is_torn r g = opens_in r.opened g && opens_in r.shut g
 -- whether the tables leave no price to the zone
 abbrev pub is_priceless : State → ℕ → Bool
 is_priceless r z = is_dearer_in r.prices z z
+
+-- the marks are of the zones of the set
+abbrev pub IsZoneSet : ZoneSet → Type 0
+IsZoneSet s = (z : ℕ) → z < MOST_ZONES → opens_in s.marks z ≡ is_in s.zones.now z

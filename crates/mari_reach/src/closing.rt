@@ -153,7 +153,7 @@ fn mark_rivals_of(marks: &mut Marks, gates: &[GateInfo], opened: &Marks, gate: u
     requires there { gate < length gates.now }
     ensures { (g : ℕ) → g < length gates.now → opens_in marks.new g ≡ (opens_in marks.old g || (are_rivals gates.now g gate && opens_in opened.now gate)) }
 {
-    if gates[gate].group.is_some() && opened.has(gate as u32) {
+    if gates[gate].group.is_some() && opened.at(gate as u32) {
         mark_group(marks, gates, gate);
     }
 }
@@ -195,6 +195,7 @@ pub(crate) fn set_shut(
 /// Marks a gate whose parent is marked.
 fn close_below(closed: &mut Marks, gates: &[GateInfo], gate: usize)
     requires few { length gates.now ≤ MOST_GATES }
+    requires earlier { ParentsEarlier gates.now }
     requires there { gate < length gates.now }
     ensures { (g : ℕ) → opens_in closed.new g ≡ (opens_in closed.old g || (is_opened (opens_in closed.old) (parent_of gates.now gate) && (gate == g))) }
 {

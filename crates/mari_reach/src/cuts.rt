@@ -2,9 +2,9 @@
 
 ghost use Rattle.std.specs.Prelude.{◌≡◌, ◌↔◌, ℤ, pos, ◌*◌, ◌≤ℤ◌, neg_ℤ, ◌≤◌, ◌<◌, length, IfSome, IsTrue};
 ghost use Rattle.std.specs.List.{All, filter};
-ghost use Rattle.mari_reach.specs.Tables.{flow_in, has_gate, span_in, AreLaddersOf, IsSurveyOf};
+ghost use Rattle.mari_reach.specs.Tables.{flow_in, has_gate, span_in, AreLaddersOf, IsSurveyOf, IsZoneSet};
 ghost use Rattle.mari_reach.specs.Values.{carried_by};
-ghost use Rattle.mari_market.specs.Cut.{CannotBalanceWithin, IsCutWithin, is_in};
+ghost use Rattle.mari_market.specs.Cut.{CannotBalanceWithin, IsCutWithin};
 ghost use Rattle.mari_market.specs.Market.{IsValid, IsValidOrder, IsValidBorder};
 ghost use Rattle.mari_market.specs.Sums.{int_sum};
 ghost use Rattle.mari_proofs.specs.NetInjections.{net_put, put_of, Exceeds};
@@ -12,15 +12,9 @@ ghost use Rattle.mari_proofs.specs.NetInjections.{net_put, put_of, Exceeds};
 use crate::sides::Ladders;
 use crate::states::State;
 use crate::survey::Survey;
+use crate::zones::ZoneSet;
 use mari_market::{Border, Cut, CutSide, MOST_ORDERS, Market, Order, Side, are_rising};
 use mari_units::{MOST_BORDERS, MOST_FLOW, MOST_GATES, MOST_MW, MOST_ZONES};
-
-/// Whether the zone is one of the set.
-pub(crate) fn is_in(zones: &[u32], zone: u32) -> bool
-    ensures { result ≡ is_in zones.now zone }
-{
-    zones.iter().any(|other| *other == zone)
-}
 
 /// The least net injection of an order within its bounds, or the greatest.
 fn net_put(side: CutSide, order: &Order, span: (u32, u32)) -> i64
@@ -39,13 +33,14 @@ fn net_put(side: CutSide, order: &Order, span: (u32, u32)) -> i64
 }
 
 /// What an order of the set puts in at least, or at most; and 0 of any other.
-fn order_put(side: CutSide, zones: &[u32], order: &Order, state: &State) -> i64
-    requires { IsValidOrder MOST_ZONES MOST_GATES order.now }
-    ensures value { result ≡ put_of side (span_in state.now) zones.now order.now }
+fn order_put(side: CutSide, set: &ZoneSet, order: &Order, state: &State) -> i64
+    requires set { IsZoneSet set.now }
+    requires order { IsValidOrder MOST_ZONES MOST_GATES order.now }
+    ensures value { result ≡ put_of side (span_in state.now) set.now.zones.now order.now }
     ensures low { neg_ℤ (pos MOST_MW) ≤ℤ result }
     ensures high { result ≤ℤ pos MOST_MW }
 {
-    if is_in(zones, order.zone) {
+    if set.has(order.zone) {
         net_put(side, order, state.span(order))
     } else {
         0
@@ -53,52 +48,52 @@ fn order_put(side: CutSide, zones: &[u32], order: &Order, state: &State) -> i64
 }
 
 /// The most that a border carries out of the set, or into it.
-fn border_carries(side: CutSide, zones: &[u32], border: &Border, state: &State) -> i64
-    requires { IsValidBorder MOST_ZONES border.now }
-    ensures value { result ≡ carried_by side (flow_in state.now) zones.now border.now }
+fn border_carries(side: CutSide, set: &ZoneSet, border: &Border, state: &State) -> i64
+    requires set { IsZoneSet set.now }
+    requires border { IsValidBorder MOST_ZONES border.now }
+    ensures value { result ≡ carried_by side (flow_in state.now) set.now.zones.now border.now }
     ensures low { neg_ℤ (pos MOST_FLOW) ≤ℤ result }
     ensures high { result ≤ℤ pos MOST_FLOW }
 {
+    let is_first_inside = set.has(border.from);
+    if is_first_inside == set.has(border.to) {
+        return 0;
+    }
     let (limit, back) = state.flows(border);
-    match (is_in(zones, border.from), is_in(zones, border.to)) {
-        (true, false) => match side {
-            CutSide::Out => limit,
-            CutSide::In => back,
-        },
-        (false, true) => match side {
-            CutSide::Out => back,
-            CutSide::In => limit,
-        },
-        (true, true) | (false, false) => 0,
+    match (side, is_first_inside) {
+        (CutSide::Out, true) | (CutSide::In, false) => limit,
+        (CutSide::Out, false) | (CutSide::In, true) => back,
     }
 }
 
 /// What the orders of the set put in at least, or at most.
-fn orders_put(side: CutSide, zones: &[u32], orders: &[Order], state: &State) -> i64
+fn orders_put(side: CutSide, set: &ZoneSet, orders: &[Order], state: &State) -> i64
+    requires set { IsZoneSet set.now }
     requires few { length orders.now ≤ MOST_ORDERS }
     requires orders { All (IsValidOrder MOST_ZONES MOST_GATES) orders.now }
-    ensures value { result ≡ int_sum (put_of side (span_in state.now) zones.now) orders.now }
+    ensures value { result ≡ int_sum (put_of side (span_in state.now) set.now.zones.now) orders.now }
     ensures low { neg_ℤ (pos (MOST_ORDERS * MOST_MW)) ≤ℤ result }
     ensures high { result ≤ℤ pos (MOST_ORDERS * MOST_MW) }
 {
     let mut total = 0;
     for order in orders {
-        total += order_put(side, zones, order, state);
+        total += order_put(side, set, order, state);
     }
     total
 }
 
 /// The most that the borders carry out of the set, or into it.
-fn borders_carry(side: CutSide, zones: &[u32], borders: &[Border], state: &State) -> i64
+fn borders_carry(side: CutSide, set: &ZoneSet, borders: &[Border], state: &State) -> i64
+    requires set { IsZoneSet set.now }
     requires few { length borders.now ≤ MOST_BORDERS }
     requires borders { All (IsValidBorder MOST_ZONES) borders.now }
-    ensures value { result ≡ int_sum (carried_by side (flow_in state.now) zones.now) borders.now }
+    ensures value { result ≡ int_sum (carried_by side (flow_in state.now) set.now.zones.now) borders.now }
     ensures low { neg_ℤ (pos (MOST_BORDERS * MOST_FLOW)) ≤ℤ result }
     ensures high { result ≤ℤ pos (MOST_BORDERS * MOST_FLOW) }
 {
     let mut total = 0;
     for border in borders {
-        total += border_carries(side, zones, border, state);
+        total += border_carries(side, set, border, state);
     }
     total
 }
@@ -121,18 +116,19 @@ fn put_by(
     survey: Option<&Survey>,
     state: &State,
     side: CutSide,
-    zones: &[u32],
+    set: &ZoneSet,
 ) -> i64
     requires market { IsValid market.now }
     requires survey { IfSome survey (λ s. IsSurveyOf market.now s.now) }
-    ensures { result ≡ int_sum (put_of side (span_in state.now) zones.now) market.now.orders }
+    requires set { IsZoneSet set.now }
+    ensures { result ≡ int_sum (put_of side (span_in state.now) set.now.zones.now) market.now.orders }
 {
     if let Some(survey) = survey
         && let Some(ladders) = &survey.ladders
     {
-        return surveyed_put(market, survey.gated.as_slice(), ladders, state, side, zones);
+        return surveyed_put(market, survey.gated.as_slice(), ladders, state, side, set);
     }
-    orders_put(side, zones, market.orders.as_slice(), state)
+    orders_put(side, set, market.orders.as_slice(), state)
 }
 
 /// What all orders of the set put in at least, or at most, by the orders of gates and the ladders of the others.
@@ -142,14 +138,15 @@ fn surveyed_put(
     ladders: &Ladders,
     state: &State,
     side: CutSide,
-    zones: &[u32],
+    set: &ZoneSet,
 ) -> i64
     requires market { IsValid market.now }
+    requires set { IsZoneSet set.now }
     requires gated { gated.now ≡ filter has_gate market.now.orders }
     requires ladders { AreLaddersOf market.now ladders.now }
-    ensures { result ≡ int_sum (put_of side (span_in state.now) zones.now) market.now.orders }
+    ensures { result ≡ int_sum (put_of side (span_in state.now) set.now.zones.now) market.now.orders }
 {
-    ladders.put(market, state, side, zones) + orders_put(side, zones, gated, state)
+    ladders.put(market, state, side, set) + orders_put(side, set, gated, state)
 }
 
 /// Whether the set has more than can leave it, or lacks more than can enter it.
@@ -164,8 +161,9 @@ fn cannot_balance(
     requires survey { IfSome survey (λ s. IsSurveyOf market.now s.now) }
     ensures { IsTrue result ↔ CannotBalanceWithin (span_in state.now) (flow_in state.now) market.now side zones.now }
 {
-    let put = put_by(market, survey, state, side, zones);
-    let carried = borders_carry(side, zones, market.borders.as_slice(), state);
+    let set = ZoneSet::of(zones);
+    let put = put_by(market, survey, state, side, &set);
+    let carried = borders_carry(side, &set, market.borders.as_slice(), state);
     exceeds(side, put, carried)
 }
 

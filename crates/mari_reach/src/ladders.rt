@@ -9,13 +9,14 @@ ghost use Rattle.mari_proofs.specs.Tables.{level_of};
 ghost use Rattle.mari_market.specs.Rising.{RisesBy};
 ghost use Rattle.mari_market.specs.Sums.{int_at, int_sum};
 ghost use Rattle.mari_reach.specs.Ladders.{gain_at, gain_by, mw_in, offer_of, place_of, rung_of, up_to, AreOffersOf, AreSmall, AreSumsBefore, AreSumsOf, AreSumsUpTo, IsLadder, IsLadderOf, IsOffer};
+ghost use Rattle.mari_reach.specs.Tables.{IsZoneSet};
 ghost use Rattle.mari_reach.specs.Values.{cut_level, put_by};
 ghost use Rattle.mari_reach.specs.declared.ladders.Offer.{Offer as OfferRecord};
 
-use crate::cuts::is_in;
 use crate::levels::{Levels, cut_level};
 use crate::prices::PriceBox;
 use crate::worth::{amount, potential_at};
+use crate::zones::ZoneSet;
 use mari_market::{CutSide, MOST_ORDERS, MOST_WORTH, Market, Order, Side};
 use mari_units::{CAP, Cents, MOST_MW, MOST_ZONES, Memory};
 use std::alloc::Global;
@@ -311,15 +312,16 @@ impl Ladder {
     }
 
     /// What a cut counts of the offers of a zone, if it is one of the set.
-    fn put_at(&self, cut: CutSide, side: Side, prices: &PriceBox, zones: &[u32], zone: u32) -> i64
+    fn put_at(&self, cut: CutSide, side: Side, prices: &PriceBox, set: &ZoneSet, zone: u32) -> i64
         requires ladder { IsLadder self.now }
+        requires set { IsZoneSet set.now }
         requires zone { zone < length self.now.starts.items }
-        ensures value { result ≡ int_sum (up_to (mw_in zones.now zone) zone
+        ensures value { result ≡ int_sum (up_to (mw_in set.now.zones.now zone) zone
             (rung_of side (cut_level cut side (int_at prices.now.low zone) (int_at prices.now.high zone)))) self.now.offers.items }
         ensures least { pos 0 ≤ℤ result }
         ensures most { result ≤ℤ pos (MOST_MW * MOST_ORDERS) }
     {
-        if !is_in(zones, zone) {
+        if !set.has(zone) {
             return 0;
         }
         let low = prices.low[zone as usize];
@@ -329,15 +331,16 @@ impl Ladder {
     }
 
     /// What a cut counts of the offers of a side.
-    pub(crate) fn put(&self, cut: CutSide, side: Side, prices: &PriceBox, zones: &[u32]) -> i64
+    pub(crate) fn put(&self, cut: CutSide, side: Side, prices: &PriceBox, set: &ZoneSet) -> i64
         requires ladder { IsLadder self.now }
-        ensures value { result ≡ int_sum (put_by cut side prices.now zones.now) self.now.offers.items }
+        requires set { IsZoneSet set.now }
+        ensures value { result ≡ int_sum (put_by cut side prices.now set.now.zones.now) self.now.offers.items }
         ensures least { pos 0 ≤ℤ result }
         ensures most { result ≤ℤ pos (MOST_MW * MOST_ORDERS * MOST_ZONES) }
     {
         let mut total = 0;
         for zone in 0..self.starts.len() as u32 {
-            total += self.put_at(cut, side, prices, zones, zone);
+            total += self.put_at(cut, side, prices, set, zone);
         }
         total
     }

@@ -22,6 +22,7 @@ mod survey;
 mod trees;
 mod walk;
 mod worth;
+mod zones;
 
 pub use decisions::{Choice, Decision, ReachItem, ReachLeaf, are_decisions};
 pub use dual::MOST_VALUE;

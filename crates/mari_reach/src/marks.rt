@@ -1,6 +1,6 @@
 //! Marks of gates.
 
-ghost use Rattle.std.specs.Prelude.{◌≡◌, ◌==◌, ◌&&◌, ◌||◌, ◌<◌, ◌≤◌, ℕ, false, length, true};
+ghost use Rattle.std.specs.Prelude.{◌≡◌, ◌==◌, ◌&&◌, ◌||◌, ◌<◌, ◌≤◌, ℕ, IfSome, false, length, true};
 ghost use Rattle.std.specs.List.{list_any};
 ghost use Rattle.mari_market.specs.Gates.{ParentsEarlier};
 ghost use Rattle.mari_market.specs.Prefix.{opens_in};
@@ -68,6 +68,14 @@ impl Marks {
         }
     }
 
+    /// Whether a gate that there may be is marked.
+    pub(crate) fn at(&self, gate: u32) -> bool
+        requires { gate < MOST_GATES }
+        ensures { result ≡ opens_in self.now gate }
+    {
+        self.marks[gate as usize]
+    }
+
     /// Whether a gate is marked. One beyond those that there may be isn't.
     pub fn has(&self, gate: u32) -> bool
         ensures { result ≡ opens_in self.now gate }
@@ -77,11 +85,12 @@ impl Marks {
 
     /// Whether there is a gate and it is marked.
     pub(crate) fn has_some(&self, gate: Option<u32>) -> bool
+        requires { IfSome gate (λ g. g < MOST_GATES) }
         ensures { result ≡ is_opened (opens_in self.now) gate }
     {
         match gate {
             None => false,
-            Some(gate) => self.has(gate),
+            Some(gate) => self.at(gate),
         }
     }
 

@@ -2,7 +2,7 @@
 
 ghost use Rattle.std.specs.Prelude.{◌≡◌, ◌==◌, ◌<◌, ℕ, ℤ, pos, neg_ℤ, ◌+ℤ◌, ◌≤ℤ◌, if◌then◌else◌, All};
 ghost use Rattle.std.specs.Int.{int_max, int_min};
-ghost use Rattle.mari_market.specs.Market.{IsValid};
+ghost use Rattle.mari_market.specs.Market.{IsValid, IsValidOrder};
 ghost use Rattle.mari_market.specs.Prefix.{opens_in};
 ghost use Rattle.mari_market.specs.Price.{IsPrice};
 ghost use Rattle.mari_market.specs.Sums.{int_at};
@@ -12,7 +12,7 @@ ghost use Rattle.mari_reach.specs.Tables.{gains_in, is_dearer_in, loses_in};
 use crate::decisions::Decision;
 use crate::marks::Marks;
 use mari_market::{Market, Order, Side};
-use mari_units::{CAP, Cents, MOST_ZONES};
+use mari_units::{CAP, Cents, MOST_GATES, MOST_ZONES};
 
 /// The least and the greatest price of each zone, in cents per MWh.
 #[derive(Drop)]
@@ -53,7 +53,7 @@ impl PriceBox {
 
     /// Leaves out the prices at which an order of an open gate would lose.
     fn narrow(&mut self, opened: &Marks, order: &Order)
-        requires zone { order.now.zone < MOST_ZONES }
+        requires order { IsValidOrder MOST_ZONES MOST_GATES order.now }
         requires low_kept { (z : ℕ) → neg_ℤ CAP ≤ℤ int_at self.old.low z }
         requires high_kept { (z : ℕ) → int_at self.old.high z ≤ℤ CAP }
         ensures low { (z : ℕ) → int_at self.new.low z ≡ int_max (int_at self.old.low z) (floor_at (opens_in opened.now) z order.now) }
@@ -132,7 +132,7 @@ impl PriceBox {
     )
         requires market { IsValid market.now }
         requires decisions { AreDecisions market.now decisions.now }
-        requires orders { All (λ o. o.zone < MOST_ZONES) orders.now }
+        requires orders { All (IsValidOrder MOST_ZONES MOST_GATES) orders.now }
         ensures low { (z : ℕ) → z < MOST_ZONES → int_at self.new.low z ≡ low_by (opens_in opened.now) decisions.now orders.now z }
         ensures high { (z : ℕ) → z < MOST_ZONES → int_at self.new.high z ≡ high_by (opens_in opened.now) decisions.now orders.now z }
     {

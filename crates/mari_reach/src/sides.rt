@@ -8,12 +8,13 @@ ghost use Rattle.mari_market.specs.Price.{IsCapped};
 ghost use Rattle.mari_market.specs.Sums.{int_sum};
 ghost use Rattle.mari_proofs.specs.NetInjections.{put_of};
 ghost use Rattle.mari_reach.specs.declared.states.State.{State as StateRecord};
-ghost use Rattle.mari_reach.specs.Tables.{is_plain, span_in, AreLaddersOf};
+ghost use Rattle.mari_reach.specs.Tables.{is_plain, span_in, AreLaddersOf, IsZoneSet};
 ghost use Rattle.mari_reach.specs.Values.{HasLevels};
 
 use crate::ladders::Ladder;
 use crate::levels::Levels;
 use crate::states::State;
+use crate::zones::ZoneSet;
 use mari_market::{CutSide, MOST_ORDERS, MOST_WORTH, Market, Side};
 use mari_units::{Cents, MOST_MW, MOST_ZONES, Memory};
 use std::alloc::Global;
@@ -57,16 +58,17 @@ impl Ladders {
     }
 
     /// What a cut of zones counts of plain orders.
-    pub(crate) fn put(&self, market: &Market, state: &State, cut: CutSide, zones: &[u32]) -> i64
+    pub(crate) fn put(&self, market: &Market, state: &State, cut: CutSide, set: &ZoneSet) -> i64
         requires market { IsValid market.now }
         requires ladders { AreLaddersOf market.now self.now }
-        ensures value { result ≡ int_sum (put_of cut (span_in state.now) zones.now) (filter is_plain market.now.orders) }
+        requires set { IsZoneSet set.now }
+        ensures value { result ≡ int_sum (put_of cut (span_in state.now) set.now.zones.now) (filter is_plain market.now.orders) }
         ensures low { neg_ℤ (pos (MOST_MW * MOST_ORDERS * MOST_ZONES)) ≤ℤ result }
         ensures high { result ≤ℤ pos (MOST_MW * MOST_ORDERS * MOST_ZONES) }
     {
-        self.injecting.put(cut, Side::Inject, &state.prices, zones)
+        self.injecting.put(cut, Side::Inject, &state.prices, set)
             - self
                 .withdrawing
-                .put(cut, Side::Withdraw, &state.prices, zones)
+                .put(cut, Side::Withdraw, &state.prices, set)
     }
 }

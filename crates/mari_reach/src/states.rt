@@ -17,7 +17,7 @@ use crate::marks::Marks;
 use crate::prices::PriceBox;
 use crate::ranks::Twins;
 use mari_market::{Border, Market, Order};
-use mari_units::{Cents, MOST_FLOW, MOST_ZONES};
+use mari_units::{Cents, MOST_FLOW, MOST_GATES, MOST_ZONES};
 
 /// What decisions leave to gates, prices, orders and borders.
 #[derive(Drop)]
@@ -138,10 +138,11 @@ impl State {
 
     /// Whether some of the first gates is both open and closed.
     fn is_torn(&self, gates: u32) -> bool
+        requires { gates ≤ MOST_GATES }
         ensures { result ≡ list_any (is_torn self.now) (range_with_len 0 gates) }
     {
         for gate in 0..gates {
-            if self.opened.has(gate) && self.shut.has(gate) {
+            if self.opened.at(gate) && self.shut.at(gate) {
                 return true;
             }
         }

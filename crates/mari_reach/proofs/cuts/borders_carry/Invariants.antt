@@ -7,7 +7,7 @@ use Rattle.mari_reach.proofs.cuts.borders_carry.Given as goal
 
 abbrev pub invariant-loop-border : goal.invariant-loop-border
 invariant-loop-border l = record {
-  sum : l.total ≡ int_sum (carried_by l.side (flow_in l.state) l.zones) (take l.border-index l.borders);
+  sum : l.total ≡ int_sum (carried_by l.side (flow_in l.state) l.set.zones.now) (take l.border-index l.borders);
   low : neg_ℤ (pos (MOST_FLOW * l.border-index)) ≤ℤ l.total;
   high : l.total ≤ℤ pos (MOST_FLOW * l.border-index);
 }

@@ -24,5 +24,5 @@ returns c =
     let m = c.args.market.now in
     let new : to_z w64 (of_z w64 (to_z w64 (of_z w64 c.put.result) +ℤ to_z w64 (of_z w64 c.orders_put.result))) ≡ c.put.result +ℤ c.orders_put.result =
     omega (arith, ints, c.put.ensures.low, c.put.ensures.high, c.orders_put.ensures.low, c.orders_put.ensures.high) in
-    new ∙ split_sum (put_of c.args.side (span_in c.args.state.now) c.args.zones.now) m.orders (filter is_plain m.orders) c.args.gated.now c.put.result c.orders_put.result
+    new ∙ split_sum (put_of c.args.side (span_in c.args.state.now) c.args.set.now.zones.now) m.orders (filter is_plain m.orders) c.args.gated.now c.put.result c.orders_put.result
     refl c.requires.gated c.put.ensures.value c.orders_put.ensures.value

@@ -9,7 +9,7 @@ use Rattle.mari_reach.proofs.ladders.Ladder.put.Given as goal
 
 abbrev pub invariant-loop-zone : goal.invariant-loop-zone
 invariant-loop-zone l = record {
-  sum : l.total ≡ sum_below (λ (z : ℕ). int_sum (up_to (mw_in l.zones z) z (rung_of l.side (cut_level l.cut l.side (int_at l.prices.low z) (int_at l.prices.high z)))) l.self.offers.items) l.zone;
+  sum : l.total ≡ sum_below (λ (z : ℕ). int_sum (up_to (mw_in l.set.zones.now z) z (rung_of l.side (cut_level l.cut l.side (int_at l.prices.low z) (int_at l.prices.high z)))) l.self.offers.items) l.zone;
   least : pos 0 ≤ℤ l.total;
   most : l.total ≤ℤ pos (MOST_MW * MOST_ORDERS * l.zone);
 }

@@ -9,7 +9,7 @@ pub returns-clause-value : goal.returns-clause-value
 returns-clause-value c =
     let m = c.args.market.now in
     let r = c.args.state.now in
-    let set = c.args.zones.now in
+    let set = c.args.set.now.zones.now in
     let cut = c.args.cut in
     let new : to_z w64 (of_z w64 (to_z w64 (of_z w64 c.put.result) -ℤ to_z w64 (of_z w64 c.put-2.result))) ≡ c.put.result -ℤ c.put-2.result =
     omega (arith, ints, c.put.ensures.least, c.put.ensures.most, c.put-2.ensures.least, c.put-2.ensures.most) in

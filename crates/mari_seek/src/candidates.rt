@@ -265,6 +265,16 @@ impl Search {
         Ok(())
     }
 
+    /// Adds the first of the asked prices at which a branch may stand.
+    fn add_asked(&self, visit: &Visit, found: &mut Found) -> Result<(), AllocError> {
+        for asked in &self.asked {
+            if visit.view.is_between(asked.zone, asked.cents) {
+                return found.add_price(0, asked.zone, asked.cents);
+            }
+        }
+        Ok(())
+    }
+
     /// Adds the free gates that run beside others of their groups, the one first that gains most.
     fn add_rivals(
         &self,
@@ -361,6 +371,9 @@ impl Search {
         }
         if found.list.is_empty() {
             found.add_outside(market, visit)?;
+        }
+        if found.list.is_empty() {
+            self.add_asked(visit, &mut found)?;
         }
         if found.list.is_empty() {
             self.add_unruly(market, visit, &mut found)?;

@@ -13,6 +13,7 @@ mod nearby;
 mod nodes;
 mod places;
 mod pricing;
+mod repeated;
 mod rounding;
 mod rungs;
 mod search;

@@ -89,7 +89,7 @@ impl Search {
         requires { IsValid market.now }
     {
         let decisions = self.gates_beyond(alloc, market, zones)?;
-        let mut part = self.part(alloc, market, decisions)?;
+        let mut part = self.part(alloc, market, decisions, Vec::new(alloc))?;
         part.run(alloc, market, budget)?;
         self.offer(part.best, part.word);
         Ok(u32::try_from(part.nodes.len()).unwrap_or(budget))

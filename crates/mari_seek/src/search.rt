@@ -6,6 +6,7 @@ use crate::gains::{needed_word, open_running};
 use crate::lists::number_of;
 use crate::nodes::{Kind, Node, Turn};
 use crate::places::Places;
+use crate::repeated::Price;
 use crate::solver::{Optimum, Solved, solve, solve_root};
 use crate::spans::Spans;
 use crate::view::{Child, View, decided, view_of};
@@ -46,6 +47,8 @@ pub(crate) struct Search {
     waiting: BinaryHeap<Turn>,
     /// What is decided at the first node.
     decided: Vec<Decision>,
+    /// Prices that are decided before any other, where no chain is under way.
+    pub(crate) asked: Vec<Price>,
     /// How many nodes were visited.
     turn: u32,
     /// Whether the solver gave up somewhere.
@@ -115,6 +118,7 @@ impl Search {
             word,
             waiting: BinaryHeap::new(alloc),
             decided: Vec::new(alloc),
+            asked: Vec::new(alloc),
             turn: 0,
             stuck: false,
         };
@@ -122,12 +126,13 @@ impl Search {
         Ok(Some(search))
     }
 
-    /// A search below these decisions, from the best activation of this one.
+    /// A search below these decisions that decides these prices first, from the best activation of this one.
     pub(crate) fn part(
         &self,
         alloc: Global,
         market: &Market,
         decided: Vec<Decision>,
+        asked: Vec<Price>,
     ) -> Result<Search, AllocError>
         requires { IsValid market.now }
     {
@@ -142,6 +147,7 @@ impl Search {
             word: self.word,
             waiting: BinaryHeap::new(alloc),
             decided,
+            asked,
             turn: 0,
             stuck: false,
         };

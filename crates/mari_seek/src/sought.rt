@@ -46,32 +46,45 @@ fn nothing(alloc: Global, market: &Market) -> Sought
     }
 }
 
-/// After so many nodes the search goes on near the best activation, where a bound is far above it.
+/// So many nodes are visited first.
 const NODES_ALONE: u32 = 1024;
 
-/// Visits nodes within a budget, and in between searches near the best activation.
-fn run(alloc: Global, market: &Market, search: &mut Search, budget: u32) -> Result<Stop, Memory>
+/// Visits nodes within a budget. Where many are needed it searches near the best activation in between, and begins anew
+/// with prices that it decided again and again.
+fn run(
+    alloc: Global,
+    market: &Market,
+    mut search: Search,
+    budget: u32,
+) -> Result<(Search, Stop), Memory>
     requires { IsValid market.now }
 {
     if budget > NODES_ALONE {
         if let Stop::Done = search.run(alloc, market, NODES_ALONE)? {
-            return Ok(Stop::Done);
+            return Ok((search, Stop::Done));
         }
         if search.is_far(search.top()) {
             search.search_nearby(alloc, market, budget)?;
         }
+        let (again, stop) = search.with_repeated(alloc, market)?;
+        if let Stop::Done = stop {
+            return Ok((again, stop));
+        }
+        search = again;
     }
-    Ok(search.run(alloc, market, budget)?)
+    let stop = search.run(alloc, market, budget)?;
+    Ok((search, stop))
 }
 
 /// Searches a market within a budget of nodes, for the first activation or for one that is as good as may be.
 pub fn seek(alloc: Global, market: &Market, budget: u32) -> Result<Sought, Memory>
     requires { IsValid market.now }
 {
-    let Some(mut search) = Search::start(alloc, market)? else {
+    let Some(search) = Search::start(alloc, market)? else {
         return Ok(nothing(alloc, market));
     };
-    let (end, cutoff) = match run(alloc, market, &mut search, budget)? {
+    let (search, stop) = run(alloc, market, search, budget)?;
+    let (end, cutoff) = match stop {
         Stop::Done => (SearchEnd::Whole, Cutoff::Best),
         Stop::Left => {
             let top = search.top();

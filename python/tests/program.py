@@ -3,8 +3,6 @@
 import contextlib
 import io
 import os
-import sys
-import tempfile
 import unittest
 from pathlib import Path
 
@@ -24,22 +22,8 @@ except MariNoProgram as error:
 
 needs_program = unittest.skipIf(PROGRAM is None, "no program to run")
 
-STAND_IN = tempfile.TemporaryDirectory(prefix="mari-reach-")
-
-
-def with_check(program):
-    """The program reach; where it has no `check`, a script that checks by examples/checker and else calls it."""
-    if b" check " in program.run().stdout:
-        return program
-    script = Path(STAND_IN.name, "reach")
-    check = f'[ "$1" = check ] && exec "{sys.executable}" "{CHECKER / "check.py"}" "$2"'
-    script.write_text(f'#!/bin/sh\n{check}\nexec "{program.path}" "$@"\n')
-    script.chmod(0o755)
-    return Reach(script)
-
-
 try:
-    REACH = with_check(Reach())
+    REACH = Reach()
     os.environ["REACH"] = str(REACH.path)
 except MariNoProgram as error:
     if os.environ.get("REACH"):

@@ -69,18 +69,6 @@ class Days:
             self.pages[name, reach], _, _ = self.page(self.day(name, reach))
         return self.pages[name, reach]
 
-    def reach(self):
-        """The path of reach; where it has no command `check`, of a script that checks by examples/checker."""
-        if b" check " in subprocess.run([REACH], stdout=subprocess.PIPE, check=False).stdout:
-            return REACH
-        path = os.path.join(self.empty(), "reach")
-        checker = os.path.join(TOP, "examples", "checker", "check.py")
-        with open(path, "w", encoding="utf-8") as script:
-            script.write(f'#!/bin/sh\n[ "$1" = check ] && exec "{sys.executable}" "{checker}" "$2"\n'
-                         f'exec "{REACH}" "$@"\n')
-        os.chmod(path, 0o755)
-        return path
-
     def page(self, folder):
         """(path of the page, exit code, what was said) of `show`."""
         path = os.path.join(folder, "day.html")

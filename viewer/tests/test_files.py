@@ -7,7 +7,7 @@ import subprocess
 import unittest
 from unittest import mock
 
-from days import PROGRAM, TOP, Days, change, script
+from days import PROGRAM, REACH, TOP, Days, change, script
 
 from making.day_parts import DayParts
 from making.page import D3, Page, json_text
@@ -163,7 +163,7 @@ class View(FileTest):
     """`./view` of either form."""
 
     def view(self, *words):
-        environment = {**os.environ, "MARI": PROGRAM, "REACH": self.days.reach()}
+        environment = {**os.environ, "MARI": PROGRAM, "REACH": REACH}
         done = subprocess.run([os.path.join(TOP, "view"), *words], env=environment, capture_output=True, check=False)
         return done.returncode, done.stdout.decode().strip(), done.stderr.decode().strip()
 

@@ -10,8 +10,8 @@ nodes a run, and prints a table in Markdown: runs published by `clear` and by `s
 activation, and the gaps of the others, as a part of their welfare; times of `clear` and of `reach` by the clock. With
 --solvers, as highs, cuts and cbc, it makes a run for each seed instead, and the table has for `reach`, `clear` and each solver
 (bench/milp.py) the runs that it ends within the seconds, 15 without the option, the processor seconds of these, and on how
-many of them `reach` takes less; one thread each. A welfare that differs from that of a run of which `reach` shows the first
-activation stops it. The second form makes one folder.
+many of them `reach` takes less; one thread each. Where `reach` shows the first activation a solver that ends with less welfare
+doesn't count as ended (cbc has tolerances), and one with more stops it. The second form makes one folder.
 
 Zones and borders are the public ones of the bidding zone map. Bids, demands and limits are drawn: 20 to 150 bids a zone and
 quarter hour of 1 to 100 MW, prices about a level for each zone with a long tail, blocks, groups, parents with children;
@@ -187,13 +187,16 @@ def firsts(text):
 
 
 def solved(solver, folder, seconds, known):
-    """The processor seconds in which a solver ends the only run of a folder, or nothing where it doesn't."""
+    """The processor seconds in which a solver ends the only run of a folder, or nothing where it doesn't, or ends below the optimum."""
     words = [PYTHON, TOP / "bench/milp.py", solver, folder, "--seconds", str(seconds), "--times"]
     text = subprocess.run(words, stdout=subprocess.PIPE, check=True).stdout.decode()
     found = re.search(r"^run 1 welfare (\d+) seconds ([\d.]+)$", text, re.M)
-    if found and known.get("1", found[1]) != found[1]:
-        raise SystemExit(f"real: {solver} has {found[1]} of {folder}, and the first activation {known['1']}")
-    return float(found[2]) if found else None
+    if not found:
+        return None
+    own, first = int(found[1]), int(known.get("1", found[1]))
+    if own > first:
+        raise SystemExit(f"real: {solver} has {own} of {folder}, and the first activation {first}")
+    return float(found[2]) if own == first else None
 
 
 def cleared(program, folder, seconds, *options):
